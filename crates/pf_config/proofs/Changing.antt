@@ -1,4 +1,4 @@
--- A table is changed in its place, below an anchor and in a configuration.
+-- The rules and tables of a path are changed in place, below an anchor and in a configuration.
 use Rattle.std.proofs.Common.{◌≡◌, ℕ, zero, suc, ◌+◌, ◌<◌, ◌≤◌, Bool, true, false, ◌&&◌, cond, List, [], ◌∷◌, ◌++◌, Option, Some, None, Ok, Err, length, length-append, take, drop, get_or, refl, sym, subst, ap, ◌∙◌, arith}
 use Rattle.std.specs.declared.rc.Rc.{Rc}
 use Rattle.std.specs.Prelude.{if◌then◌else◌, find, nat_lt, not, unwrap_or, is_some, Result, MatchResult}
@@ -13,12 +13,12 @@ use Rattle.pf_tables.specs.Tables.{TableValue}
 use Rattle.pf_tables.specs.Contents.{put_entry, unlisted, with_entries, without_entries}
 use Rattle.pf_tables.proofs.OneEdit.{few_put}
 use Rattle.pf_config.specs.declared.fault.ConfigFault.TheVariants.{AnchorsFull, ConstTable, TableFull}
-use Rattle.pf_config.specs.Map.{Configuration, AnchorValue, Path, anchor_at, rules_in, tables_in, tables_at, table_at, named}
-use Rattle.pf_config.specs.Changes.{is_empty, with_table, with_contents, tables_before, tables_behind, set_table, set_filled, fill, drain, new_table, add, delete}
+use Rattle.pf_config.specs.Map.{Configuration, AnchorValue, Path, anchor_at, rules_in, tables_in, rules_at, tables_at, table_at, named}
+use Rattle.pf_config.specs.Changes.{is_empty, with_anchor, with_tables, with_table, with_contents, set_table, set_filled, fill, drain, new_table, add, delete}
 use Rattle.pf_config.specs.Trees.{AnchorTree, shared, below, own_entry, AreKids, and_then, tree_at}
 use Rattle.pf_config.specs.inner.Trees.{is_named, kids_before, kids_behind, anchors_of, placed_in}
 use Rattle.pf_config.specs.inner.KidOrder.{AreInOrder}
-use Rattle.pf_config.specs.inner.TableChanges.{edited_in, Takes, ChangesIf, own_of, TakesBelow, TreeChangesIf, KidChangesIf, commanded, GivesIf}
+use Rattle.pf_config.specs.inner.TableChanges.{edited_in, Takes, Changing, OwnChangesIf, own_of, TreeChangesIf, KidChangesIf, MapChanges, MapChangesIf, commanded, GivesIf}
 use Rattle.pf_config.proofs.Treed.{child_is, own_rules, own_tables}
 use Rattle.pf_config.proofs.Entries.{own_placed, main_placed}
 use Rattle.pf_config.proofs.KidHalves.{kids_in_order}
@@ -41,44 +41,36 @@ one_long p rules tables h = rw h refl
 abbrev pub tree_with : Path → List AnchorValue → AnchorTree
 tree_with q es = record { names = q; anchors = es }
 
--- the anchor once its own tables are changed
-own_changes_if : (edit : Edit) (entry : TableEntry) (name : Name) (done : Bool) (p : Path) (rules : List AnyRule) (tables next : List (Name × TableValue)) (ks : List AnchorTree) → AreKids p ks → (is_empty rules && is_empty tables) ≡ false → ChangesIf done (edited_in edit entry (named name tables)) name tables next →
-    TreeChangesIf done edit entry name [] (record { names = p; anchors = own_entry p rules tables ++ below ks }) (record { names = p; anchors = own_entry p rules next ++ below ks }) × (length (own_entry p rules next ++ below ks) ≡ length (own_entry p rules tables ++ below ks))
-own_changes_if edit entry name false p rules tables next ks h n c = (ap (λ (ts : List (Name × TableValue)). tree_with p (own_entry p rules ts ++ below ks)) c, ap (λ ts. length (own_entry p rules ts ++ below ks)) c)
-own_changes_if edit entry name true p rules tables next ks h n c = go (edited_in edit entry (named name tables)) refl
-  where
-    t : AnchorTree
-    t = record { names = p; anchors = own_entry p rules tables ++ below ks }
-
-    own : Option AnchorValue
-    own = anchor_at p (own_entry p rules tables ++ below ks)
-
-    its : tables_in own ≡ tables
-    its = own_tables p rules tables ks h
-
-    go : (o : Option TableValue) → edited_in edit entry (named name tables) ≡ o → TreeChangesIf true edit entry name [] t (record { names = p; anchors = own_entry p rules next ++ below ks }) × (length (own_entry p rules next ++ below ks) ≡ length (own_entry p rules tables ++ below ks))
-    go None e = (let bad : true ≡ false = subst (λ o. Takes o name tables next) e c in cc)
-    go (Some v) e =
-        let is : next ≡ with_table tables name v = subst (λ o. Takes o name tables next) e c in
-        let found : edited_in edit entry (named name (tables_in own)) ≡ Some v = ap (λ ts. edited_in edit entry (named name ts)) its ∙ e in
-        let put = own_placed p p rules rules tables next ks ks h refl refl in
-        let some : is_empty next ≡ false = ap is_empty is ∙ some_empty (tables_before name tables) (name, v) (tables_behind name tables) in
-        let long = one_long p rules next (and_false (is_empty rules) (is_empty next) some) in
-        let was = one_long p rules tables n in
-        let a = length-append (own_entry p rules next) (below ks) in
-        let b = length-append (own_entry p rules tables) (below ks) in (
-          subst (λ o. TakesBelow o own name [] t (record { names = p; anchors = own_entry p rules next ++ below ks })) (sym found)
-              (put ∙ ap (λ (rs : List AnyRule). placed_in t [] rs next) (sym (own_rules p rules tables ks h)) ∙ ap (λ (ts : List (Name × TableValue)). placed_in t [] (rules_in own) ts) (is ∙ ap (λ ts. with_table ts name v) (sym its))),
-          omega (arith, long, was, a, b),
-        )
+-- the anchor once its own rules and tables are changed
+own_changes_if : (by : Changing) (done : Bool) (p : Path) (rules rules' : List AnyRule) (tables tables' : List (Name × TableValue)) (ks : List AnchorTree) → AreKids p ks → (is_empty rules && is_empty tables) ≡ false → OwnChangesIf done by rules tables rules' tables' →
+    TreeChangesIf done by [] (tree_with p (own_entry p rules tables ++ below ks)) (tree_with p (own_entry p rules' tables' ++ below ks)) × (length (own_entry p rules' tables' ++ below ks) ≡ length (own_entry p rules tables ++ below ks))
+own_changes_if by false p rules rules' tables tables' ks h n c = (
+  ap (λ (rs : List AnyRule). tree_with p (own_entry p rs tables' ++ below ks)) c.0 ∙ ap (λ (ts : List (Name × TableValue)). tree_with p (own_entry p rules ts ++ below ks)) c.1,
+  ap (λ rs. length (own_entry p rs tables' ++ below ks)) c.0 ∙ ap (λ ts. length (own_entry p rules ts ++ below ks)) c.1,
+)
+own_changes_if by true p rules rules' tables tables' ks h n c =
+    let long = one_long p rules' tables' c.0 in
+    let was = one_long p rules tables n in
+    let a = length-append (own_entry p rules' tables') (below ks) in
+    let b = length-append (own_entry p rules tables) (below ks) in
+    let made = subst (λ (rs : List AnyRule). by rs tables rules' tables') (sym (own_rules p rules tables ks h)) c.1 in (
+      record {
+        rules = rules';
+        tables = tables';
+        is = own_placed p p rules rules' tables tables' ks ks h refl refl;
+        made = subst (λ (ts : List (Name × TableValue)). by (rules_in (anchor_at p (own_entry p rules tables ++ below ks))) ts rules' tables') (sym (own_tables p rules tables ks h)) made;
+      },
+      omega (arith, long, was, a, b),
+    )
 
 -- the same, whatever the call answers
-pub own_changes : (edit : Edit) (entry : TableEntry) (name : Name) {X : Type 0} (r : Result Bool X) (p rest : Path) (rules : List AnyRule) (tables next : List (Name × TableValue)) (ks : List AnchorTree) → AreKids p ks → (is_empty rules && is_empty tables) ≡ false → MatchResult r (λ done. ChangesIf done (edited_in edit entry (named name tables)) name tables next) (λ x. next ≡ tables) →
-    rest ≡ [] → MatchResult r (λ done. TreeChangesIf done edit entry name rest (tree_with p (own_entry p rules tables ++ below ks)) (tree_with p (own_entry p rules next ++ below ks))) (λ x. tree_with p (own_entry p rules next ++ below ks) ≡ tree_with p (own_entry p rules tables ++ below ks)) × (length (own_entry p rules next ++ below ks) ≡ length (own_entry p rules tables ++ below ks))
-own_changes edit entry name (Ok done) p rest rules tables next ks h n c e =
-    let all = own_changes_if edit entry name done p rules tables next ks h n c in
-    (subst (λ (r : Path). TreeChangesIf done edit entry name r (tree_with p (own_entry p rules tables ++ below ks)) (tree_with p (own_entry p rules next ++ below ks))) (sym e) all.0, all.1)
-own_changes edit entry name (Err x) p rest rules tables next ks h n c e = own_changes_if edit entry name false p rules tables next ks h n c
+pub own_changes : (by : Changing) {X : Type 0} (r : Result Bool X) (p rest : Path) (rules rules' : List AnyRule) (tables tables' : List (Name × TableValue)) (ks : List AnchorTree) → AreKids p ks → (is_empty rules && is_empty tables) ≡ false →
+    MatchResult r (λ done. OwnChangesIf done by rules tables rules' tables') (λ x. (rules' ≡ rules) × (tables' ≡ tables)) → rest ≡ [] →
+    MatchResult r (λ done. TreeChangesIf done by rest (tree_with p (own_entry p rules tables ++ below ks)) (tree_with p (own_entry p rules' tables' ++ below ks))) (λ x. tree_with p (own_entry p rules' tables' ++ below ks) ≡ tree_with p (own_entry p rules tables ++ below ks)) × (length (own_entry p rules' tables' ++ below ks) ≡ length (own_entry p rules tables ++ below ks))
+own_changes by (Ok done) p rest rules rules' tables tables' ks h n c e =
+    let all = own_changes_if by done p rules rules' tables tables' ks h n c in
+    (subst (λ (r : Path). TreeChangesIf done by r (tree_with p (own_entry p rules tables ++ below ks)) (tree_with p (own_entry p rules' tables' ++ below ks))) (sym e) all.0, all.1)
+own_changes by (Err x) p rest rules rules' tables tables' ks h n c e = own_changes_if by false p rules rules' tables tables' ks h n c
 
 -- ---- among the anchors below
 
@@ -111,11 +103,11 @@ kid_kept zero (j ∷ ks) k x n g v = ap (λ (y : AnchorTree). y ∷ shared ks) (
 kid_kept (suc at) (j ∷ ks) k x n g v = ap (λ (r : List AnchorTree). j.value ∷ r) (kid_kept at ks k x (omega (arith, n)) g v)
 
 -- the anchor of a name is changed, or the anchors are as they were, whatever the call answers
-pub kids_changed : {Z X : Type 0} (edit : Edit) (entry : TableEntry) (name n : Name) (rest : Path) (res : Result Bool X) (at : ℕ) (ks : List (Rc AnchorTree Z)) (k x : Rc AnchorTree Z) (kid new : AnchorTree) → AreInOrder (shared ks) → at ≡ length (kids_before n (shared ks)) → at < length ks → k ≡ get_or ks at k → is_some (find (is_named n) (shared ks)) ≡ true → kid ≡ k.value → x.value ≡ new → length new.anchors ≡ length kid.anchors →
-    MatchResult res (λ done. TreeChangesIf done edit entry name rest kid new) (λ y. new ≡ kid) → MatchResult res (λ done. KidChangesIf done edit entry name n rest (shared ks) (shared (set ks at x))) (λ y. shared (set ks at x) ≡ shared ks)
-kids_changed edit entry name n rest (Err y) at ks k x kid new s e w g m o v l c = kid_kept at ks k x w g (v ∙ c ∙ o)
-kids_changed edit entry name n rest (Ok false) at ks k x kid new s e w g m o v l c = kid_kept at ks k x w g (v ∙ c ∙ o)
-kids_changed edit entry name n rest (Ok true) at ks k x kid new s e w g m o v l c =
+pub kids_changed : {Z X : Type 0} (by : Changing) (n : Name) (rest : Path) (res : Result Bool X) (at : ℕ) (ks : List (Rc AnchorTree Z)) (k x : Rc AnchorTree Z) (kid new : AnchorTree) → AreInOrder (shared ks) → at ≡ length (kids_before n (shared ks)) → at < length ks → k ≡ get_or ks at k → is_some (find (is_named n) (shared ks)) ≡ true → kid ≡ k.value → x.value ≡ new → length new.anchors ≡ length kid.anchors →
+    MatchResult res (λ done. TreeChangesIf done by rest kid new) (λ y. new ≡ kid) → MatchResult res (λ done. KidChangesIf done by n rest (shared ks) (shared (set ks at x))) (λ y. shared (set ks at x) ≡ shared ks)
+kids_changed by n rest (Err y) at ks k x kid new s e w g m o v l c = kid_kept at ks k x w g (v ∙ c ∙ o)
+kids_changed by n rest (Ok false) at ks k x kid new s e w g m o v l c = kid_kept at ks k x w g (v ∙ c ∙ o)
+kids_changed by n rest (Ok true) at ks k x kid new s e w g m o v l c =
     let put = kid_set n at ks k x s e w g m in
     record {
       kid = kid;
@@ -148,56 +140,43 @@ below_long (i ∷ ks) k js =
     omega (arith, rest, a, b)
 
 -- the anchor once one below it is changed, or not
-pub record Changes {X : Type 0} (res : Result Bool X) (edit : Edit) (entry : TableEntry) (name : Name) (p rest : Path) (own : List AnyRule) (held : List (Name × TableValue)) (ks js : List AnchorTree) : Type 0 where
+pub record Changes {X : Type 0} (res : Result Bool X) (by : Changing) (p rest : Path) (own : List AnyRule) (held : List (Name × TableValue)) (ks js : List AnchorTree) : Type 0 where
   pub kids : AreKids p js
-  pub is : MatchResult res (λ done. TreeChangesIf done edit entry name rest (tree_with p (own_entry p own held ++ below ks)) (tree_with p (own_entry p own held ++ below js))) (λ x. tree_with p (own_entry p own held ++ below js) ≡ tree_with p (own_entry p own held ++ below ks))
+  pub is : MatchResult res (λ done. TreeChangesIf done by rest (tree_with p (own_entry p own held ++ below ks)) (tree_with p (own_entry p own held ++ below js))) (λ x. tree_with p (own_entry p own held ++ below js) ≡ tree_with p (own_entry p own held ++ below ks))
   pub long : length (own_entry p own held ++ below js) ≡ length (own_entry p own held ++ below ks)
 
 same_kids : (p : Path) (own : List AnyRule) (held : List (Name × TableValue)) (ks js : List AnchorTree) → AreKids p ks → js ≡ ks → AreKids p js × (tree_with p (own_entry p own held ++ below js) ≡ tree_with p (own_entry p own held ++ below ks)) × (length (own_entry p own held ++ below js) ≡ length (own_entry p own held ++ below ks))
 same_kids p own held ks js h e = (subst (AreKids p) (sym e) h, ap (λ (is : List AnchorTree). tree_with p (own_entry p own held ++ below is)) e, ap (λ (is : List AnchorTree). length (own_entry p own held ++ below is)) e)
 
-pub kid_changes : {X : Type 0} (res : Result Bool X) (edit : Edit) (entry : TableEntry) (name n : Name) (p r rest : Path) (own : List AnyRule) (held : List (Name × TableValue)) (ks js : List AnchorTree) → AreKids p ks → rest ≡ n ∷ r → MatchResult res (λ done. KidChangesIf done edit entry name n r ks js) (λ x. js ≡ ks) → Changes res edit entry name p rest own held ks js
-kid_changes (Err y) edit entry name n p r rest own held ks js h e c = let same = same_kids p own held ks js h c in record { kids = same.0; is = same.1; long = same.2 }
-kid_changes (Ok false) edit entry name n p r rest own held ks js h e c = let same = same_kids p own held ks js h c in record { kids = same.0; is = same.1; long = same.2 }
-kid_changes {X} (Ok true) edit entry name n p r rest own held ks js h e c = go (edited_in edit entry (named name (tables_in (own_of (tree_at c.kid r))))) refl
-  where
-    t : AnchorTree
-    t = record { names = p; anchors = own_entry p own held ++ below ks }
-
-    new : AnchorTree
-    new = record { names = p; anchors = own_entry p own held ++ below js }
-
-    here : Option AnchorValue
-    here = own_of (tree_at c.kid r)
-
-    down : tree_at t rest ≡ tree_at c.kid r
-    down = ap (tree_at t) e ∙ ap (λ o. and_then o (λ k. tree_at k r)) (sym (child_is p n own held ks h) ∙ c.found)
-
-    go : (o : Option TableValue) → edited_in edit entry (named name (tables_in here)) ≡ o → Changes {X = X} (Ok true) edit entry name p rest own held ks js
-    go None f = (let bad : true ≡ false = subst (λ o. TakesBelow o here name r c.kid c.next) f c.is in cc)
-    go (Some v) f =
-        let rules = rules_in here in
-        let tables = with_table (tables_in here) name v in
-        let is : c.next ≡ placed_in c.kid r rules tables = subst (λ o. TakesBelow o here name r c.kid c.next) f c.is in
-        let some : is_empty c.next.anchors ≡ false = long_empty c.next.anchors c.kid.anchors c.long (found_some p n ks c.kid h c.found) in
-        let names : c.kid.names ≡ p ++ n ∷ [] = found_names p n ks c.kid h c.found in
-        let put : PutBack p n r rules tables ks js = record {
-          kid = c.next;
-          all = c.all ∙ ap (λ b. kids_before n ks ++ ((if b then [] else c.next ∷ []) ++ kids_behind n ks)) (sym some);
-          held = is ∙ ap (λ (q : Path). placed_in (record { names = q; anchors = c.kid.anchors }) r rules tables) names ∙ ap (λ o. placed_in (record { names = p ++ n ∷ []; anchors = anchors_of o }) r rules tables) (sym c.found);
-        } in
-        let whole : kids_before n ks ++ c.kid ∷ kids_behind n ks ≡ ks = ap (λ o. kids_before n ks ++ (listed o ++ kids_behind n ks)) (sym c.found) ∙ parted n ks (kids_in_order p ks h) in
-        let a = ap (λ r. length (below r)) c.all ∙ below_long (kids_before n ks) c.next (kids_behind n ks) in
-        let b = ap (λ r. length (below r)) (sym whole) ∙ below_long (kids_before n ks) c.kid (kids_behind n ks) in
-        let x = length-append (own_entry p own held) (below js) in
-        let y = length-append (own_entry p own held) (below ks) in
-        let long = c.long in
-        record {
-          kids = back_kids p n r own rules held tables ks js h put;
-          is = subst (λ z. TakesBelow (edited_in edit entry (named name (tables_in (own_of z)))) (own_of z) name rest t new) (sym down)
-              (subst (λ o. TakesBelow o here name rest t new) (sym f) (back_placed p n r rest own rules held tables ks js h e put));
-          long = omega (arith, a, b, x, y, long);
-        }
+pub kid_changes : {X : Type 0} (res : Result Bool X) (by : Changing) (n : Name) (p r rest : Path) (own : List AnyRule) (held : List (Name × TableValue)) (ks js : List AnchorTree) → AreKids p ks → rest ≡ n ∷ r → MatchResult res (λ done. KidChangesIf done by n r ks js) (λ x. js ≡ ks) → Changes res by p rest own held ks js
+kid_changes (Err y) by n p r rest own held ks js h e c = let same = same_kids p own held ks js h c in record { kids = same.0; is = same.1; long = same.2 }
+kid_changes (Ok false) by n p r rest own held ks js h e c = let same = same_kids p own held ks js h c in record { kids = same.0; is = same.1; long = same.2 }
+kid_changes {X} (Ok true) by n p r rest own held ks js h e c =
+    let t : AnchorTree = record { names = p; anchors = own_entry p own held ++ below ks } in
+    let down : tree_at t rest ≡ tree_at c.kid r = ap (tree_at t) e ∙ ap (λ o. and_then o (λ k. tree_at k r)) (sym (child_is p n own held ks h) ∙ c.found) in
+    let some : is_empty c.next.anchors ≡ false = long_empty c.next.anchors c.kid.anchors c.long (found_some p n ks c.kid h c.found) in
+    let names : c.kid.names ≡ p ++ n ∷ [] = found_names p n ks c.kid h c.found in
+    let put : PutBack p n r c.is.rules c.is.tables ks js = record {
+      kid = c.next;
+      all = c.all ∙ ap (λ b. kids_before n ks ++ ((if b then [] else c.next ∷ []) ++ kids_behind n ks)) (sym some);
+      held = c.is.is ∙ ap (λ (q : Path). placed_in (record { names = q; anchors = c.kid.anchors }) r c.is.rules c.is.tables) names ∙ ap (λ o. placed_in (record { names = p ++ n ∷ []; anchors = anchors_of o }) r c.is.rules c.is.tables) (sym c.found);
+    } in
+    let whole : kids_before n ks ++ c.kid ∷ kids_behind n ks ≡ ks = ap (λ o. kids_before n ks ++ (listed o ++ kids_behind n ks)) (sym c.found) ∙ parted n ks (kids_in_order p ks h) in
+    let a = ap (λ r. length (below r)) c.all ∙ below_long (kids_before n ks) c.next (kids_behind n ks) in
+    let b = ap (λ r. length (below r)) (sym whole) ∙ below_long (kids_before n ks) c.kid (kids_behind n ks) in
+    let x = length-append (own_entry p own held) (below js) in
+    let y = length-append (own_entry p own held) (below ks) in
+    let long = c.long in
+    record {
+      kids = back_kids p n r own c.is.rules held c.is.tables ks js h put;
+      is = record {
+        rules = c.is.rules;
+        tables = c.is.tables;
+        is = back_placed p n r rest own c.is.rules held c.is.tables ks js h e put;
+        made = subst (λ z. by (rules_in (own_of z)) (tables_in (own_of z)) c.is.rules c.is.tables) (sym down) c.is.made;
+      };
+      long = omega (arith, a, b, x, y, long);
+    }
 
 -- ---- in a configuration
 
@@ -205,46 +184,51 @@ own_same : (o : Option AnchorTree) → own_of o ≡ own_at o
 own_same None = refl
 own_same (Some k) = refl
 
+abbrev pub config_with : List Name → List AnchorValue → Configuration
+config_with skip es = record { skip = skip; anchors = es }
+
+main_changes_if : (by : Changing) (done : Bool) (path : Path) (skip : List Name) (t new : AnchorTree) → t.names ≡ [] → length t.anchors ≤ 1024 → length new.anchors ≡ length t.anchors → TreeChangesIf done by path t new → (new.names ≡ []) × MapChangesIf done by path (config_with skip t.anchors) (config_with skip new.anchors)
+unfolding tables_at rules_at
+main_changes_if by false path skip t new h few long c = (ap (λ (x : AnchorTree). x.names) c ∙ h, ap (λ (x : AnchorTree). config_with skip x.anchors) c)
+main_changes_if by true path skip t new h few long c =
+    let there : own_of (tree_at t path) ≡ anchor_at path t.anchors = own_same (tree_at t path) ∙ ap own_at (main_down t path h) ∙ found_at t.anchors path in
+    let placed = main_placed t new path c.rules c.rules c.tables c.tables h refl refl c.is in (
+      placed.0,
+      record {
+        rules = c.rules;
+        tables = c.tables;
+        skip = refl;
+        is = placed.1;
+        made = subst (λ o. by (rules_in o) (tables_in o) c.rules c.tables) there c.made;
+        few = omega (arith, few, long);
+      },
+    )
+
+-- the same, whatever the call answers
+pub main_changes : {X : Type 0} (res : Result Bool X) (by : Changing) (path : Path) (skip : List Name) (t new : AnchorTree) → t.names ≡ [] → length t.anchors ≤ 1024 → length new.anchors ≡ length t.anchors → MatchResult res (λ done. TreeChangesIf done by path t new) (λ x. new ≡ t) →
+    (new.names ≡ []) × MatchResult res (λ done. MapChangesIf done by path (config_with skip t.anchors) (config_with skip new.anchors)) (λ x. config_with skip new.anchors ≡ config_with skip t.anchors)
+main_changes (Ok done) by path skip t new h few long c = main_changes_if by done path skip t new h few long c
+main_changes (Err x) by path skip t new h few long c = main_changes_if by false path skip t new h few long c
+
 -- there is a changed table, and the new configuration is the old one with it
 abbrev pub Sets : Option TableValue → Path → Name → Configuration → Configuration → Type 0
 Sets None p name old new = true ≡ false
 Sets (Some t) p name old new = set_table old p name t ≡ Ok new
 
--- the same, or the configuration is as it was
-abbrev pub SetsIf : Bool → Option TableValue → Path → Name → Configuration → Configuration → Type 0
-SetsIf true changed p name old new = Sets changed p name old new
-SetsIf false changed p name old new = new ≡ old
+-- the tables of a path have changed, and no rules
+abbrev pub TableMakes : Option TableValue → Name → List AnyRule → List (Name × TableValue) → List AnyRule → List (Name × TableValue) → Type 0
+TableMakes o name rules tables rules' tables' = (rules' ≡ rules) × Takes o name tables tables'
 
-abbrev pub config_with : List Name → List AnchorValue → Configuration
-config_with skip es = record { skip = skip; anchors = es }
-
-main_changes_if : (edit : Edit) (entry : TableEntry) (name : Name) (done : Bool) (path : Path) (skip : List Name) (t new : AnchorTree) → t.names ≡ [] → length t.anchors ≤ 1024 → length new.anchors ≡ length t.anchors → TreeChangesIf done edit entry name path t new → (new.names ≡ []) × SetsIf done (edited_in edit entry (named name (tables_at (record { skip = skip; anchors = t.anchors }) path))) path name (record { skip = skip; anchors = t.anchors }) (record { skip = skip; anchors = new.anchors })
-unfolding tables_at
-main_changes_if edit entry name false path skip t new h few long c = (ap (λ (x : AnchorTree). x.names) c ∙ h, ap (λ (x : AnchorTree). config_with skip x.anchors) c)
-main_changes_if edit entry name true path skip t new h few long c = go (edited_in edit entry (named name (tables_in here))) refl
-  where
-    here : Option AnchorValue
-    here = anchor_at path t.anchors
-
-    there : own_of (tree_at t path) ≡ here
-    there = own_same (tree_at t path) ∙ ap own_at (main_down t path h) ∙ found_at t.anchors path
-
-    put : TakesBelow (edited_in edit entry (named name (tables_in here))) here name path t new
-    put = subst (λ o. TakesBelow (edited_in edit entry (named name (tables_in o))) o name path t new) there c
-
-    go : (o : Option TableValue) → edited_in edit entry (named name (tables_in here)) ≡ o → (new.names ≡ []) × SetsIf true o path name (record { skip = skip; anchors = t.anchors }) (record { skip = skip; anchors = new.anchors })
-    go None f = (let bad : true ≡ false = subst (λ o. TakesBelow o here name path t new) f put in cc)
-    go (Some v) f =
-        let is : new ≡ placed_in t path (rules_in here) (with_table (tables_in here) name v) = subst (λ o. TakesBelow o here name path t new) f put in
-        let placed = main_placed t new path (rules_in here) (rules_in here) (with_table (tables_in here) name v) (with_table (tables_in here) name v) h refl refl is in
-        let room : nat_lt 1024 (length new.anchors) ≡ false = (let n : length new.anchors ≤ 1024 = omega (arith, few, long) in grind (arith, nat_tests, n)) in
-        (placed.0, ap (λ es. if nat_lt 1024 (length es) then Err AnchorsFull else Ok (record { skip = skip; anchors = es })) (sym placed.1) ∙ rw room refl)
-
--- the same, whatever the call answers
-pub main_changes : {X : Type 0} (res : Result Bool X) (edit : Edit) (entry : TableEntry) (name : Name) (path : Path) (skip : List Name) (t new : AnchorTree) → t.names ≡ [] → length t.anchors ≤ 1024 → length new.anchors ≡ length t.anchors → MatchResult res (λ done. TreeChangesIf done edit entry name path t new) (λ x. new ≡ t) →
-    (new.names ≡ []) × MatchResult res (λ done. SetsIf done (edited_in edit entry (table_at (config_with skip t.anchors) path name)) path name (config_with skip t.anchors) (config_with skip new.anchors)) (λ x. config_with skip new.anchors ≡ config_with skip t.anchors)
-main_changes (Ok done) edit entry name path skip t new h few long c = main_changes_if edit entry name done path skip t new h few long c
-main_changes (Err x) edit entry name path skip t new h few long c = main_changes_if edit entry name false path skip t new h few long c
+pub sets : (o : Option TableValue) (c new : Configuration) (p : Path) (name : Name) → MapChanges (TableMakes o name) p c new → Sets o p name c new
+unfolding tables_at rules_at
+sets None c new p name m = (let bad : true ≡ false = m.made.1 in cc)
+sets (Some t) c new p name m =
+    let here = anchor_at p c.anchors in
+    let is : with_tables p (with_table (tables_in here) name t) c.anchors ≡ new.anchors =
+    ap (λ (ts : List (Name × TableValue)). with_tables p ts c.anchors) (sym m.made.1) ∙ ap (λ (rs : List AnyRule). with_anchor (record { path = p; rules = rs; tables = m.tables }) c.anchors) (sym m.made.0) ∙ sym m.is in
+    let few = m.few in
+    let room : nat_lt 1024 (length new.anchors) ≡ false = grind (arith, nat_tests, few) in
+    ap (λ es. if nat_lt 1024 (length es) then Err AnchorsFull else Ok (config_with c.skip es)) is ∙ rw room (ap (λ (s : List Name). Ok (config_with s new.anchors)) (sym m.skip))
 
 -- ---- the command of an edit
 
@@ -280,11 +264,17 @@ deleted c new p name e s = go (table_at c p name) s
     go None s = (let bad : true ≡ false = s in cc)
     go (Some t) s = some t t.is_const refl s
 
-pub edit_given : (edit : Edit) (c new : Configuration) (p : Path) (name : Name) (e : TableEntry) (list : List TableEntry) {X : Type 0} (r : Result Bool X) → list ≡ e ∷ [] → MatchResult r (λ done. SetsIf done (edited_in edit e (table_at c p name)) p name c new) (λ x. new ≡ c) → MatchResult r (λ done. GivesIf done (commanded edit c p name list) c new) (λ x. new ≡ c)
+pub edit_given : (edit : Edit) (c new : Configuration) (p : Path) (name : Name) (e : TableEntry) (list : List TableEntry) {X : Type 0} (r : Result Bool X) → list ≡ e ∷ [] → MatchResult r (λ done. MapChangesIf done (λ rs ts. TableMakes (edited_in edit e (named name ts)) name rs ts) p c new) (λ x. new ≡ c) → MatchResult r (λ done. GivesIf done (commanded edit c p name list) c new) (λ x. new ≡ c)
 edit_given edit c new p name e list (Err x) h s = s
 edit_given edit c new p name e list (Ok false) h s = s
-edit_given Insert c new p name e list (Ok true) h s = ap (add c p name) h ∙ added c new p name e s
-edit_given Remove c new p name e list (Ok true) h s = ap (delete c p name) h ∙ deleted c new p name e s
+edit_given Insert c new p name e list (Ok true) h s = ap (add c p name) h ∙ added c new p name e (sets (edited_in Insert e (table_at c p name)) c new p name (at_table s))
+  where
+    at_table : MapChanges (λ rs ts. TableMakes (edited_in Insert e (named name ts)) name rs ts) p c new → MapChanges (TableMakes (edited_in Insert e (table_at c p name)) name) p c new
+    at_table m = record { rules = m.rules; tables = m.tables; skip = m.skip; is = m.is; made = m.made; few = m.few }
+edit_given Remove c new p name e list (Ok true) h s = ap (delete c p name) h ∙ deleted c new p name e (sets (edited_in Remove e (table_at c p name)) c new p name (at_table s))
+  where
+    at_table : MapChanges (λ rs ts. TableMakes (edited_in Remove e (named name ts)) name rs ts) p c new → MapChanges (TableMakes (edited_in Remove e (table_at c p name)) name) p c new
+    at_table m = record { rules = m.rules; tables = m.tables; skip = m.skip; is = m.is; made = m.made; few = m.few }
 
 pub one_is : {X : Type 0} (xs : List X) (x : X) → 1 ≤ length xs → length xs < 2 → x ≡ get_or xs 0 x → xs ≡ x ∷ []
 one_is [] x h k g = absurd (omega (arith, h))

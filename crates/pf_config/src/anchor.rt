@@ -14,7 +14,7 @@ ghost use Rattle.pf_config.specs.inner.Trees.{any_unnamed, any_sheds, is_named, 
 ghost use Rattle.pf_config.specs.Ordered.{AreOrdered};
 ghost use Rattle.pf_config.specs.Orders.{stops_of, others_of};
 ghost use Rattle.pf_config.specs.inner.KidOrder.{AreInOrder};
-ghost use Rattle.pf_config.specs.inner.TableChanges.{TreeChangesIf, KidChangesIf};
+ghost use Rattle.pf_config.specs.inner.TableChanges.{Makes, TreeChangesIf, KidChangesIf};
 ghost use Rattle.pf_config.specs.inner.Referring.{Gains, KnowsAll};
 ghost use Rattle.pf_config.specs.declared.config.TheConstants.{RULES_MAX};
 
@@ -23,6 +23,7 @@ use crate::below::{
     shared_kids, stands_at, take_named,
 };
 use crate::candidate_list::CandidateList;
+use crate::change::{Change, change_own};
 use crate::order::{Order, order_of};
 use crate::own::{are_apart, has_entry, is_own_unnamed, is_unnamed_below, own_room, push_own_path};
 use crate::own_rules::OwnRules;
@@ -30,8 +31,8 @@ use crate::paths::copied_path;
 use crate::referred::Referred;
 use crate::tables::{Tables, named};
 use crate::unused::{any_unused, items_refer, used_tables};
-use pf_rules::{Item, Name, TableEntry, TableName};
-use pf_tables::{Edit, Table};
+use pf_rules::{Item, Name, TableName};
+use pf_tables::Table;
 use std::alloc::{AllocError, Global};
 use std::cmp::Ordering;
 use std::marker::Model;
@@ -473,18 +474,17 @@ pub(crate) fn with_entry(
     }
 }
 
-/// Edits an entry of a table of the anchor at a path below this one in place. False, and nothing is changed, where that
-/// can't be done: there is no such anchor, it has neither rules nor tables, or what would change is shared.
+/// Changes the rules and tables of the anchor at a path below this one in place. False, and nothing is changed, where
+/// that can't be done: there is no such anchor, it has neither rules nor tables, or what would change is shared.
 #[cycle(changes)]
-pub(crate) fn change_table(
+pub(crate) fn change_below(
+    alloc: Global,
     anchor: &mut Anchor,
     rest: &[Name],
-    name: &TableName,
-    entry: &TableEntry,
-    edit: Edit,
+    change: &Change,
 ) -> Result<bool, AllocError>
-    ensures changed { MatchResult result (λ done. TreeChangesIf done edit entry.now name.now rest.now anchor.old
-        anchor.new) (λ e. anchor.new ≡ anchor.old) }
+    ensures changed { MatchResult result (λ done. TreeChangesIf done (Makes change.now) rest.now anchor.old anchor.new)
+        (λ e. anchor.new ≡ anchor.old) }
     ensures length { length anchor.new.anchors ≡ length anchor.old.anchors }
 {
     match rest {
@@ -492,24 +492,29 @@ pub(crate) fn change_table(
             if !has_entry(&anchor.items, anchor.tables.list()) {
                 return Ok(false);
             }
-            anchor.tables.edit(name, entry, edit)
+            change_own(
+                alloc,
+                &mut anchor.items,
+                &mut anchor.order,
+                &mut anchor.tables,
+                change,
+            )
         }
-        [first, more @ ..] => change_kid(&mut anchor.kids, first, more, name, entry, edit),
+        [first, more @ ..] => change_kid(alloc, &mut anchor.kids, first, more, change),
     }
 }
 
 /// The same of the one of that name among the anchors directly below.
 #[cycle(changes)]
 fn change_kid(
+    alloc: Global,
     kids: &mut Vec<Rc<Anchor>>,
     first: &Name,
     more: &[Name],
-    name: &TableName,
-    entry: &TableEntry,
-    edit: Edit,
+    change: &Change,
 ) -> Result<bool, AllocError>
     requires { AreInOrder (shared kids.old.items) }
-    ensures { MatchResult result (λ done. KidChangesIf done edit entry.now name.now first.now more.now
+    ensures { MatchResult result (λ done. KidChangesIf done (Makes change.now) first.now more.now
         (shared kids.old.items) (shared kids.new.items)) (λ e. shared kids.new.items ≡ shared kids.old.items) }
 {
     let at = count_before(kids, first);
@@ -520,5 +525,5 @@ fn change_kid(
     let Some(kid) = Rc::get_mut(held) else {
         return Ok(false);
     };
-    change_table(kid, more, name, entry, edit)
+    change_below(alloc, kid, more, change)
 }

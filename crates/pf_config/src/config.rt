@@ -12,15 +12,16 @@ ghost use Rattle.pf_config.specs.inner.Changes.{FailsWith};
 ghost use Rattle.pf_config.specs.Changes.{add, replace, delete, flush_table, set_table, filled, new_table};
 ghost use Rattle.pf_config.specs.Changes.{load_ruleset};
 ghost use Rattle.pf_rules.specs.Rulesets.{ruleset_of};
-ghost use Rattle.pf_config.specs.inner.TableChanges.{commanded, GivesIf};
+ghost use Rattle.pf_config.specs.inner.TableChanges.{commanded, GivesIf, Makes, MapChangesIf};
 ghost use Rattle.pf_config.specs.inner.Texts.{definition_of};
 ghost use Rattle.pf_config.specs.Ordered.{AreOrdered};
 ghost use Rattle.pf_config.specs.SkippedNames.{is_listed};
 ghost use Rattle.pf_config.specs.Trees.{anchor_in};
 ghost use Rattle.pf_config.specs.declared.config.TheConstants.{RULES_MAX, ANCHORS_MAX};
 
-use crate::anchor::{Anchor, change_table};
+use crate::anchor::{Anchor, change_below};
 use crate::blocks::blocks_in;
+use crate::change::Change;
 use crate::changed::{placed, tidied, with_tables};
 use crate::depths::go_too_deep;
 use crate::fault::ConfigFault;
@@ -320,6 +321,14 @@ impl Config {
         self.set_table(path, name, &table)
     }
 
+    /// Makes a change at a path in place. False, and nothing is changed, where that can't be done.
+    fn change(&mut self, path: &[Name], change: &Change) -> Result<bool, AllocError>
+        ensures { MatchResult result (λ done. MapChangesIf done (Makes change.now) path.now self.old self.new)
+            (λ e. self.new ≡ self.old) }
+    {
+        change_below(self.alloc, &mut self.main, path, change)
+    }
+
     /// Adds or deletes the one entry of a list in place. False, and nothing is changed, where the list has more, or
     /// that can't be done.
     fn edit_one(
@@ -333,7 +342,7 @@ impl Config {
             self.new) (λ e. self.new ≡ self.old) }
     {
         match list {
-            [entry] => change_table(&mut self.main, path, name, entry, edit),
+            [entry] => self.change(path, &Change::Entry(name, entry, edit)),
             _ => Ok(false),
         }
     }
@@ -347,6 +356,9 @@ impl Config {
     ) -> Result<(), ConfigFault>
         ensures { Changes result self.old self.new (set_table self.old path.now name.now table.now) }
     {
+        if self.change(path, &Change::Whole(name, table))? {
+            return Ok(());
+        }
         let tables = with_table(self.alloc, self.tables(path), name, table)?;
         let next = with_tables(self.alloc, &self.main, path, tables)?;
         if !has_room(&next) {

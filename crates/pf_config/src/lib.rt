@@ -74,6 +74,7 @@ mod below;
 mod blocks;
 mod candidate;
 mod candidate_list;
+mod change;
 mod changed;
 mod config;
 mod depths;

@@ -38,4 +38,13 @@ impl OwnRules {
     {
         OwnRules { items, order }
     }
+
+    /// The same rules and order, shared.
+    pub(crate) fn copied(&self) -> Result<OwnRules, AllocError>
+        ensures { IfOk result (λ r. map rule_of r.items.value.items ≡ map rule_of self.now.items.value.items) }
+    {
+        let items = self.items.clone()?;
+        let order = self.order.clone()?;
+        Ok(OwnRules { items, order })
+    }
 }

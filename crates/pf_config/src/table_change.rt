@@ -1,6 +1,6 @@
 //! A change of one of the tables at a path.
 
-ghost use Rattle.std.specs.Prelude.{◌≡◌, length, MatchResult, OnOk};
+ghost use Rattle.std.specs.Prelude.{◌≡◌, length, MatchResult};
 ghost use Rattle.pf_config.specs.Map.{named};
 ghost use Rattle.pf_config.specs.Changes.{with_table};
 ghost use Rattle.pf_config.specs.Ordered.{AreOrdered};
@@ -64,7 +64,7 @@ pub(crate) fn edit_among(
     edit_table(&mut held.1, entry, edit)
 }
 
-/// Puts a table under its name. After an error nothing is known of the tables.
+/// Puts a table under its name. An error changes nothing.
 pub(crate) fn put_among(
     alloc: Global,
     tables: &mut Vec<(TableName, Table)>,
@@ -72,8 +72,9 @@ pub(crate) fn put_among(
     table: Table,
 ) -> Result<(), AllocError>
     requires { AreOrdered tables.old.items }
-    ensures ordered { OnOk result (AreOrdered tables.new.items) }
-    ensures put { OnOk result (tables.new.items ≡ with_table tables.old.items name.now table) }
+    ensures ordered { AreOrdered tables.new.items }
+    ensures put { MatchResult result (λ o. tables.new.items ≡ with_table tables.old.items name.now table)
+        (λ e. tables.new.items ≡ tables.old.items) }
 {
     match place_of(tables, name.as_bytes()) {
         Ok(at) => {

@@ -1,6 +1,6 @@
 //! The tables of an anchor.
 
-ghost use Rattle.std.specs.Prelude.{◌≡◌, [], IfOk, MatchResult, map};
+ghost use Rattle.std.specs.Prelude.{◌≡◌, [], IfOk, MatchResult, map, Some};
 ghost use Rattle.std.specs.Option.{option_copied};
 ghost use Rattle.pf_config.specs.Map.{named};
 ghost use Rattle.pf_config.specs.Changes.{with_table};
@@ -73,6 +73,24 @@ impl Tables {
             return Ok(false);
         };
         edit_among(all, name, entry, edit)
+    }
+
+    /// Puts a table under its name in place. False, and nothing is changed, where the tables are shared.
+    pub(crate) fn put(
+        &mut self,
+        alloc: Global,
+        name: &TableName,
+        table: &Table,
+    ) -> Result<bool, AllocError>
+        ensures { MatchResult result (λ done. ChangesIf done (Some table.now) name.now self.old self.new)
+            (λ e. self.new ≡ self.old) }
+    {
+        let Some(all) = Rc::get_mut(&mut self.all) else {
+            return Ok(false);
+        };
+        let own = copied_table(table)?;
+        put_among(alloc, all, name, own)?;
+        Ok(true)
     }
 
     /// The same once more.

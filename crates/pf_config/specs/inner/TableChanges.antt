@@ -1,6 +1,6 @@
--- A change of one table in place.
+-- A change in place: of one table, or of the rules and tables of a path.
 use Rattle.std.specs.Prelude.{◌≡◌, ℕ, Bool, true, false, ◌&&◌, ◌<◌, ◌≤◌, List, ◌∷◌, ◌++◌, length, take, drop, get_or}
-use Rattle.std.specs.Prelude.{Option, Some, None, Result, Ok, find, not, nat_lt, if◌then◌else◌}
+use Rattle.std.specs.Prelude.{Option, Some, None, Result, Ok, find, not, nat_lt, if◌then◌else◌, map}
 use Rattle.std.specs.List.{list_all}
 use Rattle.pf_rules.specs.declared.ruleset.TableEntry.{TableEntry}
 use Rattle.pf_rules.specs.Names.{Name, is_before}
@@ -8,9 +8,13 @@ use Rattle.pf_tables.specs.declared.edits.Edit.{Edit}
 use Rattle.pf_tables.specs.declared.edits.Edit.TheVariants.{Insert, Remove}
 use Rattle.pf_tables.specs.Tables.{TableValue}
 use Rattle.pf_tables.specs.Contents.{edited}
-use Rattle.pf_config.specs.Map.{Configuration, Path, named, rules_in, tables_in, AnchorValue, anchor_at}
+use Rattle.pf_rules.specs.Items.{AnyRule}
+use Rattle.pf_rules.specs.Seen.{rule_of}
+use Rattle.pf_config.specs.Map.{Configuration, Path, named, rules_in, tables_in, AnchorValue, anchor_at, rules_at, tables_at}
+use Rattle.pf_config.specs.declared.change.Change.{Change}
+use Rattle.pf_config.specs.declared.change.Change.TheVariants.{Entry, Whole, Own}
 use Rattle.pf_config.specs.declared.fault.ConfigFault.{ConfigFault}
-use Rattle.pf_config.specs.Changes.{with_table, with_contents, add, delete}
+use Rattle.pf_config.specs.Changes.{is_empty, with_table, with_contents, with_anchor, add, delete}
 use Rattle.pf_config.specs.Trees.{AnchorTree, tree_at}
 use Rattle.pf_config.specs.inner.Trees.{is_named, kids_before, kids_behind, placed_in}
 
@@ -59,6 +63,32 @@ abbrev pub ChangesIf : Bool → Option TableValue → Name → List (Name × Tab
 ChangesIf true changed name old new = Takes changed name old new
 ChangesIf false changed name old new = new ≡ old
 
+-- ---- the rules and tables of a path
+
+-- how the rules and tables of a path are changed: the old ones, and the new ones
+abbrev pub Changing : Type 1
+Changing = List AnyRule → List (Name × TableValue) → List AnyRule → List (Name × TableValue) → Type 0
+
+-- the new rules and tables are these
+abbrev pub IsGiven : List AnyRule → List (Name × TableValue) → List AnyRule → List (Name × TableValue) →
+    List AnyRule → List (Name × TableValue) → Type 0
+IsGiven own held rules tables rules' tables' = (rules' ≡ own) × (tables' ≡ held)
+
+-- what a change does
+abbrev pub Makes : Change → List AnyRule → List (Name × TableValue) → List AnyRule → List (Name × TableValue) → Type 0
+Makes (Entry name e edit) rules tables rules' tables' = (rules' ≡ rules) ×
+    Takes (edited_in edit e.now (named name.now tables)) name.now tables tables'
+Makes (Whole name t) rules tables rules' tables' = (rules' ≡ rules) × (tables' ≡ with_table tables name.now t.now)
+Makes (Own own held) rules tables rules' tables' = IsGiven (map rule_of own.now.items.value.items) held.now rules
+    tables rules' tables'
+
+-- rules and tables of which there are some are changed, or they are as they were
+abbrev pub OwnChangesIf : Bool → Changing → List AnyRule → List (Name × TableValue) → List AnyRule →
+    List (Name × TableValue) → Type 0
+OwnChangesIf true by rules tables rules' tables' = ((is_empty rules' && is_empty tables') ≡ false) ×
+    by rules tables rules' tables'
+OwnChangesIf false by rules tables rules' tables' = (rules' ≡ rules) × (tables' ≡ tables)
+
 -- ---- an anchor, and a configuration
 
 -- the entry of an anchor's own path
@@ -66,30 +96,45 @@ abbrev pub own_of : Option AnchorTree → Option AnchorValue
 own_of None = None
 own_of (Some k) = anchor_at k.names k.anchors
 
--- there is a changed table, and the new anchor has it under its name at a path below it, whose entry was this one
-abbrev pub TakesBelow : Option TableValue → Option AnchorValue → Name → Path → AnchorTree → AnchorTree → Type 0
-TakesBelow None own name rest old new = true ≡ false
-TakesBelow (Some t) own name rest old new = new ≡ placed_in old rest (rules_in own) (with_table (tables_in own) name t)
+-- the new anchor has changed rules and tables at a path below it
+pub record TreeChanges (by : Changing) (rest : Path) (old new : AnchorTree) : Type 0 where
+  pub rules : List AnyRule
+  pub tables : List (Name × TableValue)
+  pub is : new ≡ placed_in old rest rules tables
+  pub made : let own = own_of (tree_at old rest) in by (rules_in own) (tables_in own) rules tables
 
 -- the same, or the anchor is as it was
-abbrev pub TreeChangesIf : Bool → Edit → TableEntry → Name → Path → AnchorTree → AnchorTree → Type 0
-TreeChangesIf true edit e name rest old new = let own = own_of (tree_at old rest) in
-    TakesBelow (edited_in edit e (named name (tables_in own))) own name rest old new
-TreeChangesIf false edit e name rest old new = new ≡ old
+abbrev pub TreeChangesIf : Bool → Changing → Path → AnchorTree → AnchorTree → Type 0
+TreeChangesIf true by rest old new = TreeChanges by rest old new
+TreeChangesIf false by rest old new = new ≡ old
 
 -- of the anchors the one of that name is changed, and has as many entries as before
-pub record KidChanges (edit : Edit) (e : TableEntry) (name n : Name) (rest : Path) (old new : List AnchorTree) : Type 0 where
+pub record KidChanges (by : Changing) (n : Name) (rest : Path) (old new : List AnchorTree) : Type 0 where
   pub kid : AnchorTree
   pub next : AnchorTree
   pub found : find (is_named n) old ≡ Some kid
   pub all : new ≡ kids_before n old ++ next ∷ kids_behind n old
-  pub is : TreeChangesIf true edit e name rest kid next
+  pub is : TreeChanges by rest kid next
   pub long : length next.anchors ≡ length kid.anchors
 
 -- the same, or the anchors are as they were
-abbrev pub KidChangesIf : Bool → Edit → TableEntry → Name → Name → Path → List AnchorTree → List AnchorTree → Type 0
-KidChangesIf true edit e name n rest old new = KidChanges edit e name n rest old new
-KidChangesIf false edit e name n rest old new = new ≡ old
+abbrev pub KidChangesIf : Bool → Changing → Name → Path → List AnchorTree → List AnchorTree → Type 0
+KidChangesIf true by n rest old new = KidChanges by n rest old new
+KidChangesIf false by n rest old new = new ≡ old
+
+-- the new configuration has changed rules and tables at a path, and no more entries than it may have
+pub record MapChanges (by : Changing) (p : Path) (old new : Configuration) : Type 0 where
+  pub rules : List AnyRule
+  pub tables : List (Name × TableValue)
+  pub skip : new.skip ≡ old.skip
+  pub is : new.anchors ≡ with_anchor (record { path = p; rules = rules; tables = tables }) old.anchors
+  pub made : by (rules_at old p) (tables_at old p) rules tables
+  pub few : length new.anchors ≤ 1024
+
+-- the same, or the configuration is as it was
+abbrev pub MapChangesIf : Bool → Changing → Path → Configuration → Configuration → Type 0
+MapChangesIf true by p old new = MapChanges by p old new
+MapChangesIf false by p old new = new ≡ old
 
 -- what the command of an edit gives
 abbrev pub commanded : Edit → Configuration → Path → Name → List TableEntry → Result Configuration ConfigFault

@@ -5,15 +5,15 @@ use Rattle.pf_rules.specs.Seen.{rule_of}
 use Rattle.pf_config.specs.Changes.{is_empty}
 use Rattle.pf_config.specs.Trees.{AnchorTree, shared, own_entry, below}
 use Rattle.pf_config.specs.inner.Trees.{is_named, kids_before}
-use Rattle.pf_config.specs.inner.TableChanges.{TreeChangesIf}
+use Rattle.pf_config.specs.inner.TableChanges.{Makes, TreeChangesIf}
 use Rattle.pf_config.proofs.Changing.{tree_with, own_changes, kids_changed, kid_changes, none_is}
 use Rattle.pf_config.proofs.Entries.{cons_is}
 use Rattle.pf_config.proofs.KidHalves.{kids_in_order}
 use Rattle.pf_config.proofs.KidPlaces.{has_place}
 use Rattle.pf_config.proofs.anchor.+changes.Goals as goal
 
-pub change_table-change_kid-requires : goal.change_table-change_kid-requires
-change_table-change_kid-requires t c =
+pub change_below-change_kid-requires : goal.change_below-change_kid-requires
+change_below-change_kid-requires t c =
     let own = c.anchor.inside in
     (search rules, kids_in_order own.names.items (shared own.kids.items) c.anchor.invariant.1)
 
@@ -34,61 +34,63 @@ change_kid-returns t c =
     let some : is_some (find (is_named n) (shared ks)) ≡ true = search rules in
     let less = has_place n c.count_before-at.result ks c.requires at some in
     let k = c.index_mut-held.result.now in
-    let new = c.change_table.new.anchor in
+    let new = c.change_below.new.anchor in
     let x = rc_with_value k new in
     let old : c.in-Some.kid.now ≡ k.value = search rules in
-    kids_changed c.args.edit c.args.entry.now c.args.name.now n c.args.more.now c.change_table.result c.count_before-at.result ks k x c.in-Some.kid.now new c.requires at less c.index_mut-held.ensures.value some old refl c.change_table.ensures.length c.change_table.ensures.changed
+    kids_changed (Makes c.args.change.now) n c.args.more.now c.change_below.result c.count_before-at.result ks k x c.in-Some.kid.now new c.requires at less c.index_mut-held.ensures.value some old refl c.change_below.ensures.length c.change_below.ensures.changed
 
-pub change_table-invariant_of-anchor-in-len1-up : goal.change_table-invariant_of-anchor-in-len1-up
-change_table-invariant_of-anchor-in-len1-up t c =
+pub change_below-invariant_of-anchor-in-len1-up : goal.change_below-invariant_of-anchor-in-len1-up
+change_below-invariant_of-anchor-in-len1-up t c =
     let own = c.anchor.inside in
     let rest = c.args.rest.now in
     let n = c.first-item.result in
     let more = take (length rest - 1) (drop 1 rest) in
     let cut = cons_is rest n c.in-len1-up.len_at_least c.first-item.is in
-    let all = kid_changes c.change_kid.result c.args.edit c.args.entry.now c.args.name.now n own.names.items more rest (map rule_of own.items.value.items) own.tables (shared own.kids.items) (shared c.change_kid.new.kids.items) c.anchor.invariant.1 cut c.change_kid.ensures in
+    let all = kid_changes c.change_kid.result (Makes c.args.change.now) n own.names.items more rest (map rule_of own.items.value.items) own.tables (shared own.kids.items) (shared c.change_kid.new.kids.items) c.anchor.invariant.1 cut c.change_kid.ensures in
     (c.anchor.invariant.0, all.kids, c.anchor.invariant.2)
 
-pub change_table-returns-else-not-has_entry-clause-changed : goal.change_table-returns-else-not-has_entry-clause-changed
-change_table-returns-else-not-has_entry-clause-changed t c =
+pub change_below-returns-else-not-has_entry-clause-changed : goal.change_below-returns-else-not-has_entry-clause-changed
+change_below-returns-else-not-has_entry-clause-changed t c =
     let own = c.anchor.inside in
     let held = map rule_of own.items.value.items in
+    let next = map rule_of c.change_own.new.items.value.items in
     let short : length c.args.rest.now ≡ 0 = search rules in
     let none = none_is c.args.rest.now short in
     let some : (is_empty held && is_empty own.tables) ≡ false = search rules in
-    let all = own_changes c.args.edit c.args.entry.now c.args.name.now c.edit.result own.names.items c.args.rest.now held own.tables c.edit.new.self (shared own.kids.items) c.anchor.invariant.1 some c.edit.ensures none in
-    let new = tree_with own.names.items (own_entry own.names.items held c.edit.new.self ++ below (shared own.kids.items)) in
-    subst (λ (x : AnchorTree). MatchResult c.edit.result (λ done. TreeChangesIf done c.args.edit c.args.entry.now c.args.name.now c.args.rest.now x new) (λ e. new ≡ x)) c.anchor.view_is all.0
+    let all = own_changes (Makes c.args.change.now) c.change_own.result own.names.items c.args.rest.now held next own.tables c.change_own.new.tables (shared own.kids.items) c.anchor.invariant.1 some c.change_own.ensures.changed none in
+    let new = tree_with own.names.items (own_entry own.names.items next c.change_own.new.tables ++ below (shared own.kids.items)) in
+    subst (λ (x : AnchorTree). MatchResult c.change_own.result (λ done. TreeChangesIf done (Makes c.args.change.now) c.args.rest.now x new) (λ e. new ≡ x)) c.anchor.view_is all.0
 
-pub change_table-returns-else-not-has_entry-clause-length : goal.change_table-returns-else-not-has_entry-clause-length
-change_table-returns-else-not-has_entry-clause-length t c =
+pub change_below-returns-else-not-has_entry-clause-length : goal.change_below-returns-else-not-has_entry-clause-length
+change_below-returns-else-not-has_entry-clause-length t c =
     let own = c.anchor.inside in
     let held = map rule_of own.items.value.items in
+    let next = map rule_of c.change_own.new.items.value.items in
     let short : length c.args.rest.now ≡ 0 = search rules in
     let none = none_is c.args.rest.now short in
     let some : (is_empty held && is_empty own.tables) ≡ false = search rules in
-    let all = own_changes c.args.edit c.args.entry.now c.args.name.now c.edit.result own.names.items c.args.rest.now held own.tables c.edit.new.self (shared own.kids.items) c.anchor.invariant.1 some c.edit.ensures none in
-    subst (λ (x : AnchorTree). length (own_entry own.names.items held c.edit.new.self ++ below (shared own.kids.items)) ≡ length x.anchors) c.anchor.view_is all.1
+    let all = own_changes (Makes c.args.change.now) c.change_own.result own.names.items c.args.rest.now held next own.tables c.change_own.new.tables (shared own.kids.items) c.anchor.invariant.1 some c.change_own.ensures.changed none in
+    subst (λ (x : AnchorTree). length (own_entry own.names.items next c.change_own.new.tables ++ below (shared own.kids.items)) ≡ length x.anchors) c.anchor.view_is all.1
 
-pub change_table-returns-in-len1-up-clause-changed : goal.change_table-returns-in-len1-up-clause-changed
-change_table-returns-in-len1-up-clause-changed t c =
+pub change_below-returns-in-len1-up-clause-changed : goal.change_below-returns-in-len1-up-clause-changed
+change_below-returns-in-len1-up-clause-changed t c =
     let own = c.anchor.inside in
     let held = map rule_of own.items.value.items in
     let rest = c.args.rest.now in
     let n = c.first-item.result in
     let more = take (length rest - 1) (drop 1 rest) in
     let cut = cons_is rest n c.in-len1-up.len_at_least c.first-item.is in
-    let all = kid_changes c.change_kid.result c.args.edit c.args.entry.now c.args.name.now n own.names.items more rest held own.tables (shared own.kids.items) (shared c.change_kid.new.kids.items) c.anchor.invariant.1 cut c.change_kid.ensures in
+    let all = kid_changes c.change_kid.result (Makes c.args.change.now) n own.names.items more rest held own.tables (shared own.kids.items) (shared c.change_kid.new.kids.items) c.anchor.invariant.1 cut c.change_kid.ensures in
     let new = tree_with own.names.items (own_entry own.names.items held own.tables ++ below (shared c.change_kid.new.kids.items)) in
-    subst (λ (x : AnchorTree). MatchResult c.change_kid.result (λ done. TreeChangesIf done c.args.edit c.args.entry.now c.args.name.now rest x new) (λ e. new ≡ x)) c.anchor.view_is all.is
+    subst (λ (x : AnchorTree). MatchResult c.change_kid.result (λ done. TreeChangesIf done (Makes c.args.change.now) rest x new) (λ e. new ≡ x)) c.anchor.view_is all.is
 
-pub change_table-returns-in-len1-up-clause-length : goal.change_table-returns-in-len1-up-clause-length
-change_table-returns-in-len1-up-clause-length t c =
+pub change_below-returns-in-len1-up-clause-length : goal.change_below-returns-in-len1-up-clause-length
+change_below-returns-in-len1-up-clause-length t c =
     let own = c.anchor.inside in
     let held = map rule_of own.items.value.items in
     let rest = c.args.rest.now in
     let n = c.first-item.result in
     let more = take (length rest - 1) (drop 1 rest) in
     let cut = cons_is rest n c.in-len1-up.len_at_least c.first-item.is in
-    let all = kid_changes c.change_kid.result c.args.edit c.args.entry.now c.args.name.now n own.names.items more rest held own.tables (shared own.kids.items) (shared c.change_kid.new.kids.items) c.anchor.invariant.1 cut c.change_kid.ensures in
+    let all = kid_changes c.change_kid.result (Makes c.args.change.now) n own.names.items more rest held own.tables (shared own.kids.items) (shared c.change_kid.new.kids.items) c.anchor.invariant.1 cut c.change_kid.ensures in
     subst (λ (x : AnchorTree). length (own_entry own.names.items held own.tables ++ below (shared c.change_kid.new.kids.items)) ≡ length x.anchors) c.anchor.view_is all.long
