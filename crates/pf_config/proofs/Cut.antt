@@ -14,6 +14,7 @@ use Rattle.pf_config.specs.Changes.{is_empty, is_nothing, unless_nothing, is_som
 use Rattle.pf_config.specs.Trees.{AnchorTree, below, own_entry, last_name, IsKid, AreKids, and_then}
 use Rattle.pf_config.specs.inner.Trees.{some_kid, room_after, own_count, any_unnamed, is_idle, sheds, any_sheds}
 use Rattle.pf_config.specs.inner.Trees.{are_apart}
+use Rattle.pf_config.specs.inner.Referring.{is_fleeting, may_shed, any_may_shed}
 use Rattle.pf_config.proofs.Treed.{both_true, bytes_same, same_bytes, begins, begins_more, kid_begins, kids_above, append_nil}
 use Rattle.pf_config.proofs.Entries.{below_append, below_some}
 use Rattle.pf_config.proofs.Descents.{begins_chain}
@@ -196,7 +197,7 @@ pub next_kid : {X : Type 0} (ks : List X) (i : ℕ) (k : X) → i < length ks �
 next_kid {X} ks i k n f = drop-cons ks i k n ∙ ap (λ (x : X). x ∷ drop (suc i) ks) (sym f) ∙ ap (λ j. k ∷ drop j ks) (sym (add-one i))
 
 -- what is left once nothing goes
-or_false : (a b : Bool) → (a || b) ≡ false → (a ≡ false) × (b ≡ false)
+pub or_false : (a b : Bool) → (a || b) ≡ false → (a ≡ false) × (b ≡ false)
 or_false true b h = cc
 or_false false b h = (refl, h)
 
@@ -237,7 +238,15 @@ sheds_alone all p (r ∷ rules) tables = or_nothing (list_any (is_idle all (reco
 pub sheds_own : (all : List AnchorValue) (p : Path) (rules : List AnyRule) (tables : List (Name × TableValue)) (ks : List AnchorTree) → any_sheds all (own_entry p rules tables ++ below ks) ≡ (list_any (is_idle all (record { path = p; rules = rules; tables = [] })) tables || any_sheds all (below ks))
 sheds_own all p rules tables ks = any_append (sheds all) (own_entry p rules tables) (below ks) ∙ ap (λ b. b || any_sheds all (below ks)) (sheds_alone all p rules tables)
 
-not_false : (b : Bool) → not b ≡ false → b ≡ true
+may_shed_alone : (p : Path) (rules : List AnyRule) (tables : List (Name × TableValue)) → any_may_shed (own_entry p rules tables) ≡ list_any is_fleeting tables
+may_shed_alone p [] [] = refl
+may_shed_alone p [] (t ∷ tables) = or_nothing (list_any is_fleeting (t ∷ tables))
+may_shed_alone p (r ∷ rules) tables = or_nothing (list_any is_fleeting tables)
+
+pub may_shed_own : (p : Path) (rules : List AnyRule) (tables : List (Name × TableValue)) (ks : List AnchorTree) → any_may_shed (own_entry p rules tables ++ below ks) ≡ (list_any is_fleeting tables || any_may_shed (below ks))
+may_shed_own p rules tables ks = any_append may_shed (own_entry p rules tables) (below ks) ∙ ap (λ b. b || any_may_shed (below ks)) (may_shed_alone p rules tables)
+
+pub not_false : (b : Bool) → not b ≡ false → b ≡ true
 not_false true h = refl
 not_false false h = cc
 

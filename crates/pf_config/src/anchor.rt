@@ -15,7 +15,7 @@ ghost use Rattle.pf_config.specs.Ordered.{AreOrdered};
 ghost use Rattle.pf_config.specs.Orders.{stops_of, others_of};
 ghost use Rattle.pf_config.specs.inner.KidOrder.{AreInOrder};
 ghost use Rattle.pf_config.specs.inner.TableChanges.{Makes, TreeChangesIf, KidChangesIf};
-ghost use Rattle.pf_config.specs.inner.Referring.{Gains, KnowsAll};
+ghost use Rattle.pf_config.specs.inner.Referring.{Gains, KnowsAll, any_may_shed};
 ghost use Rattle.pf_config.specs.declared.config.TheConstants.{RULES_MAX};
 
 use crate::below::{
@@ -28,7 +28,7 @@ use crate::order::{Order, order_of};
 use crate::own::{are_apart, has_entry, is_own_unnamed, is_unnamed_below, own_room, push_own_path};
 use crate::own_rules::OwnRules;
 use crate::paths::copied_path;
-use crate::referred::Referred;
+use crate::referred::{Referred, any_fleeting};
 use crate::tables::{Tables, named};
 use crate::unused::{any_unused, items_refer, used_tables};
 use pf_rules::{Item, Name, TableName};
@@ -292,6 +292,22 @@ impl Anchor {
             kid.put_referred(alloc, names)?;
         }
         Ok(())
+    }
+
+    /// Whether a table here or below doesn't persist.
+    #[tactic(auto, using(crate::proofs::Cut::may_shed_own))]
+    pub(crate) fn has_fleeting(&self) -> bool
+        ensures { result ≡ any_may_shed self.now.anchors }
+    {
+        if any_fleeting(self.tables.list()) {
+            return true;
+        }
+        for kid in &self.kids {
+            if kid.has_fleeting() {
+                return true;
+            }
+        }
+        false
     }
 
     /// Whether a table here or below neither persists nor is referred to by a rule of the whole configuration. The

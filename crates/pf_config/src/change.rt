@@ -3,12 +3,13 @@
 ghost use Rattle.std.specs.Prelude.{◌≡◌, ◌≤◌, MatchResult, length, map};
 ghost use Rattle.pf_rules.specs.Seen.{rule_of};
 ghost use Rattle.pf_config.specs.Orders.{IsOrder};
-ghost use Rattle.pf_config.specs.inner.TableChanges.{IsGiven, Makes, OwnChangesIf};
+ghost use Rattle.pf_config.specs.inner.TableChanges.{IsGiven, Makes, OwnChangesIf, makes_fleeting};
 ghost use Rattle.pf_config.specs.declared.config.TheConstants.{RULES_MAX};
 
 use crate::order::Order;
 use crate::own::has_entry;
 use crate::own_rules::OwnRules;
+use crate::referred::any_fleeting;
 use crate::tables::Tables;
 use pf_rules::{Item, TableEntry, TableName};
 use pf_tables::{Edit, Table};
@@ -73,5 +74,18 @@ pub(crate) fn change_own(
         Change::Entry(name, entry, edit) => tables.edit(name, entry, *edit),
         Change::Whole(name, table) => tables.put(alloc, name, table),
         Change::Own(rules, held) => place(items, order, tables, rules, held),
+    }
+}
+
+impl Change<'_> {
+    /// Whether a table that it makes doesn't persist.
+    pub(crate) fn makes_fleeting(&self) -> bool
+        ensures { result ≡ makes_fleeting self.now }
+    {
+        match self {
+            Change::Entry(_, _, _) => false,
+            Change::Whole(_, table) => !table.persist(),
+            Change::Own(_, tables) => any_fleeting(tables.list()),
+        }
     }
 }

@@ -51,7 +51,7 @@ pub(crate) fn tables_at(alloc: Global, main: &Anchor, path: &[Name]) -> Result<T
 }
 
 /// Whether a path of the map begins with this one and an unnamed name. The anchor at the path alone is asked.
-fn has_unnamed(main: &Anchor, path: &[Name]) -> bool
+pub(crate) fn has_unnamed(main: &Anchor, path: &[Name]) -> bool
     requires { main.now.names ≡ [] }
     ensures { result ≡ any_unnamed path.now main.now.anchors }
 {

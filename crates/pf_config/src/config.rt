@@ -12,7 +12,7 @@ ghost use Rattle.pf_config.specs.inner.Changes.{FailsWith};
 ghost use Rattle.pf_config.specs.Changes.{add, replace, delete, flush_table, set_table, filled, new_table};
 ghost use Rattle.pf_config.specs.Changes.{load_ruleset};
 ghost use Rattle.pf_rules.specs.Rulesets.{ruleset_of};
-ghost use Rattle.pf_config.specs.inner.TableChanges.{commanded, GivesIf, Makes, MapChangesIf};
+ghost use Rattle.pf_config.specs.inner.TableChanges.{commanded, GivesIf, LoadsIf, Makes, MapChangesIf};
 ghost use Rattle.pf_config.specs.inner.Texts.{definition_of};
 ghost use Rattle.pf_config.specs.Ordered.{AreOrdered};
 ghost use Rattle.pf_config.specs.SkippedNames.{is_listed};
@@ -22,12 +22,14 @@ ghost use Rattle.pf_config.specs.declared.config.TheConstants.{RULES_MAX, ANCHOR
 use crate::anchor::{Anchor, change_below};
 use crate::blocks::blocks_in;
 use crate::change::Change;
-use crate::changed::{placed, tidied, with_tables};
+use crate::changed::{has_unnamed, placed, tables_at, tidied, with_tables};
 use crate::depths::go_too_deep;
 use crate::fault::ConfigFault;
-use crate::loading::{any_too_deep, is_too_deep, loaded};
+use crate::loading::{any_too_deep, is_too_deep, loaded, with_definitions};
+use crate::own_rules::OwnRules;
 use crate::paths::copied_path;
 use crate::placing::Placing;
+use crate::referred::any_fleeting;
 use crate::skipped::Skipped;
 use crate::tables::{Tables, named, names_of, with_table};
 use crate::walk::descend;
@@ -52,17 +54,21 @@ pub struct Config {
     alloc: Global,
     skip: Skipped,
     main: Anchor,
+    /// False only where each table persists: a load then asks no rules which tables they refer to.
+    has_fleeting: bool,
 }
 
 impl Model for Config {
-    ghost use Rattle.std.specs.Prelude.{◌≡◌, ◌≤◌, [], length};
+    ghost use Rattle.std.specs.Prelude.{◌≡◌, ◌≤◌, ◌&&◌, [], length, not, false};
     ghost use Rattle.pf_config.specs.Map.{Configuration};
+    ghost use Rattle.pf_config.specs.inner.Referring.{any_may_shed};
 
     ghost Value = { Configuration };
 
     ghost view = { λ c. record { skip = c.skip; anchors = c.main.anchors } };
 
-    ghost invariant = { λ c. (c.main.names ≡ []) × (length c.main.anchors ≤ 1024) };
+    ghost invariant = { λ c. (c.main.names ≡ []) × (length c.main.anchors ≤ 1024)
+        × ((not c.has_fleeting && any_may_shed c.main.anchors) ≡ false) };
 }
 
 impl Config {
@@ -75,6 +81,7 @@ impl Config {
             alloc,
             skip: Skipped::new(alloc),
             main,
+            has_fleeting: false,
         })
     }
 
@@ -164,7 +171,7 @@ impl Config {
         ensures { Changes result self.old self.new (Ok (flush_tables self.old path.now)) }
     {
         let next = with_tables(self.alloc, &self.main, path, Tables::new(self.alloc)?)?;
-        self.main = next;
+        self.put(next);
         Ok(())
     }
 
@@ -216,6 +223,9 @@ impl Config {
         if is_too_deep(own) || any_too_deep(blocks) {
             return Err(ConfigFault::BadPath);
         }
+        if self.load_alone(own, definitions, blocks)? {
+            return Ok(());
+        }
         let next = loaded(self.alloc, &self.main, own, definitions, blocks)?;
         if !has_room(&next) {
             return Err(ConfigFault::AnchorsFull);
@@ -223,8 +233,35 @@ impl Config {
         if own.path().is_empty() {
             self.skip = Skipped::of(self.alloc, skip)?;
         }
-        self.main = next;
+        self.put(next);
         Ok(())
+    }
+
+    /// Loads rules and tables at a path in place, if no blocks come or go and each table persists. False, and nothing
+    /// is changed, where that can't be done, and for main.
+    fn load_alone(
+        &mut self,
+        own: &Placing,
+        definitions: &[TableDef],
+        blocks: &[Placing],
+    ) -> Result<bool, AllocError>
+        ensures { MatchResult result (λ done. LoadsIf done own.now (map definition_of definitions.now) blocks.now
+            self.old self.new) (λ e. self.new ≡ self.old) }
+    {
+        let path = own.path();
+        if path.is_empty() || !blocks.is_empty() {
+            return Ok(false);
+        }
+        if self.has_fleeting || has_unnamed(&self.main, path) {
+            return Ok(false);
+        }
+        let rules = OwnRules::of(self.alloc, own.items()?)?;
+        let old = tables_at(self.alloc, &self.main, path)?;
+        let tables = with_definitions(self.alloc, old, definitions)?;
+        if any_fleeting(tables.list()) {
+            return Ok(false);
+        }
+        self.change(path, &Change::Own(&rules, &tables))
     }
 
     /// Removes the rules of a path, its unnamed blocks, and the tables that no rule refers to any more.
@@ -235,7 +272,7 @@ impl Config {
         let items = Rc::new(self.alloc, Vec::new(self.alloc))?;
         let left = placed(self.alloc, self.main.copied(self.alloc)?, path, items)?;
         let next = tidied(self.alloc, left)?;
-        self.main = next;
+        self.put(next);
         Ok(())
     }
 
@@ -248,7 +285,7 @@ impl Config {
         let left = placed(self.alloc, self.main.copied(self.alloc)?, path, items)?;
         let tidy = tidied(self.alloc, left)?;
         let next = with_tables(self.alloc, &tidy, path, Tables::new(self.alloc)?)?;
-        self.main = next;
+        self.put(next);
         Ok(())
     }
 
@@ -321,11 +358,22 @@ impl Config {
         self.set_table(path, name, &table)
     }
 
+    /// Puts a new map in the place of the old one.
+    fn put(&mut self, main: Anchor)
+        requires names { main.names ≡ [] }
+        requires few { length main.anchors ≤ ANCHORS_MAX }
+        ensures { self.new ≡ record { skip = self.old.skip; anchors = main.anchors } }
+    {
+        self.has_fleeting = main.has_fleeting();
+        self.main = main;
+    }
+
     /// Makes a change at a path in place. False, and nothing is changed, where that can't be done.
     fn change(&mut self, path: &[Name], change: &Change) -> Result<bool, AllocError>
         ensures { MatchResult result (λ done. MapChangesIf done (Makes change.now) path.now self.old self.new)
             (λ e. self.new ≡ self.old) }
     {
+        self.has_fleeting = self.has_fleeting || change.makes_fleeting();
         change_below(self.alloc, &mut self.main, path, change)
     }
 
@@ -364,7 +412,7 @@ impl Config {
         if !has_room(&next) {
             return Err(ConfigFault::AnchorsFull);
         }
-        self.main = next;
+        self.put(next);
         Ok(())
     }
 }

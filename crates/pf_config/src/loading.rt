@@ -70,7 +70,7 @@ fn defined_table(
 }
 
 /// The tables with each definition in its turn.
-fn with_definitions(
+pub(crate) fn with_definitions(
     alloc: Global,
     tables: Tables,
     definitions: &[TableDef],

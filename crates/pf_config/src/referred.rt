@@ -104,7 +104,7 @@ impl Referred {
 }
 
 /// Whether one of the tables doesn't persist.
-fn any_fleeting(tables: &[(TableName, Table)]) -> bool
+pub(crate) fn any_fleeting(tables: &[(TableName, Table)]) -> bool
     ensures { result ≡ list_any is_fleeting tables.now }
 {
     for entry in tables {

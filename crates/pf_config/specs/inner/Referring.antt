@@ -5,7 +5,7 @@ use Rattle.std.specs.Global.{Vec}
 use Rattle.pf_rules.specs.Names.{Name}
 use Rattle.pf_tables.specs.Tables.{TableValue}
 use Rattle.pf_config.specs.Map.{AnchorValue}
-use Rattle.pf_config.specs.Changes.{refer}
+use Rattle.pf_config.specs.Changes.{refer, is_nothing}
 use Rattle.pf_config.specs.SkippedNames.{is_listed}
 
 -- the names that a set has as its keys
@@ -36,3 +36,10 @@ goes_by names t = not (stays_by names t)
 -- a table that may go
 abbrev pub is_fleeting : Name × TableValue → Bool
 is_fleeting t = not t.1.persist
+
+-- the entry holds nothing, or a table that may go
+abbrev pub may_shed : AnchorValue → Bool
+may_shed a = is_nothing a || list_any is_fleeting a.tables
+
+abbrev pub any_may_shed : List AnchorValue → Bool
+any_may_shed anchors = list_any may_shed anchors

@@ -1,7 +1,7 @@
 -- A change in place: of one table, or of the rules and tables of a path.
 use Rattle.std.specs.Prelude.{◌≡◌, ℕ, Bool, true, false, ◌&&◌, ◌<◌, ◌≤◌, List, ◌∷◌, ◌++◌, length, take, drop, get_or}
 use Rattle.std.specs.Prelude.{Option, Some, None, Result, Ok, find, not, nat_lt, if◌then◌else◌, map}
-use Rattle.std.specs.List.{list_all}
+use Rattle.std.specs.List.{list_all, list_any}
 use Rattle.pf_rules.specs.declared.ruleset.TableEntry.{TableEntry}
 use Rattle.pf_rules.specs.Names.{Name, is_before}
 use Rattle.pf_tables.specs.declared.edits.Edit.{Edit}
@@ -15,6 +15,8 @@ use Rattle.pf_config.specs.declared.change.Change.{Change}
 use Rattle.pf_config.specs.declared.change.Change.TheVariants.{Entry, Whole, Own}
 use Rattle.pf_config.specs.declared.fault.ConfigFault.{ConfigFault}
 use Rattle.pf_config.specs.Changes.{is_empty, with_table, with_contents, with_anchor, add, delete}
+use Rattle.pf_config.specs.Changes.{Block, Definition, loaded, unless_full}
+use Rattle.pf_config.specs.inner.Referring.{is_fleeting}
 use Rattle.pf_config.specs.Trees.{AnchorTree, tree_at}
 use Rattle.pf_config.specs.inner.Trees.{is_named, kids_before, kids_behind, placed_in}
 
@@ -82,6 +84,12 @@ Makes (Whole name t) rules tables rules' tables' = (rules' ≡ rules) × (tables
 Makes (Own own held) rules tables rules' tables' = IsGiven (map rule_of own.now.items.value.items) held.now rules
     tables rules' tables'
 
+-- a table that it makes may go
+abbrev pub makes_fleeting : Change → Bool
+makes_fleeting (Entry name e edit) = false
+makes_fleeting (Whole name t) = not t.now.persist
+makes_fleeting (Own own held) = list_any is_fleeting held.now
+
 -- rules and tables of which there are some are changed, or they are as they were
 abbrev pub OwnChangesIf : Bool → Changing → List AnyRule → List (Name × TableValue) → List AnyRule →
     List (Name × TableValue) → Type 0
@@ -145,3 +153,9 @@ commanded Remove c p name list = delete c p name list
 abbrev pub GivesIf : Bool → Result Configuration ConfigFault → Configuration → Configuration → Type 0
 GivesIf true given old new = given ≡ Ok new
 GivesIf false given old new = new ≡ old
+
+-- the new configuration is the one after a load at a path that isn't main's, or it is as it was
+abbrev pub LoadsIf : Bool → Block → List Definition → List Block → Configuration → Configuration → Type 0
+LoadsIf true own definitions blocks old new = (is_empty own.path ≡ false) ×
+    (unless_full old.skip (loaded own definitions blocks old.anchors) ≡ Ok new)
+LoadsIf false own definitions blocks old new = new ≡ old
