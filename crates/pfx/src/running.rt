@@ -9,21 +9,33 @@ use cli_nft::{asks_nft, run_nft};
 use cli_node::run_net;
 use cli_show::run_show;
 use pf_tool::run;
-use std::convert::AsStr;
 use std::io::{Read, Write};
 
 /// The first argument behind the program's name, empty where there is none.
-pub(crate) fn subcommand_of<S: AsStr>(arguments: &[S]) -> &str {
-    match arguments.get(1) {
-        Some(argument) => argument.as_str(),
-        None => "",
+pub(crate) fn subcommand_of<'a>(arguments: &[&'a str]) -> &'a str {
+    match arguments {
+        [_, subcommand, ..] => subcommand,
+        _ => "",
+    }
+}
+
+/// `help SUBCOMMAND` as `SUBCOMMAND --help`, where a crate of its own has its options.
+pub(crate) fn helped<'a>(arguments: &[&'a str]) -> Option<[&'a str; 3]> {
+    match arguments {
+        [name, "help", subcommand] => match *subcommand {
+            "node" | "ask" | "key" | "show" | "follow" | "batch" => Some([
+                name, subcommand, "--help",
+            ]),
+            _ => None,
+        },
+        _ => None,
     }
 }
 
 /// Whether an argument is `--control`, with its value or without.
-fn has_control<S: AsStr>(arguments: &[S]) -> bool {
+fn has_control(arguments: &[&str]) -> bool {
     for argument in arguments {
-        if argument.as_str().starts_with("--control") {
+        if argument.starts_with("--control") {
             return true;
         }
     }
@@ -31,22 +43,21 @@ fn has_control<S: AsStr>(arguments: &[S]) -> bool {
 }
 
 /// Whether help is asked for, and of neither way to ask a node alone.
-fn asks_help<S: AsStr>(arguments: &[S]) -> bool {
+fn asks_help(arguments: &[&str]) -> bool {
     let mut is_help = false;
     for argument in arguments {
-        let argument = argument.as_str();
         if argument.starts_with("--to") {
             return false;
         }
-        is_help = is_help || argument == "--help" || argument == "-h";
+        is_help = is_help || *argument == "--help" || *argument == "-h";
     }
     is_help
 }
 
 /// Writes the help of `ask`: of the control socket's form, then of the one over UDP.
-fn help_ask<S: AsStr, R: Read, W: Write>(
+fn help_ask<R: Read, W: Write>(
     rt: &HostRuntime,
-    arguments: &[S],
+    arguments: &[&str],
     reader: &mut R,
     writer: &mut W,
 ) -> Status {
@@ -69,9 +80,9 @@ fn tell_version<W: Write>(writer: &mut W) -> Status {
 }
 
 /// Does what the arguments ask for, as the crate of their subcommand has it.
-fn run_plain<S: AsStr, R: Read, W: Write, E: Write>(
+fn run_plain<R: Read, W: Write, E: Write>(
     rt: &HostRuntime,
-    arguments: &[S],
+    arguments: &[&str],
     reader: &mut R,
     writer: &mut W,
     errors: &mut E,
@@ -101,9 +112,9 @@ fn run_plain<S: AsStr, R: Read, W: Write, E: Write>(
 }
 
 /// The same on a terminal, with what the refusal means.
-fn run_explained<S: AsStr, R: Read, W: Write, E: Write>(
+fn run_explained<R: Read, W: Write, E: Write>(
     rt: &HostRuntime,
-    arguments: &[S],
+    arguments: &[&str],
     reader: &mut R,
     writer: &mut W,
     errors: &mut E,
@@ -119,9 +130,9 @@ fn run_explained<S: AsStr, R: Read, W: Write, E: Write>(
 
 /// Does what the arguments ask for, the program's name first; `is_terminal` says whether `errors` is a terminal. All
 /// subcommands but `batch`.
-pub(crate) fn run_line<S: AsStr, R: Read, W: Write, E: Write>(
+pub(crate) fn run_line<R: Read, W: Write, E: Write>(
     rt: &HostRuntime,
-    arguments: &[S],
+    arguments: &[&str],
     reader: &mut R,
     writer: &mut W,
     errors: &mut E,
