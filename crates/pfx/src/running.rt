@@ -9,6 +9,7 @@ use cli_nft::{asks_nft, run_nft};
 use cli_node::run_net;
 use cli_show::run_show;
 use pf_tool::run;
+use std::alloc::{AllocError, Global};
 use std::io::{Read, Write};
 
 /// The first argument behind the program's name, empty where there is none.
@@ -52,6 +53,43 @@ fn asks_help(arguments: &[&str]) -> bool {
         is_help = is_help || *argument == "--help" || *argument == "-h";
     }
     is_help
+}
+
+/// Whether a control socket may be named by the environment: `ask` or `follow` names none, and asks for no help; `ask`
+/// no node's address.
+pub(crate) fn lacks_control(arguments: &[&str]) -> bool {
+    match subcommand_of(arguments) {
+        "ask" | "follow" => {
+            for argument in arguments {
+                if argument.starts_with("--control")
+                    || argument.starts_with("--to")
+                    || *argument == "--help"
+                    || *argument == "-h"
+                {
+                    return false;
+                }
+            }
+            true
+        }
+        _ => false,
+    }
+}
+
+/// The arguments with `--control PATH` behind the subcommand.
+pub(crate) fn with_control<'a>(
+    alloc: Global,
+    arguments: &[&'a str],
+    path: &'a str,
+) -> Result<Vec<&'a str>, AllocError> {
+    let mut all = Vec::new(alloc);
+    if let [name, subcommand, rest @ ..] = arguments {
+        all.push(*name)?;
+        all.push(*subcommand)?;
+        all.push("--control")?;
+        all.push(path)?;
+        all.extend_from_slice(rest)?;
+    }
+    Ok(all)
 }
 
 /// Writes the help of `ask`: of the control socket's form, then of the one over UDP.
