@@ -1,8 +1,8 @@
 -- From contents back to paths, and from tables to their names.
-use Rattle.std.proofs.Common.{◌≡◌, List, [], ◌∷◌, Option, map, sym, ap, ◌∙◌, refl, fst, ◌×◌}
+use Rattle.std.proofs.Common.{◌≡◌, List, [], ◌∷◌, Option, map, sym, ap, ◌∙◌, refl}
 use Rattle.pf_rules.specs.Names.{Name}
 use Rattle.pf_tables.specs.Tables.{TableValue}
-use Rattle.pf_config.specs.Map.{Configuration, Path, paths_in, table_at, table_names}
+use Rattle.pf_config.specs.Map.{Configuration, Path, paths_in, table_names}
 use Rattle.pf_dump.specs.Contents.{Content, content_at, contents, tables_named, tables_of}
 
 paths_back : (c : Configuration) (ps : List Path) → map (λ (x : Content). x.path) (map (content_at c) ps) ≡ ps

@@ -1,4 +1,4 @@
-use Rattle.std.proofs.Common.{◌≡◌, map, length}
+use Rattle.std.proofs.Common.{◌≡◌, length}
 use Rattle.pf_dump.proofs.same.same_entries.Given as goal
 
 -- where the rests are the same, and only there, all is
