@@ -3,8 +3,9 @@
 ghost use Rattle.std.specs.Prelude.{◌≡◌, IfOk, false};
 ghost use Rattle.clap.specs.declared.builder.command.Command.TheViews.{out-Command};
 
+use clap::Command;
 use clap::builder::ValueParser;
-use clap::{Arg, ArgAction, Command};
+use cli_io::{flag, valued, with_option};
 use pf_arguments::pfctl_args;
 use std::alloc::{AllocError, Global};
 
@@ -39,31 +40,12 @@ const BELOW: &str = "Words of a change, or of a listing; or, without pfctl's opt
   sync             asks what changes nothing       stop              ends the node
 A refusal is refused CODE; 85 nobody answers at the control socket, 86 the answer is none.";
 
-/// An option with a value.
-fn valued<'a>(alloc: Global, name: &'a str, help: &'a str) -> Arg<'a>
-    ensures local { result.global ≡ false }
-{
-    Arg::new(alloc, name)
-        .long(name)
-        .action(ArgAction::Set)
-        .help(help)
-}
-
-/// Adds one option.
-fn with<'a>(command: Command<'a>, arg: Arg<'a>) -> Result<Command<'a>, AllocError>
-    requires command { (out-Command command).has_globals ≡ false }
-    requires arg { arg.global ≡ false }
-    ensures local { IfOk result (λ c. (out-Command c).has_globals ≡ false) }
-{
-    command.arg(arg)
-}
-
 /// `--wait S`
 fn with_wait<'a>(alloc: Global, command: Command<'a>) -> Result<Command<'a>, AllocError>
     requires command { (out-Command command).has_globals ≡ false }
     ensures local { IfOk result (λ c. (out-Command c).has_globals ≡ false) }
 {
-    with(
+    with_option(
         command,
         valued(alloc, "wait", WAIT).value_parser(ValueParser::Unsigned(0, WAIT_MAX)),
     )
@@ -74,7 +56,7 @@ fn with_at<'a>(alloc: Global, command: Command<'a>) -> Result<Command<'a>, Alloc
     requires command { (out-Command command).has_globals ≡ false }
     ensures local { IfOk result (λ c. (out-Command c).has_globals ≡ false) }
 {
-    with(
+    with_option(
         command,
         valued(alloc, "at", AT).value_parser(ValueParser::Unsigned(0, POSITIONS)),
     )
@@ -85,11 +67,7 @@ fn with_unchecked<'a>(alloc: Global, command: Command<'a>) -> Result<Command<'a>
     requires command { (out-Command command).has_globals ≡ false }
     ensures local { IfOk result (λ c. (out-Command c).has_globals ≡ false) }
 {
-    let unchecked = Arg::new(alloc, "unchecked")
-        .long("unchecked")
-        .action(ArgAction::SetTrue)
-        .help(UNCHECKED);
-    with(command, unchecked)
+    with_option(command, flag(alloc, "unchecked", UNCHECKED))
 }
 
 /// `--script FILE [--from LINE]`
@@ -97,8 +75,8 @@ fn with_script<'a>(alloc: Global, command: Command<'a>) -> Result<Command<'a>, A
     requires command { (out-Command command).has_globals ≡ false }
     ensures local { IfOk result (λ c. (out-Command c).has_globals ≡ false) }
 {
-    let command = with(command, valued(alloc, "script", SCRIPT))?;
-    with(
+    let command = with_option(command, valued(alloc, "script", SCRIPT))?;
+    with_option(
         command,
         valued(alloc, "from", FROM).value_parser(ValueParser::Unsigned(1, LINES)),
     )
@@ -111,7 +89,7 @@ fn ask_command<'a>(alloc: Global) -> Result<Command<'a>, AllocError>
     let ask = Command::new(alloc, "ask")
         .about("Asks a node at its control socket")
         .after_help(BELOW);
-    let command = with(ask, valued(alloc, "control", CONTROL).required(true))?;
+    let command = with_option(ask, valued(alloc, "control", CONTROL).required(true))?;
     let command = with_wait(alloc, command)?;
     let command = with_at(alloc, command)?;
     let command = with_unchecked(alloc, command)?;

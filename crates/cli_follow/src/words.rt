@@ -3,7 +3,8 @@
 ghost use Rattle.std.specs.Prelude.{◌≡◌, IfOk, false};
 ghost use Rattle.clap.specs.declared.builder.command.Command.TheViews.{out-Command};
 
-use clap::{Arg, ArgAction, Command, value_parser};
+use clap::{Command, value_parser};
+use cli_io::{flag, valued, with_option};
 use std::alloc::{AllocError, Global};
 
 const CONTROL: &str = "The Unix socket at which the node answers operators";
@@ -29,25 +30,6 @@ their addresses and ports passes whatever the rules say, with later fragments, a
 packet too big. A control socket where nobody answers is asked again. Refusals are said on standard error: 87 and 88 as for
 check --nft, what was written before stands; 89 the file of interfaces, 40 words that don't go together, and it ends.";
 
-/// An option with a value.
-fn valued<'a>(alloc: Global, name: &'a str, help: &'a str) -> Arg<'a>
-    ensures local { result.global ≡ false }
-{
-    Arg::new(alloc, name)
-        .long(name)
-        .action(ArgAction::Set)
-        .help(help)
-}
-
-/// Adds one option.
-fn with<'a>(command: Command<'a>, arg: Arg<'a>) -> Result<Command<'a>, AllocError>
-    requires command { (out-Command command).has_globals ≡ false }
-    requires arg { arg.global ≡ false }
-    ensures local { IfOk result (λ c. (out-Command c).has_globals ≡ false) }
-{
-    command.arg(arg)
-}
-
 /// `follow --control PATH [--nft --interfaces FILE [--no-member-guard]] [--pf DIR] [--turns T]`
 fn follow_command<'a>(alloc: Global) -> Result<Command<'a>, AllocError>
     ensures local { IfOk result (λ c. (out-Command c).has_globals ≡ false) }
@@ -55,20 +37,12 @@ fn follow_command<'a>(alloc: Global) -> Result<Command<'a>, AllocError>
     let follow = Command::new(alloc, "follow")
         .about("Follows what a node applies, as rules for a kernel")
         .after_help(BELOW);
-    let nft = Arg::new(alloc, "nft")
-        .long("nft")
-        .action(ArgAction::SetTrue)
-        .help(NFT);
-    let no_guard = Arg::new(alloc, "no-member-guard")
-        .long("no-member-guard")
-        .action(ArgAction::SetTrue)
-        .help(NO_GUARD);
-    let command = with(follow, valued(alloc, "control", CONTROL).required(true))?;
-    let command = with(command, nft)?;
-    let command = with(command, valued(alloc, "interfaces", INTERFACES))?;
-    let command = with(command, no_guard)?;
-    let command = with(command, valued(alloc, "pf", PF))?;
-    with(
+    let command = with_option(follow, valued(alloc, "control", CONTROL).required(true))?;
+    let command = with_option(command, flag(alloc, "nft", NFT))?;
+    let command = with_option(command, valued(alloc, "interfaces", INTERFACES))?;
+    let command = with_option(command, flag(alloc, "no-member-guard", NO_GUARD))?;
+    let command = with_option(command, valued(alloc, "pf", PF))?;
+    with_option(
         command,
         valued(alloc, "turns", TURNS).value_parser(value_parser!(u64)),
     )

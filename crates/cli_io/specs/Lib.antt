@@ -1,3 +1,4 @@
+pub mod Options
 pub mod Status
 pub mod Written
 pub mod Shown

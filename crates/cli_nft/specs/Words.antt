@@ -11,6 +11,7 @@ use Rattle.clap.specs.Lexer.{usize_max}
 use Rattle.node_udp.specs.declared.address.Address.{Address}
 use Rattle.node_udp.specs.Addresses.{address_of}
 use Rattle.nft_rules.specs.declared.guard.Member.{Member}
+use Rattle.cli_io.specs.Options.{flag_rule}
 use Rattle.cli_nft.specs.declared.members.TheConstants.{MEMBERS_MAX}
 
 -- ---- members
@@ -35,10 +36,6 @@ unfoldable pub members_in : List Text → Option (List Member)
 members_in texts = if nat_lt MEMBERS_MAX (length texts) then None else members_at texts
 
 -- ---- words
-
--- --NAME
-abbrev pub flag_rule : Text → Rule
-flag_rule id = record (new_rule id) { long = Some id; action = Some SetTrue }
 
 -- --NAME VALUE, which has to be there
 abbrev pub needed_rule : Text → Rule

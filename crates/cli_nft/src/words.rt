@@ -1,12 +1,15 @@
 //! The words `check --nft`, as `clap` reads them.
 
 ghost use Rattle.std.specs.Prelude.{◌≡◌, IfOk, false, codes};
-ghost use Rattle.clap.specs.Words.{app_of, rule_of, with_rule};
+ghost use Rattle.clap.specs.Words.{app_of, rule_of};
 ghost use Rattle.clap.specs.declared.builder.command.Command.TheViews.{out-Command};
-ghost use Rattle.cli_nft.specs.Words.{flag_rule, needed_rule, several_rule, number_rule, check_app, nft_app};
+ghost use Rattle.cli_nft.specs.Words.{needed_rule, several_rule, number_rule, check_app, nft_app};
 
 use clap::{Arg, ArgAction, Command, value_parser};
+use cli_io::{flag, valued, with_option};
 use std::alloc::{AllocError, Global};
+
+const NFT: &str = "As what nft(8) loads";
 
 const INTERFACES: &str = "The machine's interfaces, a line each: its name, then its groups";
 
@@ -23,27 +26,12 @@ as for check, and
   40 a member is no ADDRESS:PORT, or there are more than 15
   87 an anchor rule leads back   88 a packet would meet more than 100000 rules   89 the file of interfaces";
 
-/// `--nft`
-fn nft<'a>(alloc: Global) -> Arg<'a>
-    ensures rule { rule_of result ≡ flag_rule (codes "nft") }
-    ensures local { result.global ≡ false }
-{
-    Arg::new(alloc, "nft")
-        .long("nft")
-        .action(ArgAction::SetTrue)
-        .help("As what nft(8) loads")
-}
-
 /// `--interfaces FILE`
 fn interfaces<'a>(alloc: Global) -> Arg<'a>
     ensures rule { rule_of result ≡ needed_rule (codes "interfaces") }
     ensures local { result.global ≡ false }
 {
-    Arg::new(alloc, "interfaces")
-        .long("interfaces")
-        .required(true)
-        .action(ArgAction::Set)
-        .help(INTERFACES)
+    valued(alloc, "interfaces", INTERFACES).required(true)
 }
 
 /// `--members ADDRESS:PORT..`
@@ -63,21 +51,7 @@ fn position<'a>(alloc: Global) -> Arg<'a>
     ensures rule { rule_of result ≡ number_rule (codes "position") }
     ensures local { result.global ≡ false }
 {
-    Arg::new(alloc, "position")
-        .long("position")
-        .action(ArgAction::Set)
-        .value_parser(value_parser!(u32))
-        .help(POSITION)
-}
-
-/// Adds one option.
-fn with_option<'a>(command: Command<'a>, arg: Arg<'a>) -> Result<Command<'a>, AllocError>
-    requires command { (out-Command command).has_globals ≡ false }
-    requires arg { arg.global ≡ false }
-    ensures app { IfOk result (λ c. app_of c ≡ with_rule (app_of command.entry) (rule_of arg.entry)) }
-    ensures local { IfOk result (λ c. (out-Command c).has_globals ≡ false) }
-{
-    command.arg(arg)
+    valued(alloc, "position", POSITION).value_parser(value_parser!(u32))
 }
 
 /// `check --nft --interfaces FILE [--members ADDRESS:PORT..] [--position N]`
@@ -88,7 +62,7 @@ fn check_command<'a>(alloc: Global) -> Result<Command<'a>, AllocError>
     let command = Command::new(alloc, "check")
         .about("Shows a text of rules as what nft(8) loads on a machine")
         .after_help(BELOW);
-    let command = with_option(command, nft(alloc))?;
+    let command = with_option(command, flag(alloc, "nft", NFT))?;
     let command = with_option(command, interfaces(alloc))?;
     let command = with_option(command, members(alloc))?;
     with_option(command, position(alloc))

@@ -5,6 +5,7 @@ ghost use Rattle.clap.specs.declared.builder.command.Command.TheViews.{out-Comma
 
 use clap::builder::ValueParser;
 use clap::{Arg, ArgAction, ArgGroup, Command, value_parser};
+use cli_io::{flag, valued, with_option};
 use pf_arguments::pfctl_args;
 use std::alloc::{AllocError, Global};
 
@@ -80,21 +81,11 @@ const ASK_BELOW: &str =
     "It writes asked NODE.NUMBER, no answer, or refused CODE; a node refuses with 60 (64 wait) or 62 (no number left).
 Asked is not yet learned: the nodes' logs tell.";
 
-/// An option with a string, which may be missing.
-fn optional<'a>(alloc: Global, name: &'a str, help: &'a str) -> Arg<'a>
-    ensures local { result.global ≡ false }
-{
-    Arg::new(alloc, name)
-        .long(name)
-        .action(ArgAction::Set)
-        .help(help)
-}
-
 /// An option with a string.
 fn text<'a>(alloc: Global, name: &'a str, help: &'a str) -> Arg<'a>
     ensures local { result.global ≡ false }
 {
-    optional(alloc, name, help).required(true)
+    valued(alloc, name, help).required(true)
 }
 
 /// An option with a number from 0 to 255.
@@ -109,15 +100,6 @@ fn large<'a>(alloc: Global, name: &'a str, help: &'a str) -> Arg<'a>
     ensures local { result.global ≡ false }
 {
     text(alloc, name, help).value_parser(value_parser!(u32))
-}
-
-/// Adds one option.
-fn with<'a>(command: Command<'a>, arg: Arg<'a>) -> Result<Command<'a>, AllocError>
-    requires command { (out-Command command).has_globals ≡ false }
-    requires arg { arg.global ≡ false }
-    ensures local { IfOk result (λ c. (out-Command c).has_globals ≡ false) }
-{
-    command.arg(arg)
 }
 
 /// Adds an option, which is missing if memory ran out.
@@ -152,11 +134,11 @@ fn with_place<'a>(alloc: Global, command: Command<'a>) -> Result<Command<'a>, Al
     requires command { (out-Command command).has_globals ≡ false }
     ensures local { IfOk result (λ c. (out-Command c).has_globals ≡ false) }
 {
-    let me = optional(alloc, "me", ME).value_parser(value_parser!(u8));
+    let me = valued(alloc, "me", ME).value_parser(value_parser!(u8));
     let command = with_required(command, me)?;
-    let cluster = optional(alloc, "cluster", CLUSTER).value_parser(value_parser!(u32));
+    let cluster = valued(alloc, "cluster", CLUSTER).value_parser(value_parser!(u32));
     let command = with_required(command, cluster)?;
-    with_required(command, optional(alloc, "store", STORE))
+    with_required(command, valued(alloc, "store", STORE))
 }
 
 /// `--turns T`
@@ -164,20 +146,10 @@ fn with_turns<'a>(alloc: Global, command: Command<'a>) -> Result<Command<'a>, Al
     requires command { (out-Command command).has_globals ≡ false }
     ensures local { IfOk result (λ c. (out-Command c).has_globals ≡ false) }
 {
-    with(
+    with_option(
         command,
-        optional(alloc, "turns", TURNS).value_parser(value_parser!(u32)),
+        valued(alloc, "turns", TURNS).value_parser(value_parser!(u32)),
     )
-}
-
-/// An option without a value.
-fn flag<'a>(alloc: Global, name: &'a str, help: &'a str) -> Arg<'a>
-    ensures local { result.global ≡ false }
-{
-    Arg::new(alloc, name)
-        .long(name)
-        .action(ArgAction::SetTrue)
-        .help(help)
 }
 
 /// Adds an option without a value.
@@ -190,7 +162,7 @@ fn with_flag<'a>(
     requires command { (out-Command command).has_globals ≡ false }
     ensures local { IfOk result (λ c. (out-Command c).has_globals ≡ false) }
 {
-    with(command, flag(alloc, name, help))
+    with_option(command, flag(alloc, name, help))
 }
 
 /// The name of a group of two options, of which what wants the group wants either.
@@ -229,7 +201,7 @@ fn with_below<'a>(
     requires command { (out-Command command).has_globals ≡ false }
     ensures local { IfOk result (λ c. (out-Command c).has_globals ≡ false) }
 {
-    with_made(command, optional(alloc, name, help).requires_arg(above))
+    with_made(command, valued(alloc, name, help).requires_arg(above))
 }
 
 /// Adds an option without a value that stands only where another stands.
@@ -251,7 +223,7 @@ fn with_keys<'a>(alloc: Global, command: Command<'a>) -> Result<Command<'a>, All
     requires command { (out-Command command).has_globals ≡ false }
     ensures local { IfOk result (λ c. (out-Command c).has_globals ≡ false) }
 {
-    let command = with(command, optional(alloc, "key", KEY))?;
+    let command = with_option(command, valued(alloc, "key", KEY))?;
     let command = with_either(alloc, command, "a key", "key")?;
     let command = with_below(alloc, command, "other-key", OTHER_KEY, "a key")?;
     let command = with_flag_below(alloc, command, "new-starts", NEW_STARTS, "a key")?;
@@ -263,7 +235,7 @@ fn with_control<'a>(alloc: Global, command: Command<'a>) -> Result<Command<'a>, 
     requires command { (out-Command command).has_globals ≡ false }
     ensures local { IfOk result (λ c. (out-Command c).has_globals ≡ false) }
 {
-    let command = with(command, optional(alloc, "control", CONTROL))?;
+    let command = with_option(command, valued(alloc, "control", CONTROL))?;
     let command = with_either(alloc, command, "a control socket", "control")?;
     with_below(alloc, command, "metrics", METRICS, "a control socket")
 }
@@ -290,7 +262,7 @@ fn with_members<'a>(alloc: Global, command: Command<'a>) -> Result<Command<'a>, 
         .action(ArgAction::Append)
         .num_args(0..)
         .help(MEMBER);
-    with(command, addresses)
+    with_option(command, addresses)
 }
 
 /// `node [--config FILE] --me N --cluster C --store FILE [--turns T] [--control PATH [--metrics ADDR]]
@@ -301,7 +273,7 @@ fn node_command<'a>(alloc: Global) -> Result<Command<'a>, AllocError>
     let node = Command::new(alloc, "node")
         .about("Runs a node on its store over UDP")
         .after_help(NODE_BELOW);
-    let command = with(node, optional(alloc, "config", CONFIG))?;
+    let command = with_option(node, valued(alloc, "config", CONFIG))?;
     let command = with_place(alloc, command)?;
     let command = node_options(alloc, command)?;
     with_members(alloc, command)
@@ -312,8 +284,8 @@ fn with_wait<'a>(alloc: Global, command: Command<'a>) -> Result<Command<'a>, All
     requires command { (out-Command command).has_globals ≡ false }
     ensures local { IfOk result (λ c. (out-Command c).has_globals ≡ false) }
 {
-    let wait = optional(alloc, "wait", WAIT).value_parser(ValueParser::Unsigned(0, WAIT_MAX));
-    with(command, wait)
+    let wait = valued(alloc, "wait", WAIT).value_parser(ValueParser::Unsigned(0, WAIT_MAX));
+    with_option(command, wait)
 }
 
 /// `ask --to ADDR --cluster C --members N --node N [--wait S]`, and pfctl's words.
@@ -323,10 +295,10 @@ fn ask_command<'a>(alloc: Global) -> Result<Command<'a>, AllocError>
     let ask = Command::new(alloc, "ask")
         .about("Asks a node to take a command in, in pfctl's words of a change")
         .after_help(ASK_BELOW);
-    let command = with(ask, text(alloc, "to", TO))?;
-    let command = with(command, large(alloc, "cluster", CLUSTER))?;
-    let command = with(command, small(alloc, "members", MEMBERS))?;
-    let command = with(command, small(alloc, "node", NODE))?;
+    let command = with_option(ask, text(alloc, "to", TO))?;
+    let command = with_option(command, large(alloc, "cluster", CLUSTER))?;
+    let command = with_option(command, small(alloc, "members", MEMBERS))?;
+    let command = with_option(command, small(alloc, "node", NODE))?;
     let command = with_wait(alloc, command)?;
     pfctl_args(alloc, command)
 }
@@ -339,7 +311,7 @@ fn key_command<'a>(alloc: Global) -> Result<Command<'a>, AllocError> {
     let key = Command::new(alloc, "key")
         .about("Makes a new key of a cluster, of the system's random source")
         .after_help(KEY_BELOW);
-    with(key, file)
+    with_option(key, file)
 }
 
 /// Adds a subcommand, which is missing if memory ran out.

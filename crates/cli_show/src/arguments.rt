@@ -3,8 +3,9 @@
 ghost use Rattle.std.specs.Prelude.{◌≡◌, IfOk, false};
 ghost use Rattle.clap.specs.declared.builder.command.Command.TheViews.{out-Command};
 
+use clap::Command;
 use clap::builder::ValueParser;
-use clap::{Arg, ArgAction, Command};
+use cli_io::{flag, valued, with_option};
 use pf_arguments::pfctl_args;
 use std::alloc::{AllocError, Global};
 
@@ -35,35 +36,6 @@ What is shown is of the configuration after the learned positions up to the firs
 A refusal is refused CODE: 70 no store, or one in use, 72 a bad row, 73 another format, 40 words that don't go together,
 20, 24, 30, 1 to 3 as for ctl, 87 to 89 as for check --nft, 91 no script gives the configuration.";
 
-/// An option with a value.
-fn valued<'a>(alloc: Global, name: &'a str, help: &'a str) -> Arg<'a>
-    ensures local { result.global ≡ false }
-{
-    Arg::new(alloc, name)
-        .long(name)
-        .action(ArgAction::Set)
-        .help(help)
-}
-
-/// An option without a value.
-fn flag<'a>(alloc: Global, name: &'a str, help: &'a str) -> Arg<'a>
-    ensures local { result.global ≡ false }
-{
-    Arg::new(alloc, name)
-        .long(name)
-        .action(ArgAction::SetTrue)
-        .help(help)
-}
-
-/// Adds one option.
-fn with<'a>(command: Command<'a>, arg: Arg<'a>) -> Result<Command<'a>, AllocError>
-    requires command { (out-Command command).has_globals ≡ false }
-    requires arg { arg.global ≡ false }
-    ensures local { IfOk result (λ c. (out-Command c).has_globals ≡ false) }
-{
-    command.arg(arg)
-}
-
 /// `show --store FILE [--nft --interfaces FILE] [--pf] [--script] [--from P] [--count N]`, and pfctl's words.
 fn show_command<'a>(alloc: Global) -> Result<Command<'a>, AllocError>
     ensures local { IfOk result (λ c. (out-Command c).has_globals ≡ false) }
@@ -71,15 +43,15 @@ fn show_command<'a>(alloc: Global) -> Result<Command<'a>, AllocError>
     let show = Command::new(alloc, "show")
         .about("Shows what a node's store holds")
         .after_help(BELOW);
-    let command = with(show, valued(alloc, "store", STORE).required(true))?;
-    let command = with(command, flag(alloc, "nft", NFT))?;
-    let command = with(command, valued(alloc, "interfaces", INTERFACES))?;
-    let command = with(command, flag(alloc, "pf", PF))?;
-    let command = with(command, flag(alloc, "script", SCRIPT))?;
+    let command = with_option(show, valued(alloc, "store", STORE).required(true))?;
+    let command = with_option(command, flag(alloc, "nft", NFT))?;
+    let command = with_option(command, valued(alloc, "interfaces", INTERFACES))?;
+    let command = with_option(command, flag(alloc, "pf", PF))?;
+    let command = with_option(command, flag(alloc, "script", SCRIPT))?;
     let from = valued(alloc, "from", FROM).value_parser(ValueParser::Unsigned(0, POSITIONS));
-    let command = with(command, from)?;
+    let command = with_option(command, from)?;
     let count = valued(alloc, "count", COUNT).value_parser(ValueParser::Unsigned(0, POSITIONS));
-    let command = with(command, count)?;
+    let command = with_option(command, count)?;
     pfctl_args(alloc, command)
 }
 

@@ -1,5 +1,5 @@
 -- Rules that are said in the same way.
-use Rattle.std.proofs.Common.{rules, ◌≡◌, List, Option, Some, None, refl, sym, ap, ◌∙◌}
+use Rattle.std.proofs.Common.{◌≡◌, List, Option, Some, None, refl, sym, ap, ◌∙◌}
 use Rattle.std.specs.Prelude.{option_map}
 use Rattle.pf_rules.specs.declared.rule.Rule.{Rule}
 use Rattle.pf_rules.specs.declared.item.AnchorRule as anchored

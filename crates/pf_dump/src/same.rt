@@ -4,22 +4,15 @@ ghost use Rattle.std.specs.Prelude.{◌≡◌, true, IfOk, map};
 ghost use Rattle.std.specs.Option.{option_copied};
 ghost use Rattle.pf_dump.specs.Contents.{tables_named, tables_of, content_at, IsSame};
 
-use crate::same_parts::same_prefix;
 use crate::same_rules::{same_interfaces, same_items, same_names};
 use pf_config::{Config, Table};
 use pf_rules::{Name, TableEntry};
 use std::alloc::{AllocError, Global};
 
-/// Whether two entries are the same.
-fn same_entry(a: TableEntry, b: TableEntry) -> bool
-    ensures { result ≡ true → a ≡ b }
-{
-    a.negated == b.negated && same_prefix(a.prefix, b.prefix)
-}
-
 /// Whether two lists have the same entries in one order.
 fn same_entries(a: &[TableEntry], b: &[TableEntry]) -> bool
-    ensures { result ≡ true → a.now ≡ b.now }
+    ensures same { result ≡ true → a.now ≡ b.now }
+    ensures back { a.now ≡ b.now → result ≡ true }
 {
     let mut left = a;
     let mut right = b;
@@ -27,7 +20,7 @@ fn same_entries(a: &[TableEntry], b: &[TableEntry]) -> bool
         let [y, ys @ ..] = right else {
             return false;
         };
-        if !same_entry(*x, *y) {
+        if *x != *y {
             return false;
         }
         left = xs;
@@ -38,7 +31,8 @@ fn same_entries(a: &[TableEntry], b: &[TableEntry]) -> bool
 
 /// Whether two tables have the same flags and entries.
 fn same_table(alloc: Global, a: &Table, b: &Table) -> Result<bool, AllocError>
-    ensures { IfOk result (λ s. s ≡ true → a.now ≡ b.now) }
+    ensures same { IfOk result (λ s. s ≡ true → a.now ≡ b.now) }
+    ensures back { IfOk result (λ s. a.now ≡ b.now → s ≡ true) }
 {
     if a.persist() != b.persist() || a.is_const() != b.is_const() {
         return Ok(false);
@@ -50,7 +44,8 @@ fn same_table(alloc: Global, a: &Table, b: &Table) -> Result<bool, AllocError>
 
 /// The same where there may be none.
 fn same_table_if(alloc: Global, a: Option<&Table>, b: Option<&Table>) -> Result<bool, AllocError>
-    ensures { IfOk result (λ s. s ≡ true → option_copied a.entry ≡ option_copied b.entry) }
+    ensures same { IfOk result (λ s. s ≡ true → option_copied a.entry ≡ option_copied b.entry) }
+    ensures back { IfOk result (λ s. option_copied a.entry ≡ option_copied b.entry → s ≡ true) }
 {
     match (a, b) {
         (None, None) => Ok(true),
@@ -62,14 +57,16 @@ fn same_table_if(alloc: Global, a: Option<&Table>, b: Option<&Table>) -> Result<
 /// Whether two strings are the same.
 #[tactic(auto, using(pf_config::proofs::Treed::bytes_same))]
 fn same_text(a: &str, b: &str) -> bool
-    ensures { result ≡ true → a.now ≡ b.now }
+    ensures same { result ≡ true → a.now ≡ b.now }
+    ensures back { a.now ≡ b.now → result ≡ true }
 {
     a == b
 }
 
 /// Whether two lists of strings are the same.
 fn same_texts(a: &[&str], b: &[&str]) -> bool
-    ensures { result ≡ true → map (λ x. x.now) a.now ≡ map (λ x. x.now) b.now }
+    ensures same { result ≡ true → map (λ x. x.now) a.now ≡ map (λ x. x.now) b.now }
+    ensures back { map (λ x. x.now) a.now ≡ map (λ x. x.now) b.now → result ≡ true }
 {
     let mut left = a;
     let mut right = b;
@@ -94,8 +91,10 @@ fn same_named(
     path: &[Name],
     names: &[&str],
 ) -> Result<bool, AllocError>
-    ensures { IfOk result (λ s. s ≡ true → tables_named a.now path.now (map (λ x. x.now) names.now)
+    ensures same { IfOk result (λ s. s ≡ true → tables_named a.now path.now (map (λ x. x.now) names.now)
         ≡ tables_named b.now path.now (map (λ x. x.now) names.now)) }
+    ensures back { IfOk result (λ s. tables_named a.now path.now (map (λ x. x.now) names.now)
+        ≡ tables_named b.now path.now (map (λ x. x.now) names.now) → s ≡ true) }
 {
     let mut left = names;
     while let [name, rest @ ..] = left {
@@ -108,8 +107,10 @@ fn same_named(
 }
 
 /// Whether the same tables are at a path.
+#[tactic(auto, using(crate::proofs::Contents::names_same))]
 fn same_tables(alloc: Global, a: &Config, b: &Config, path: &[Name]) -> Result<bool, AllocError>
-    ensures { IfOk result (λ s. s ≡ true → tables_of a.now path.now ≡ tables_of b.now path.now) }
+    ensures same { IfOk result (λ s. s ≡ true → tables_of a.now path.now ≡ tables_of b.now path.now) }
+    ensures back { IfOk result (λ s. tables_of a.now path.now ≡ tables_of b.now path.now → s ≡ true) }
 {
     let names = a.table_names(path)?;
     let others = b.table_names(path)?;
@@ -121,7 +122,8 @@ fn same_tables(alloc: Global, a: &Config, b: &Config, path: &[Name]) -> Result<b
 
 /// Whether the same is at a path.
 fn same_at(alloc: Global, a: &Config, b: &Config, path: &[Name]) -> Result<bool, AllocError>
-    ensures { IfOk result (λ s. s ≡ true → content_at a.now path.now ≡ content_at b.now path.now) }
+    ensures same { IfOk result (λ s. s ≡ true → content_at a.now path.now ≡ content_at b.now path.now) }
+    ensures back { IfOk result (λ s. content_at a.now path.now ≡ content_at b.now path.now → s ≡ true) }
 {
     if !same_items(a.items(path), b.items(path)) {
         return Ok(false);
@@ -131,7 +133,8 @@ fn same_at(alloc: Global, a: &Config, b: &Config, path: &[Name]) -> Result<bool,
 
 /// Whether two lists of paths are the same.
 fn same_paths(a: &[&[Name]], b: &[&[Name]]) -> bool
-    ensures { result ≡ true → map (λ x. x.now) a.now ≡ map (λ x. x.now) b.now }
+    ensures same { result ≡ true → map (λ x. x.now) a.now ≡ map (λ x. x.now) b.now }
+    ensures back { map (λ x. x.now) a.now ≡ map (λ x. x.now) b.now → result ≡ true }
 {
     let mut left = a;
     let mut right = b;
@@ -150,8 +153,10 @@ fn same_paths(a: &[&[Name]], b: &[&[Name]]) -> bool
 
 /// Whether the same is at each of these paths.
 fn same_at_all(alloc: Global, a: &Config, b: &Config, paths: &[&[Name]]) -> Result<bool, AllocError>
-    ensures { IfOk result (λ s. s ≡ true → map (content_at a.now) (map (λ x. x.now) paths.now)
+    ensures same { IfOk result (λ s. s ≡ true → map (content_at a.now) (map (λ x. x.now) paths.now)
         ≡ map (content_at b.now) (map (λ x. x.now) paths.now)) }
+    ensures back { IfOk result (λ s. map (content_at a.now) (map (λ x. x.now) paths.now)
+        ≡ map (content_at b.now) (map (λ x. x.now) paths.now) → s ≡ true) }
 {
     let mut left = paths;
     while let [path, rest @ ..] = left {
@@ -164,8 +169,10 @@ fn same_at_all(alloc: Global, a: &Config, b: &Config, paths: &[&[Name]]) -> Resu
 }
 
 /// Whether two configurations skip the same interfaces, and have the same rules and tables at the same paths.
+#[tactic(auto, using(crate::proofs::Contents::paths_same))]
 pub fn is_same(alloc: Global, a: &Config, b: &Config) -> Result<bool, AllocError>
-    ensures { IfOk result (λ s. s ≡ true → IsSame a.now b.now) }
+    ensures same { IfOk result (λ s. s ≡ true → IsSame a.now b.now) }
+    ensures back { IfOk result (λ s. IsSame a.now b.now → s ≡ true) }
 {
     if !same_interfaces(a.skip(), b.skip()) {
         return Ok(false);

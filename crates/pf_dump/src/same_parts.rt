@@ -2,111 +2,7 @@
 
 ghost use Rattle.std.specs.Prelude.{◌≡◌, true};
 
-use pf_addr::{Addr, Family, Prefix, Range};
-use pf_rules::{
-    Action, Addresses, Direction, FlagTest, Host, Interface, InterfaceName, PortTest, TcpFlags,
-};
-
-/// Whether two actions are the same.
-pub(crate) fn same_action(a: Action, b: Action) -> bool
-    ensures { result ≡ true → a ≡ b }
-{
-    match (a, b) {
-        (Action::Pass, Action::Pass) => true,
-        (Action::Drop, Action::Drop) => true,
-        (Action::Return, Action::Return) => true,
-        _ => false,
-    }
-}
-
-/// The same of directions, where one may be asked for.
-pub(crate) fn same_direction(a: Option<Direction>, b: Option<Direction>) -> bool
-    ensures { result ≡ true → a ≡ b }
-{
-    match (a, b) {
-        (None, None) => true,
-        (Some(Direction::In), Some(Direction::In)) => true,
-        (Some(Direction::Out), Some(Direction::Out)) => true,
-        _ => false,
-    }
-}
-
-/// The same of families.
-pub(crate) fn same_family(a: Option<Family>, b: Option<Family>) -> bool
-    ensures { result ≡ true → a ≡ b }
-{
-    match (a, b) {
-        (None, None) => true,
-        (Some(Family::Inet), Some(Family::Inet)) => true,
-        (Some(Family::Inet6), Some(Family::Inet6)) => true,
-        _ => false,
-    }
-}
-
-/// The same of numbers.
-pub(crate) fn same_number(a: Option<u8>, b: Option<u8>) -> bool
-    ensures { result ≡ true → a ≡ b }
-{
-    match (a, b) {
-        (None, None) => true,
-        (Some(a), Some(b)) => a == b,
-        _ => false,
-    }
-}
-
-/// Whether two addresses are the same.
-fn same_addr(a: Addr, b: Addr) -> bool
-    ensures { result ≡ true → a ≡ b }
-{
-    match (a, b) {
-        (Addr::V4(a), Addr::V4(b)) => a == b,
-        (Addr::V6(a), Addr::V6(b)) => a == b,
-        _ => false,
-    }
-}
-
-/// Whether two prefixes are the same.
-pub(crate) fn same_prefix(a: Prefix, b: Prefix) -> bool
-    ensures { result ≡ true → a ≡ b }
-{
-    a.len() == b.len() && same_addr(a.base(), b.base())
-}
-
-/// Whether two ranges are the same.
-fn same_range(a: Range, b: Range) -> bool
-    ensures { result ≡ true → a ≡ b }
-{
-    same_addr(a.first(), b.first()) && same_addr(a.last(), b.last())
-}
-
-/// Whether two tests of a port compare in the same way with the same number.
-fn same_test(a: PortTest, b: PortTest) -> bool
-    ensures { result ≡ true → a ≡ b }
-{
-    match (a, b) {
-        (PortTest::Equal(a), PortTest::Equal(b)) => a == b,
-        (PortTest::NotEqual(a), PortTest::NotEqual(b)) => a == b,
-        (PortTest::Less(a), PortTest::Less(b)) => a == b,
-        (PortTest::LessEqual(a), PortTest::LessEqual(b)) => a == b,
-        (PortTest::Greater(a), PortTest::Greater(b)) => a == b,
-        (PortTest::GreaterEqual(a), PortTest::GreaterEqual(b)) => a == b,
-        (PortTest::FromTo(a, c), PortTest::FromTo(b, d)) => a == b && c == d,
-        (PortTest::Between(a, c), PortTest::Between(b, d)) => a == b && c == d,
-        (PortTest::Outside(a, c), PortTest::Outside(b, d)) => a == b && c == d,
-        _ => false,
-    }
-}
-
-/// The same where one may be asked for.
-pub(crate) fn same_port(a: Option<PortTest>, b: Option<PortTest>) -> bool
-    ensures { result ≡ true → a ≡ b }
-{
-    match (a, b) {
-        (None, None) => true,
-        (Some(a), Some(b)) => same_test(a, b),
-        _ => false,
-    }
-}
+use pf_rules::{Addresses, FlagTest, Host, Interface, InterfaceName, TcpFlags};
 
 /// Whether the same of the first four flags are set.
 fn same_first_flags(a: TcpFlags, b: TcpFlags) -> bool
@@ -114,6 +10,7 @@ fn same_first_flags(a: TcpFlags, b: TcpFlags) -> bool
     ensures syn { result ≡ true → a.syn ≡ b.syn }
     ensures rst { result ≡ true → a.rst ≡ b.rst }
     ensures psh { result ≡ true → a.psh ≡ b.psh }
+    ensures back { a ≡ b → result ≡ true }
 {
     a.fin == b.fin && a.syn == b.syn && a.rst == b.rst && a.psh == b.psh
 }
@@ -124,20 +21,23 @@ fn same_last_flags(a: TcpFlags, b: TcpFlags) -> bool
     ensures urg { result ≡ true → a.urg ≡ b.urg }
     ensures ece { result ≡ true → a.ece ≡ b.ece }
     ensures cwr { result ≡ true → a.cwr ≡ b.cwr }
+    ensures back { a ≡ b → result ≡ true }
 {
     a.ack == b.ack && a.urg == b.urg && a.ece == b.ece && a.cwr == b.cwr
 }
 
 /// Whether the same flags are set.
 fn same_flags(a: TcpFlags, b: TcpFlags) -> bool
-    ensures { result ≡ true → a ≡ b }
+    ensures same { result ≡ true → a ≡ b }
+    ensures back { a ≡ b → result ≡ true }
 {
     same_first_flags(a, b) && same_last_flags(a, b)
 }
 
 /// Whether the same is asked of flags.
 pub(crate) fn same_flag_test(a: FlagTest, b: FlagTest) -> bool
-    ensures { result ≡ true → a ≡ b }
+    ensures same { result ≡ true → a ≡ b }
+    ensures back { a ≡ b → result ≡ true }
 {
     match (a, b) {
         (FlagTest::Any, FlagTest::Any) => true,
@@ -151,7 +51,8 @@ pub(crate) fn same_flag_test(a: FlagTest, b: FlagTest) -> bool
 /// Whether two interfaces have one name.
 #[tactic(auto, using(pf_config::proofs::Treed::bytes_same))]
 pub(crate) fn same_interface_name(a: &InterfaceName, b: &InterfaceName) -> bool
-    ensures { result ≡ true → a.now ≡ b.now }
+    ensures same { result ≡ true → a.now ≡ b.now }
+    ensures back { a.now ≡ b.now → result ≡ true }
 {
     a.as_bytes() == b.as_bytes()
 }
@@ -159,11 +60,12 @@ pub(crate) fn same_interface_name(a: &InterfaceName, b: &InterfaceName) -> bool
 /// Whether two sets of addresses are said in the same way.
 #[tactic(auto, using(pf_config::proofs::Treed::bytes_same))]
 fn same_addresses(a: &Addresses, b: &Addresses) -> bool
-    ensures { result ≡ true → a.now ≡ b.now }
+    ensures same { result ≡ true → a.now ≡ b.now }
+    ensures back { a.now ≡ b.now → result ≡ true }
 {
     match (a, b) {
-        (Addresses::Prefix(a), Addresses::Prefix(b)) => same_prefix(*a, *b),
-        (Addresses::Range(a), Addresses::Range(b)) => same_range(*a, *b),
+        (Addresses::Prefix(a), Addresses::Prefix(b)) => *a == *b,
+        (Addresses::Range(a), Addresses::Range(b)) => *a == *b,
         (Addresses::Table(a), Addresses::Table(b)) => a.as_bytes() == b.as_bytes(),
         _ => false,
     }
@@ -171,7 +73,8 @@ fn same_addresses(a: &Addresses, b: &Addresses) -> bool
 
 /// The same of which addresses are meant.
 pub(crate) fn same_host(a: &Host, b: &Host) -> bool
-    ensures { result ≡ true → a.now ≡ b.now }
+    ensures same { result ≡ true → a.now ≡ b.now }
+    ensures back { a.now ≡ b.now → result ≡ true }
 {
     match (a, b) {
         (Host::Any, Host::Any) => true,
@@ -183,14 +86,16 @@ pub(crate) fn same_host(a: &Host, b: &Host) -> bool
 
 /// The same of an interface that is asked for.
 fn same_one(a: &Interface, b: &Interface) -> bool
-    ensures { result ≡ true → a.now ≡ b.now }
+    ensures same { result ≡ true → a.now ≡ b.now }
+    ensures back { a.now ≡ b.now → result ≡ true }
 {
     a.negated == b.negated && same_interface_name(&a.name, &b.name)
 }
 
 /// The same where one may be asked for.
 pub(crate) fn same_interface(a: &Option<Interface>, b: &Option<Interface>) -> bool
-    ensures { result ≡ true → a.now ≡ b.now }
+    ensures same { result ≡ true → a.now ≡ b.now }
+    ensures back { a.now ≡ b.now → result ≡ true }
 {
     match (a, b) {
         (None, None) => true,

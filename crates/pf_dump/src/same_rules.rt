@@ -3,23 +3,22 @@
 ghost use Rattle.std.specs.Prelude.{◌≡◌, true, map};
 ghost use Rattle.pf_rules.specs.Seen.{rule_of, heading_of};
 
-use crate::same_parts::{
-    same_action, same_direction, same_family, same_flag_test, same_host, same_interface,
-    same_interface_name, same_number, same_port,
-};
+use crate::same_parts::{same_flag_test, same_host, same_interface, same_interface_name};
 use pf_rules::{AnchorHeading, Conditions, InterfaceName, Item, Name, Rule};
 
 /// Whether two names are the same.
 #[tactic(auto, using(pf_config::proofs::Treed::bytes_same))]
 fn same_name(a: &Name, b: &Name) -> bool
-    ensures { result ≡ true → a.now ≡ b.now }
+    ensures same { result ≡ true → a.now ≡ b.now }
+    ensures back { a.now ≡ b.now → result ≡ true }
 {
     a.as_bytes() == b.as_bytes()
 }
 
 /// Whether two lists have the same names in one order.
 pub(crate) fn same_names(a: &[Name], b: &[Name]) -> bool
-    ensures { result ≡ true → a.now ≡ b.now }
+    ensures same { result ≡ true → a.now ≡ b.now }
+    ensures back { a.now ≡ b.now → result ≡ true }
 {
     let mut left = a;
     let mut right = b;
@@ -38,7 +37,8 @@ pub(crate) fn same_names(a: &[Name], b: &[Name]) -> bool
 
 /// Whether two lists name the same interfaces in one order.
 pub(crate) fn same_interfaces(a: &[InterfaceName], b: &[InterfaceName]) -> bool
-    ensures { result ≡ true → a.now ≡ b.now }
+    ensures same { result ≡ true → a.now ≡ b.now }
+    ensures back { a.now ≡ b.now → result ≡ true }
 {
     let mut left = a;
     let mut right = b;
@@ -61,11 +61,15 @@ fn same_ends(a: &Conditions, b: &Conditions) -> bool
     ensures source_port { result ≡ true → a.now.source_port ≡ b.now.source_port }
     ensures destination { result ≡ true → a.now.destination ≡ b.now.destination }
     ensures destination_port { result ≡ true → a.now.destination_port ≡ b.now.destination_port }
+    ensures back { a.now.source ≡ b.now.source →
+        a.now.source_port ≡ b.now.source_port →
+        a.now.destination ≡ b.now.destination →
+        a.now.destination_port ≡ b.now.destination_port → result ≡ true }
 {
     same_host(&a.source, &b.source)
         && same_host(&a.destination, &b.destination)
-        && same_port(a.source_port, b.source_port)
-        && same_port(a.destination_port, b.destination_port)
+        && a.source_port == b.source_port
+        && a.destination_port == b.destination_port
 }
 
 /// The same by the other conditions.
@@ -76,27 +80,35 @@ fn same_others(a: &Conditions, b: &Conditions) -> bool
     ensures protocol { result ≡ true → a.now.protocol ≡ b.now.protocol }
     ensures flags { result ≡ true → a.now.flags ≡ b.now.flags }
     ensures icmp_type { result ≡ true → a.now.icmp_type ≡ b.now.icmp_type }
+    ensures back { a.now.direction ≡ b.now.direction →
+        a.now.interface ≡ b.now.interface →
+        a.now.family ≡ b.now.family →
+        a.now.protocol ≡ b.now.protocol →
+        a.now.flags ≡ b.now.flags →
+        a.now.icmp_type ≡ b.now.icmp_type → result ≡ true }
 {
     same_interface(&a.interface, &b.interface)
-        && same_direction(a.direction, b.direction)
-        && same_family(a.family, b.family)
-        && same_number(a.protocol, b.protocol)
+        && a.direction == b.direction
+        && a.family == b.family
+        && a.protocol == b.protocol
         && same_flag_test(a.flags, b.flags)
-        && same_number(a.icmp_type, b.icmp_type)
+        && a.icmp_type == b.icmp_type
 }
 
 /// Whether two conditions are said in the same way.
 fn same_conditions(a: &Conditions, b: &Conditions) -> bool
-    ensures { result ≡ true → a.now ≡ b.now }
+    ensures same { result ≡ true → a.now ≡ b.now }
+    ensures back { a.now ≡ b.now → result ≡ true }
 {
     same_ends(a, b) && same_others(a, b)
 }
 
 /// Whether two filter rules are the same.
 fn same_rule(a: &Rule, b: &Rule) -> bool
-    ensures { result ≡ true → a.now ≡ b.now }
+    ensures same { result ≡ true → a.now ≡ b.now }
+    ensures back { a.now ≡ b.now → result ≡ true }
 {
-    same_action(a.action, b.action)
+    a.action == b.action
         && a.quick == b.quick
         && a.keeps_state == b.keeps_state
         && same_conditions(&a.conditions, &b.conditions)
@@ -104,7 +116,8 @@ fn same_rule(a: &Rule, b: &Rule) -> bool
 
 /// Whether two anchor rules say the same, whatever blocks they carry.
 fn same_heading(a: &AnchorHeading, b: &AnchorHeading) -> bool
-    ensures { result ≡ true → heading_of a.now ≡ heading_of b.now }
+    ensures same { result ≡ true → heading_of a.now ≡ heading_of b.now }
+    ensures back { heading_of a.now ≡ heading_of b.now → result ≡ true }
 {
     a.quick == b.quick
         && a.target.children == b.target.children
@@ -115,7 +128,8 @@ fn same_heading(a: &AnchorHeading, b: &AnchorHeading) -> bool
 /// Whether two rules are the same, whatever blocks they carry.
 #[tactic(auto, using(crate::proofs::Items::same_filters, crate::proofs::Items::same_anchors))]
 fn same_item(a: &Item, b: &Item) -> bool
-    ensures { result ≡ true → rule_of a.now ≡ rule_of b.now }
+    ensures same { result ≡ true → rule_of a.now ≡ rule_of b.now }
+    ensures back { rule_of a.now ≡ rule_of b.now → result ≡ true }
 {
     match (a, b) {
         (Item::Filter(a), Item::Filter(b)) => same_rule(a, b),
@@ -126,7 +140,8 @@ fn same_item(a: &Item, b: &Item) -> bool
 
 /// Whether two lists of rules are the same, whatever blocks they carry.
 pub(crate) fn same_items(a: &[Item], b: &[Item]) -> bool
-    ensures { result ≡ true → map rule_of a.now ≡ map rule_of b.now }
+    ensures same { result ≡ true → map rule_of a.now ≡ map rule_of b.now }
+    ensures back { map rule_of a.now ≡ map rule_of b.now → result ≡ true }
 {
     let mut left = a;
     let mut right = b;

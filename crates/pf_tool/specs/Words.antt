@@ -11,20 +11,13 @@ use Rattle.pf_grammar.specs.declared.place.Place.{Place}
 use Rattle.pf_grammar.specs.declared.place.Place.TheVariants.{Main, Anchor}
 use Rattle.cli_io.specs.declared.paragraph.Explanation.{Explanation}
 use Rattle.cli_io.specs.Explained.{named}
+use Rattle.cli_io.specs.Options.{flag_rule, value_rule}
 
 -- ---- the words
-
--- --NAME
-abbrev pub flag_rule : Text → Rule
-flag_rule id = record (new_rule id) { long = Some id; action = Some SetTrue }
 
 -- -L or --NAME
 abbrev pub lettered_rule : Text → ℕ → Rule
 lettered_rule id letter = record (new_rule id) { long = Some id; short = Some letter; action = Some SetTrue }
-
--- --NAME VALUE
-abbrev pub value_rule : Text → Rule
-value_rule id = record (new_rule id) { long = Some id; action = Some Set }
 
 -- -L VALUE or --NAME VALUE
 abbrev pub lettered_value_rule : Text → ℕ → Rule

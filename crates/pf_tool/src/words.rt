@@ -1,14 +1,15 @@
 //! The words of the program, as `clap` reads them.
 
 ghost use Rattle.std.specs.Prelude.{◌≡◌, IfOk, false, codes};
-ghost use Rattle.clap.specs.Words.{app_of, rule_of, with_rule};
+ghost use Rattle.clap.specs.Words.{app_of, rule_of};
 ghost use Rattle.clap.specs.declared.builder.command.Command.TheViews.{out-Command};
-ghost use Rattle.pf_tool.specs.Words.{flag_rule, lettered_rule, value_rule, lettered_value_rule, words_rule, word_rule};
+ghost use Rattle.pf_tool.specs.Words.{lettered_rule, lettered_value_rule, words_rule, word_rule};
 ghost use Rattle.pf_tool.specs.Words.{with_verbose, with_quiet, with_named};
 ghost use Rattle.pf_tool.specs.Words.{check_app, test_app, ctl_app, lab_app, explain_app};
 ghost use Rattle.pf_tool.specs.Words.{texts_app, scripts_app, pfx_app};
 
 use clap::{Arg, ArgAction, Command};
+use cli_io::{flag, valued, with_option};
 use std::alloc::{AllocError, Global};
 
 /// What help says below its options.
@@ -88,17 +89,6 @@ fn lettered<'a>(alloc: Global, id: &'a str, letter: char, help: &'a str) -> Arg<
         .help(help)
 }
 
-/// `--anchor`
-fn anchor<'a>(alloc: Global) -> Arg<'a>
-    ensures rule { rule_of result ≡ flag_rule (codes "anchor") }
-    ensures local { result.global ≡ false }
-{
-    Arg::new(alloc, "anchor")
-        .long("anchor")
-        .action(ArgAction::SetTrue)
-        .help(ANCHOR)
-}
-
 /// `-f FILE`
 fn rules_file<'a>(alloc: Global) -> Arg<'a>
     ensures rule { rule_of result ≡ lettered_value_rule (codes "file") 102 }
@@ -109,17 +99,6 @@ fn rules_file<'a>(alloc: Global) -> Arg<'a>
         .short('f')
         .action(ArgAction::Set)
         .help(RULES)
-}
-
-/// `--packets FILE`
-fn packets_file<'a>(alloc: Global) -> Arg<'a>
-    ensures rule { rule_of result ≡ value_rule (codes "packets") }
-    ensures local { result.global ≡ false }
-{
-    Arg::new(alloc, "packets")
-        .long("packets")
-        .action(ArgAction::Set)
-        .help(PACKETS)
 }
 
 /// Any number of words.
@@ -139,16 +118,6 @@ fn code<'a>(alloc: Global) -> Arg<'a>
     ensures local { result.global ≡ false }
 {
     Arg::new(alloc, "code").action(ArgAction::Set).help(CODE)
-}
-
-/// Adds one option.
-fn with_option<'a>(command: Command<'a>, arg: Arg<'a>) -> Result<Command<'a>, AllocError>
-    requires command { (out-Command command).has_globals ≡ false }
-    requires arg { arg.global ≡ false }
-    ensures app { IfOk result (λ c. app_of c ≡ with_rule (app_of command.entry) (rule_of arg.entry)) }
-    ensures local { IfOk result (λ c. (out-Command c).has_globals ≡ false) }
-{
-    command.arg(arg)
 }
 
 /// Adds `-v`.
@@ -179,7 +148,7 @@ fn test_command<'a>(alloc: Global) -> Result<Command<'a>, AllocError>
         .about("Answers what becomes of packets under a text of rules")
         .after_help(TEST_BELOW);
     let command = with_option(command, rules_file(alloc))?;
-    let command = with_option(command, packets_file(alloc))?;
+    let command = with_option(command, valued(alloc, "packets", PACKETS))?;
     let command = with_quiet(alloc, command)?;
     with_option(command, words(alloc, "packet", PACKET))
 }
@@ -192,7 +161,7 @@ fn check_command<'a>(alloc: Global) -> Result<Command<'a>, AllocError>
     let command = Command::new(alloc, "check")
         .about("Shows what a text of rules comes to, or why it is refused")
         .after_help(CHECK_BELOW);
-    let command = with_option(command, anchor(alloc))?;
+    let command = with_option(command, flag(alloc, "anchor", ANCHOR))?;
     let command = with_quiet(alloc, command)?;
     with_option(command, words(alloc, "file", FILES))
 }

@@ -9,21 +9,34 @@ use cli_nft::{asks_nft, run_nft};
 use cli_node::run_net;
 use cli_show::run_show;
 use pf_tool::run;
-use std::convert::AsStr;
+use std::alloc::{AllocError, Global};
 use std::io::{Read, Write};
 
 /// The first argument behind the program's name, empty where there is none.
-pub(crate) fn subcommand_of<S: AsStr>(arguments: &[S]) -> &str {
-    match arguments.get(1) {
-        Some(argument) => argument.as_str(),
-        None => "",
+pub(crate) fn subcommand_of<'a>(arguments: &[&'a str]) -> &'a str {
+    match arguments {
+        [_, subcommand, ..] => subcommand,
+        _ => "",
+    }
+}
+
+/// `help SUBCOMMAND` as `SUBCOMMAND --help`, where a crate of its own has its options.
+pub(crate) fn helped<'a>(arguments: &[&'a str]) -> Option<[&'a str; 3]> {
+    match arguments {
+        [name, "help", subcommand] => match *subcommand {
+            "node" | "ask" | "key" | "show" | "follow" | "batch" => Some([
+                name, subcommand, "--help",
+            ]),
+            _ => None,
+        },
+        _ => None,
     }
 }
 
 /// Whether an argument is `--control`, with its value or without.
-fn has_control<S: AsStr>(arguments: &[S]) -> bool {
+fn has_control(arguments: &[&str]) -> bool {
     for argument in arguments {
-        if argument.as_str().starts_with("--control") {
+        if argument.starts_with("--control") {
             return true;
         }
     }
@@ -31,22 +44,58 @@ fn has_control<S: AsStr>(arguments: &[S]) -> bool {
 }
 
 /// Whether help is asked for, and of neither way to ask a node alone.
-fn asks_help<S: AsStr>(arguments: &[S]) -> bool {
+fn asks_help(arguments: &[&str]) -> bool {
     let mut is_help = false;
     for argument in arguments {
-        let argument = argument.as_str();
         if argument.starts_with("--to") {
             return false;
         }
-        is_help = is_help || argument == "--help" || argument == "-h";
+        is_help = is_help || *argument == "--help" || *argument == "-h";
     }
     is_help
 }
 
+/// Whether a control socket may be named by the environment: `ask` or `follow` names none, and asks for no help; `ask`
+/// no node's address.
+pub(crate) fn lacks_control(arguments: &[&str]) -> bool {
+    match subcommand_of(arguments) {
+        "ask" | "follow" => {
+            for argument in arguments {
+                if argument.starts_with("--control")
+                    || argument.starts_with("--to")
+                    || *argument == "--help"
+                    || *argument == "-h"
+                {
+                    return false;
+                }
+            }
+            true
+        }
+        _ => false,
+    }
+}
+
+/// The arguments with `--control PATH` behind the subcommand.
+pub(crate) fn with_control<'a>(
+    alloc: Global,
+    arguments: &[&'a str],
+    path: &'a str,
+) -> Result<Vec<&'a str>, AllocError> {
+    let mut all = Vec::new(alloc);
+    if let [name, subcommand, rest @ ..] = arguments {
+        all.push(*name)?;
+        all.push(*subcommand)?;
+        all.push("--control")?;
+        all.push(path)?;
+        all.extend_from_slice(rest)?;
+    }
+    Ok(all)
+}
+
 /// Writes the help of `ask`: of the control socket's form, then of the one over UDP.
-fn help_ask<S: AsStr, R: Read, W: Write>(
+fn help_ask<R: Read, W: Write>(
     rt: &HostRuntime,
-    arguments: &[S],
+    arguments: &[&str],
     reader: &mut R,
     writer: &mut W,
 ) -> Status {
@@ -69,9 +118,9 @@ fn tell_version<W: Write>(writer: &mut W) -> Status {
 }
 
 /// Does what the arguments ask for, as the crate of their subcommand has it.
-fn run_plain<S: AsStr, R: Read, W: Write, E: Write>(
+fn run_plain<R: Read, W: Write, E: Write>(
     rt: &HostRuntime,
-    arguments: &[S],
+    arguments: &[&str],
     reader: &mut R,
     writer: &mut W,
     errors: &mut E,
@@ -101,9 +150,9 @@ fn run_plain<S: AsStr, R: Read, W: Write, E: Write>(
 }
 
 /// The same on a terminal, with what the refusal means.
-fn run_explained<S: AsStr, R: Read, W: Write, E: Write>(
+fn run_explained<R: Read, W: Write, E: Write>(
     rt: &HostRuntime,
-    arguments: &[S],
+    arguments: &[&str],
     reader: &mut R,
     writer: &mut W,
     errors: &mut E,
@@ -119,9 +168,9 @@ fn run_explained<S: AsStr, R: Read, W: Write, E: Write>(
 
 /// Does what the arguments ask for, the program's name first; `is_terminal` says whether `errors` is a terminal. All
 /// subcommands but `batch`.
-pub(crate) fn run_line<S: AsStr, R: Read, W: Write, E: Write>(
+pub(crate) fn run_line<R: Read, W: Write, E: Write>(
     rt: &HostRuntime,
-    arguments: &[S],
+    arguments: &[&str],
     reader: &mut R,
     writer: &mut W,
     errors: &mut E,

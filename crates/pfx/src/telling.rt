@@ -1,7 +1,6 @@
 //! What is printed for people of a refusal that an argument's crate only prints the number of.
 
 use cli_io::{REFUSALS, Shown, explanation, knock};
-use std::convert::AsStr;
 use std::io::{self, Write};
 
 /// That nobody answers at a control socket.
@@ -53,10 +52,9 @@ impl<W: Write> Write for Heard<'_, W> {
 }
 
 /// The value of an option, where it is given.
-fn value_of<'s, S: AsStr>(arguments: &'s [S], option: &str) -> Option<&'s str> {
+fn value_of<'s>(arguments: &[&'s str], option: &str) -> Option<&'s str> {
     let mut is_next = false;
     for argument in arguments {
-        let argument = argument.as_str();
         if is_next {
             return Some(argument);
         }
@@ -71,12 +69,7 @@ fn value_of<'s, S: AsStr>(arguments: &'s [S], option: &str) -> Option<&'s str> {
 }
 
 /// Says what a refusal means, and of a control socket at which nobody answers what the system says.
-pub(crate) fn tell<S: AsStr, E: Write>(
-    rt: &HostRuntime,
-    arguments: &[S],
-    code: u8,
-    errors: &mut E,
-) {
+pub(crate) fn tell<E: Write>(rt: &HostRuntime, arguments: &[&str], code: u8, errors: &mut E) {
     // that people can't be told changes nothing
     if code == NOBODY {
         if let Some(path) = value_of(arguments, "--control") {
