@@ -242,7 +242,7 @@ pub put_in : {Z : Type 0} (at : ℕ) (ks : List (Rc AnchorTree Z)) (k : Rc Ancho
 put_in at ks k h = shared_append (take at ks) (k ∷ drop at ks) ∙ ap (λ r. r ++ k.value ∷ shared (drop at ks)) (sym (take-map (λ k. k.value) at ks)) ∙ ap (λ r. take at (shared ks) ++ k.value ∷ r) (sym (drop-map (λ k. k.value) at ks)) ∙ ap (λ b. take at (shared ks) ++ ((if b then [] else k.value ∷ []) ++ drop at (shared ks))) (sym h)
 
 -- the kids, with one in the place of the name
-around : (n : Name) (ks mid js : List AnchorTree) (at : ℕ) (kid : AnchorTree) → at ≡ length (kids_before n ks) → mid ≡ kids_before n ks ++ kids_behind n ks → js ≡ take at mid ++ (some_kid kid ++ drop at mid) → js ≡ kids_before n ks ++ (some_kid kid ++ kids_behind n ks)
+pub around : (n : Name) (ks mid js : List AnchorTree) (at : ℕ) (kid : AnchorTree) → at ≡ length (kids_before n ks) → mid ≡ kids_before n ks ++ kids_behind n ks → js ≡ take at mid ++ (some_kid kid ++ drop at mid) → js ≡ kids_before n ks ++ (some_kid kid ++ kids_behind n ks)
 around n ks mid js at kid e m j =
     let before = kids_before n ks in
     let behind = kids_behind n ks in

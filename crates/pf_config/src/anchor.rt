@@ -1,7 +1,7 @@
 //! An anchor, with all that is below it.
 
 ghost use Rattle.std.specs.Prelude.{◌≡◌, ◌≤◌, ◌&&◌, ◌++◌, [], IfOk, OnOk, MatchResult, map};
-ghost use Rattle.std.specs.Prelude.{fold, length};
+ghost use Rattle.std.specs.Prelude.{false, find, fold, is_some, length};
 ghost use Rattle.std.specs.List.{list_any};
 ghost use Rattle.std.specs.Option.{option_copied};
 ghost use Rattle.pf_rules.specs.Seen.{rule_of};
@@ -9,8 +9,8 @@ ghost use Rattle.pf_rules.specs.Names.{is_before, begins_below};
 ghost use Rattle.pf_config.specs.Map.{anchor_at, rules_in, tables_in, named, put_name, names_after, followed_by};
 ghost use Rattle.pf_config.specs.Map.{paths_in};
 ghost use Rattle.pf_config.specs.Changes.{is_empty, without_unnamed, refer, tidied_of};
-ghost use Rattle.pf_config.specs.Trees.{shared, child_at, last_name, paths_of, AreBelow};
-ghost use Rattle.pf_config.specs.inner.Trees.{any_unnamed, any_sheds, is_named, placed_in, room_after};
+ghost use Rattle.pf_config.specs.Trees.{shared, child_at, last_name, paths_of, AreBelow, AreKids};
+ghost use Rattle.pf_config.specs.inner.Trees.{any_unnamed, any_sheds, is_named, kids_before, placed_in, room_after};
 ghost use Rattle.pf_config.specs.Ordered.{AreOrdered};
 ghost use Rattle.pf_config.specs.Orders.{stops_of, others_of};
 ghost use Rattle.pf_config.specs.inner.KidOrder.{AreInOrder};
@@ -27,7 +27,7 @@ use crate::change::{Change, change_own};
 use crate::order::{Order, order_of};
 use crate::own::{are_apart, has_entry, is_own_unnamed, is_unnamed_below, own_room, push_own_path};
 use crate::own_rules::OwnRules;
-use crate::paths::copied_path;
+use crate::paths::{copied_path, followed_by};
 use crate::referred::{Referred, any_fleeting};
 use crate::tables::{Tables, named};
 use crate::unused::{any_unused, items_refer, used_tables};
@@ -133,6 +133,14 @@ impl Anchor {
         ensures { result ≡ is_named name.now self.now }
     {
         last_name(&self.names) == name.as_bytes()
+    }
+
+    /// Whether there are rules or tables at its path.
+    #[tactic(auto, using(crate::proofs::Changing::own_is))]
+    pub(crate) fn has_own(&self) -> bool
+        ensures { result ≡ is_some (anchor_at self.now.names self.now.anchors) }
+    {
+        has_entry(&self.items, self.tables.list())
     }
 
     /// Whether it holds nothing.
@@ -490,8 +498,9 @@ pub(crate) fn with_entry(
     }
 }
 
-/// Changes the rules and tables of the anchor at a path below this one in place. False, and nothing is changed, where
-/// that can't be done: there is no such anchor, it has neither rules nor tables, or what would change is shared.
+/// Changes the rules and tables of the anchor at a path below this one in place, which comes in where there is none.
+/// False, and nothing is changed, where that can't be done: what would change is shared, or nothing would be left at
+/// the path.
 #[cycle(changes)]
 pub(crate) fn change_below(
     alloc: Global,
@@ -499,24 +508,25 @@ pub(crate) fn change_below(
     rest: &[Name],
     change: &Change,
 ) -> Result<bool, AllocError>
-    ensures changed { MatchResult result (λ done. TreeChangesIf done (Makes change.now) rest.now anchor.old anchor.new)
+    ensures { MatchResult result (λ done. TreeChangesIf done (Makes change.now) rest.now anchor.old anchor.new)
         (λ e. anchor.new ≡ anchor.old) }
-    ensures length { length anchor.new.anchors ≡ length anchor.old.anchors }
 {
     match rest {
-        [] => {
-            if !has_entry(&anchor.items, anchor.tables.list()) {
-                return Ok(false);
-            }
-            change_own(
-                alloc,
-                &mut anchor.items,
-                &mut anchor.order,
-                &mut anchor.tables,
-                change,
-            )
-        }
-        [first, more @ ..] => change_kid(alloc, &mut anchor.kids, first, more, change),
+        [] => change_own(
+            alloc,
+            &mut anchor.items,
+            &mut anchor.order,
+            &mut anchor.tables,
+            change,
+        ),
+        [first, more @ ..] => change_kid(
+            alloc,
+            &anchor.names,
+            &mut anchor.kids,
+            first,
+            more,
+            change,
+        ),
     }
 }
 
@@ -524,22 +534,50 @@ pub(crate) fn change_below(
 #[cycle(changes)]
 fn change_kid(
     alloc: Global,
+    names: &[Name],
     kids: &mut Vec<Rc<Anchor>>,
     first: &Name,
     more: &[Name],
     change: &Change,
 ) -> Result<bool, AllocError>
-    requires { AreInOrder (shared kids.old.items) }
-    ensures { MatchResult result (λ done. KidChangesIf done (Makes change.now) first.now more.now
+    requires kids { AreKids names.now (shared kids.old.items) }
+    requires order { AreInOrder (shared kids.old.items) }
+    ensures { MatchResult result (λ done. KidChangesIf done (Makes change.now) names.now first.now more.now
         (shared kids.old.items) (shared kids.new.items)) (λ e. shared kids.new.items ≡ shared kids.old.items) }
 {
     let at = count_before(kids, first);
     if !stands_at(kids, at, first) {
-        return Ok(false);
+        return add_kid(alloc, names, kids, at, first, more, change);
     }
     let held = &mut kids[at];
     let Some(kid) = Rc::get_mut(held) else {
         return Ok(false);
     };
     change_below(alloc, kid, more, change)
+}
+
+/// Puts an anchor of that name in its place among the others, with what a change makes at a path below it. False, and
+/// nothing is changed, where it makes nothing.
+fn add_kid(
+    alloc: Global,
+    names: &[Name],
+    kids: &mut Vec<Rc<Anchor>>,
+    at: usize,
+    first: &Name,
+    more: &[Name],
+    change: &Change,
+) -> Result<bool, AllocError>
+    requires kids { AreKids names.now (shared kids.old.items) }
+    requires place { at ≡ length (kids_before first.now (shared kids.old.items)) }
+    requires none { is_some (find (is_named first.now) (shared kids.old.items)) ≡ false }
+    ensures { MatchResult result (λ done. KidChangesIf done (Makes change.now) names.now first.now more.now
+        (shared kids.old.items) (shared kids.new.items)) (λ e. shared kids.new.items ≡ shared kids.old.items) }
+{
+    let Some((rules, tables)) = change.made_of_none(alloc)? else {
+        return Ok(false);
+    };
+    let none = Anchor::empty(alloc, followed_by(alloc, names, first)?)?;
+    let kid = Rc::new(alloc, with_entry(alloc, none, more, rules, tables)?)?;
+    kids.insert(at, kid)?;
+    Ok(true)
 }

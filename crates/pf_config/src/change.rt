@@ -1,16 +1,16 @@
 //! A change of what is at one path, made in place: wholly, or not at all.
 
-ghost use Rattle.std.specs.Prelude.{◌≡◌, ◌≤◌, MatchResult, length, map};
+ghost use Rattle.std.specs.Prelude.{◌≡◌, ◌≤◌, IfOk, MatchResult, length, map, option_map};
 ghost use Rattle.pf_rules.specs.Seen.{rule_of};
 ghost use Rattle.pf_config.specs.Orders.{IsOrder};
-ghost use Rattle.pf_config.specs.inner.TableChanges.{IsGiven, Makes, OwnChangesIf, makes_fleeting};
+ghost use Rattle.pf_config.specs.inner.TableChanges.{AreNew, IsGiven, Makes, OwnChangesIf, makes_fleeting};
 ghost use Rattle.pf_config.specs.declared.config.TheConstants.{RULES_MAX};
 
 use crate::order::Order;
 use crate::own::has_entry;
 use crate::own_rules::OwnRules;
 use crate::referred::any_fleeting;
-use crate::tables::Tables;
+use crate::tables::{Tables, with_table};
 use pf_rules::{Item, TableEntry, TableName};
 use pf_tables::{Edit, Table};
 use std::alloc::{AllocError, Global};
@@ -78,6 +78,32 @@ pub(crate) fn change_own(
 }
 
 impl Change<'_> {
+    /// The rules and tables that it makes where there are none. None where it makes none.
+    pub(crate) fn made_of_none(
+        &self,
+        alloc: Global,
+    ) -> Result<Option<(OwnRules, Tables)>, AllocError>
+        ensures { IfOk result (λ o. AreNew (Makes self.now) (option_map (λ m. (map rule_of m.0.items.value.items, m.1))
+            o)) }
+    {
+        match self {
+            Change::Entry(_, _, _) => Ok(None),
+            Change::Whole(name, table) => {
+                let rules = OwnRules::none(alloc)?;
+                let tables = with_table(alloc, &[], name, table)?;
+                Ok(Some((rules, tables)))
+            }
+            Change::Own(rules, held) => {
+                if !has_entry(&rules.items, held.list()) {
+                    return Ok(None);
+                }
+                let own = rules.copied()?;
+                let tables = held.copied()?;
+                Ok(Some((own, tables)))
+            }
+        }
+    }
+
     /// Whether a table that it makes doesn't persist.
     pub(crate) fn makes_fleeting(&self) -> bool
         ensures { result ≡ makes_fleeting self.now }

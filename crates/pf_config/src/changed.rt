@@ -29,7 +29,7 @@ fn rules_at(alloc: Global, main: &Anchor, path: &[Name]) -> Result<OwnRules, All
             Ok(rules)
         }
         None => {
-            let rules = OwnRules::of(alloc, Rc::new(alloc, Vec::new(alloc))?)?;
+            let rules = OwnRules::none(alloc)?;
             Ok(rules)
         }
     }

@@ -1,11 +1,11 @@
 //! The configuration: anchors with their rules and tables.
 
-ghost use Rattle.std.specs.Prelude.{◌≡◌, ◌≤◌, map, length, not, nat_lt};
+ghost use Rattle.std.specs.Prelude.{◌≡◌, ◌≤◌, ◌||◌, is_some, map, length, not, nat_lt};
 ghost use Rattle.std.specs.Prelude.{[], IfOk, MatchResult};
 ghost use Rattle.std.specs.Prelude.{unwrap_or, Ok, false};
 ghost use Rattle.std.specs.Option.{option_copied};
 ghost use Rattle.pf_rules.specs.Seen.{rule_of};
-ghost use Rattle.pf_config.specs.Map.{rules_at, tables_at, table_at, table_for, table_names, paths_in};
+ghost use Rattle.pf_config.specs.Map.{anchor_at, rules_at, tables_at, table_at, table_for, table_names, paths_in};
 ghost use Rattle.pf_tables.specs.Contents.{with_entries, contents_of};
 ghost use Rattle.pf_config.specs.Changes.{Changes, load, flush_rules, flush_tables, flush_all};
 ghost use Rattle.pf_config.specs.inner.Changes.{FailsWith};
@@ -368,11 +368,44 @@ impl Config {
         self.main = main;
     }
 
+    /// Whether there are rules or tables at a path.
+    #[tactic(auto, using(crate::proofs::Changing::found_own, crate::proofs::Changing::no_own_found))]
+    fn has_own(&self, path: &[Name]) -> bool
+        ensures { result ≡ is_some (anchor_at path.now self.now.anchors) }
+    {
+        match self.anchor(path) {
+            Some(anchor) => anchor.has_own(),
+            None => false,
+        }
+    }
+
+    /// Whether there is room for one path more.
+    #[tactic(auto, using(crate::proofs::Changing::room_left))]
+    fn has_room_for_one(&self) -> bool
+        ensures { result ≡ nat_lt (length self.now.anchors) ANCHORS_MAX }
+    {
+        match self.main.room_after(ANCHORS_MAX) {
+            Some(left) => left > 0,
+            None => false,
+        }
+    }
+
+    /// Whether a change at a path leaves no more paths than there may be. Their number is asked only where it may grow.
+    fn has_place(&self, path: &[Name]) -> bool
+        ensures { result ≡ (is_some (anchor_at path.now self.now.anchors) ||
+            nat_lt (length self.now.anchors) ANCHORS_MAX) }
+    {
+        self.has_own(path) || self.has_room_for_one()
+    }
+
     /// Makes a change at a path in place. False, and nothing is changed, where that can't be done.
     fn change(&mut self, path: &[Name], change: &Change) -> Result<bool, AllocError>
         ensures { MatchResult result (λ done. MapChangesIf done (Makes change.now) path.now self.old self.new)
             (λ e. self.new ≡ self.old) }
     {
+        if !self.has_place(path) {
+            return Ok(false);
+        }
         self.has_fleeting = self.has_fleeting || change.makes_fleeting();
         change_below(self.alloc, &mut self.main, path, change)
     }

@@ -1,6 +1,6 @@
 //! The rules of a path, with their order.
 
-ghost use Rattle.std.specs.Prelude.{◌≡◌, ◌≤◌, IfOk, length, map};
+ghost use Rattle.std.specs.Prelude.{◌≡◌, ◌≤◌, [], IfOk, length, map};
 ghost use Rattle.pf_rules.specs.Seen.{rule_of};
 ghost use Rattle.pf_config.specs.Orders.{IsOrder};
 ghost use Rattle.pf_config.specs.declared.config.TheConstants.{RULES_MAX};
@@ -21,6 +21,13 @@ pub(crate) struct OwnRules {
 }
 
 impl OwnRules {
+    /// None.
+    pub(crate) fn none(alloc: Global) -> Result<OwnRules, AllocError>
+        ensures { IfOk result (λ r. r.items.value.items ≡ []) }
+    {
+        OwnRules::of(alloc, Rc::new(alloc, Vec::new(alloc))?)
+    }
+
     /// The rules, and the order that is made of them.
     pub(crate) fn of(alloc: Global, items: Rc<Vec<Item>>) -> Result<OwnRules, AllocError>
         requires { length items.value.items ≤ RULES_MAX }

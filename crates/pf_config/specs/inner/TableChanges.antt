@@ -1,5 +1,5 @@
 -- A change in place: of one table, or of the rules and tables of a path.
-use Rattle.std.specs.Prelude.{◌≡◌, ℕ, Bool, true, false, ◌&&◌, ◌<◌, ◌≤◌, List, ◌∷◌, ◌++◌, length, take, drop, get_or}
+use Rattle.std.specs.Prelude.{◌≡◌, ℕ, Bool, true, false, ◌&&◌, ◌<◌, ◌≤◌, List, [], ◌∷◌, ◌+◌, ◌++◌, length, take, drop, get_or}
 use Rattle.std.specs.Prelude.{Option, Some, None, Result, Ok, find, not, nat_lt, if◌then◌else◌, map}
 use Rattle.std.specs.List.{list_all, list_any}
 use Rattle.pf_rules.specs.declared.ruleset.TableEntry.{TableEntry}
@@ -17,8 +17,8 @@ use Rattle.pf_config.specs.declared.fault.ConfigFault.{ConfigFault}
 use Rattle.pf_config.specs.Changes.{is_empty, with_table, with_contents, with_anchor, add, delete}
 use Rattle.pf_config.specs.Changes.{Block, Definition, loaded, unless_full}
 use Rattle.pf_config.specs.inner.Referring.{is_fleeting}
-use Rattle.pf_config.specs.Trees.{AnchorTree, tree_at}
-use Rattle.pf_config.specs.inner.Trees.{is_named, kids_before, kids_behind, placed_in}
+use Rattle.pf_config.specs.Trees.{AnchorTree, and_then, tree_at}
+use Rattle.pf_config.specs.inner.Trees.{is_named, kids_before, kids_behind, some_kid, anchors_of, placed_in}
 
 -- ---- one table
 
@@ -104,31 +104,46 @@ abbrev pub own_of : Option AnchorTree → Option AnchorValue
 own_of None = None
 own_of (Some k) = anchor_at k.names k.anchors
 
--- the new anchor has changed rules and tables at a path below it
+-- whether there is an entry, as a number
+abbrev pub count_of : Option AnchorValue → ℕ
+count_of None = 0
+count_of (Some a) = 1
+
+-- the new anchor has changed rules and tables at a path below it, and one entry more if there was none
 pub record TreeChanges (by : Changing) (rest : Path) (old new : AnchorTree) : Type 0 where
   pub rules : List AnyRule
   pub tables : List (Name × TableValue)
   pub is : new ≡ placed_in old rest rules tables
   pub made : let own = own_of (tree_at old rest) in by (rules_in own) (tables_in own) rules tables
+  pub long : length new.anchors + count_of (own_of (tree_at old rest)) ≡ length old.anchors + 1
 
 -- the same, or the anchor is as it was
 abbrev pub TreeChangesIf : Bool → Changing → Path → AnchorTree → AnchorTree → Type 0
 TreeChangesIf true by rest old new = TreeChanges by rest old new
 TreeChangesIf false by rest old new = new ≡ old
 
--- of the anchors the one of that name is changed, and has as many entries as before
-pub record KidChanges (by : Changing) (n : Name) (rest : Path) (old new : List AnchorTree) : Type 0 where
+-- of the anchors below a path the one of that name is changed, or comes in
+pub record KidChanges (by : Changing) (p : Path) (n : Name) (rest : Path) (old new : List AnchorTree) : Type 0 where
+  pub rules : List AnyRule
+  pub tables : List (Name × TableValue)
   pub kid : AnchorTree
-  pub next : AnchorTree
-  pub found : find (is_named n) old ≡ Some kid
-  pub all : new ≡ kids_before n old ++ next ∷ kids_behind n old
-  pub is : TreeChanges by rest kid next
-  pub long : length next.anchors ≡ length kid.anchors
+  pub all : new ≡ kids_before n old ++ (some_kid kid ++ kids_behind n old)
+  pub is : kid ≡ placed_in (record { names = p ++ n ∷ []; anchors = anchors_of (find (is_named n) old) }) rest rules
+      tables
+  pub made : let own = own_of (and_then (find (is_named n) old) (λ k. tree_at k rest)) in by (rules_in own)
+      (tables_in own) rules tables
+  pub long : length kid.anchors + count_of (own_of (and_then (find (is_named n) old) (λ k. tree_at k rest))) ≡ length
+      (anchors_of (find (is_named n) old)) + 1
 
 -- the same, or the anchors are as they were
-abbrev pub KidChangesIf : Bool → Changing → Name → Path → List AnchorTree → List AnchorTree → Type 0
-KidChangesIf true by n rest old new = KidChanges by n rest old new
-KidChangesIf false by n rest old new = new ≡ old
+abbrev pub KidChangesIf : Bool → Changing → Path → Name → Path → List AnchorTree → List AnchorTree → Type 0
+KidChangesIf true by p n rest old new = KidChanges by p n rest old new
+KidChangesIf false by p n rest old new = new ≡ old
+
+-- rules and tables, if there are any, of which there are some, and which are made of none
+abbrev pub AreNew : Changing → Option (List AnyRule × List (Name × TableValue)) → Type 0
+AreNew by None = Unit {0}
+AreNew by (Some own) = ((is_empty own.0 && is_empty own.1) ≡ false) × by [] [] own.0 own.1
 
 -- the new configuration has changed rules and tables at a path, and no more entries than it may have
 pub record MapChanges (by : Changing) (p : Path) (old new : Configuration) : Type 0 where
