@@ -8,11 +8,13 @@ use Rattle.px_replica.specs.Calls.{OpenRefused}
 use Rattle.px_replica.specs.declared.fault.NodeFault.{NodeFault}
 use Rattle.px_replica.specs.declared.fault.NodeFault.TheVariants as fault
 use Rattle.pf_config.specs.Map.{Configuration}
+use Rattle.pf_arguments.specs.Answers.{action_value}
+use Rattle.pf_scripts.specs.Listings.{listed}
 use Rattle.pf_node.specs.Applied.{after}
 use Rattle.cli_nft.specs.Outputs.{config_output}
 use Rattle.pf_dump.specs.Scripts.{Gives}
 use Rattle.cli_show.specs.Texts.{ShowsTexts}
-use Rattle.cli_show.specs.Writing.{listed, verdicts, log_shown, figures, of_kernel, OrNone, shown_value}
+use Rattle.cli_show.specs.Writing.{answered, verdicts, log_shown, figures, of_kernel, OrNone, shown_value}
 use Rattle.cli_show.specs.declared.shown.Shown.{Shown}
 use Rattle.cli_show.specs.declared.shown.Wanted.{Wanted}
 use Rattle.cli_show.specs.declared.shown.Wanted.TheVariants as wanted
@@ -20,7 +22,7 @@ use Rattle.cli_show.specs.declared.shown.Wanted.TheVariants as wanted
 -- What is shown of the configuration after the first k entries of a log. rulesets for pfctl(8), and a script, unless
 -- they are refused with 91, give the configuration.
 abbrev pub Shows : Log Bytes → (k kept : ℕ) → Configuration → Wanted → Shown → Type 0
-Shows log k kept c (wanted.Words words) s = shown_value s ≡ listed c (map (λ w. w.now) words.now)
+Shows log k kept c (wanted.Listing action) s = shown_value s ≡ answered (listed c (action_value action.now))
 Shows log k kept c (wanted.Packets packets) s = shown_value s ≡ verdicts c (map (λ p. p.now) packets.now)
 Shows log k kept c (wanted.Log from count) s = shown_value s ≡ log_shown log k kept from count
 Shows log k kept c (wanted.Nft file) s = shown_value s ≡ of_kernel (config_output (option_map (λ t. t.now) file) [] k c)

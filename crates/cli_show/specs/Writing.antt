@@ -1,6 +1,6 @@
 -- What is written of a configuration and of a log.
 use Rattle.std.specs.Prelude.{◌≡◌, ℕ, Bool, true, false, List, [], ◌∷◌, ◌++◌, ◌+◌, ◌-◌, min, Option, Some, None}
-use Rattle.std.specs.Prelude.{option_map, unwrap_or, codes, decimal}
+use Rattle.std.specs.Prelude.{Result, Ok, Err, option_map, unwrap_or, codes, decimal}
 use Rattle.clap.specs.Words.{Text}
 use Rattle.px_model.specs.Node.{Log}
 use Rattle.px_model.specs.Spelling.{Bytes}
@@ -11,7 +11,6 @@ use Rattle.pf_eval.specs.PacketTexts.{packet_of}
 use Rattle.pf_eval.specs.Verdicts.{judgement}
 use Rattle.pf_eval.specs.Seen.{verdict_text}
 use Rattle.pf_scripts.specs.Lines.{line, refused_line}
-use Rattle.pf_scripts.specs.WordsRead.{WordsValue, Asks, Refuses, Shows, words_read}
 use Rattle.cli_nft.specs.Outputs as kernel
 use Rattle.node_requests.specs.Positions.{lines_before}
 use Rattle.cli_show.specs.declared.shown.Shown.{Shown}
@@ -30,18 +29,13 @@ written bytes = record { bytes = bytes; refused = false }
 abbrev pub refused : ℕ → ℕ → ShownValue
 refused code at = record { bytes = refused_line code at; refused = true }
 
--- ---- pfctl's words
+-- ---- listings
 
--- what words give; those of a change are 40 here
-abbrev pub answered : WordsValue → ShownValue
-answered (Asks command) = refused 40 0
-answered (Refuses code at) = refused code at
-answered (Shows output) = written output
-
--- a line of pfctl's words at a configuration
--- Example: pfctl -F rules is refused 40.
-abbrev pub listed : Configuration → List Text → ShownValue
-listed c words = answered (words_read c words [])
+-- what is listed, or the number of its refusal
+-- Example: pfctl -t bad -T show without such a table is refused 20.
+abbrev pub answered : Result (List ℕ) ℕ → ShownValue
+answered (Ok output) = written output
+answered (Err code) = refused code 0
 
 -- ---- packets
 

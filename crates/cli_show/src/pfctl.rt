@@ -1,12 +1,15 @@
-//! pfctl's words and packets at a configuration.
+//! pfctl's listings and packets at a configuration.
 
 ghost use Rattle.std.specs.Prelude.{◌≡◌, ◌++◌, IfOk, map, option_map, string_bytes};
-ghost use Rattle.cli_show.specs.Writing.{refused, listed, verdicts, verdict_for, shown_value};
+ghost use Rattle.pf_arguments.specs.Answers.{action_value};
+ghost use Rattle.pf_scripts.specs.Listings.{listed};
+ghost use Rattle.cli_show.specs.Writing.{refused, answered, verdicts, verdict_for, shown_value};
 
 use crate::shown::Shown;
+use pf_arguments::Action;
 use pf_config::Config;
 use pf_eval::{PacketFault, parse_packet, show_verdict, verdict};
-use pf_scripts::{WordsRead, push_line, push_refusal, read_words};
+use pf_scripts::{list, push_line, push_refusal};
 use std::alloc::{AllocError, Global};
 
 /// A text as it is shown.
@@ -27,18 +30,17 @@ pub(crate) fn refused(alloc: Global, code: u8, at: u64) -> Result<Shown, AllocEr
     as_shown(alloc, text.as_str(), true)
 }
 
-/// What a line of pfctl's words prints, `pfctl` first; words of a change are 40.
-pub(crate) fn show_words(
+/// What an action lists, or its refusal.
+pub(crate) fn show_listing(
     alloc: Global,
     config: &Config,
-    words: &[&str],
+    action: &Action,
 ) -> Result<Shown, AllocError>
-    ensures { IfOk result (λ s. shown_value s ≡ listed config.now (map (λ w. w.now) words.now)) }
+    ensures { IfOk result (λ s. shown_value s ≡ answered (listed config.now (action_value action.now))) }
 {
-    match read_words(alloc, config, words, &[])? {
-        WordsRead::Change(_) => refused(alloc, 40, 0),
-        WordsRead::Refused(code, at) => refused(alloc, code, at),
-        WordsRead::Output(text) => as_shown(alloc, text.as_str(), false),
+    match list(alloc, config, action)? {
+        Ok(text) => as_shown(alloc, text.as_str(), false),
+        Err(code) => refused(alloc, code, 0),
     }
 }
 

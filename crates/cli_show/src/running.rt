@@ -8,10 +8,11 @@ use crate::arguments::command;
 use crate::file::show_file;
 use crate::outcome::{Outcome, outcome_for, write_outcome};
 use crate::shown::Wanted;
-use crate::wanted::{Kind, kind_of, line_of, rest_of};
+use crate::wanted::{Kind, kind_of, rest_of};
 use clap::ArgMatches;
 use cli_io::{Status, misused, out_of_memory};
 use cli_nft::read_file;
+use pf_arguments::from_matches;
 use std::alloc::Global;
 use std::convert::AsStr;
 use std::io::Write;
@@ -55,16 +56,19 @@ fn packets_outcome(rt: &HostRuntime, alloc: Global, store: &str, rest: &[&str]) 
     }
 }
 
-/// What a line of pfctl's words prints.
-fn words_outcome(
+/// What pfctl's options list.
+fn listing_outcome(
     rt: &HostRuntime,
     alloc: Global,
     store: &str,
     matches: &ArgMatches<'_>,
 ) -> Outcome {
-    match line_of(alloc, matches) {
-        Ok(words) => shown_of(rt, alloc, store, Wanted::Words(words.as_slice())),
-        Err(_) => Outcome::Memory,
+    match from_matches(alloc, matches, &[]) {
+        Ok(action) => shown_of(rt, alloc, store, Wanted::Listing(&action)),
+        Err(fault) => match fault.code() {
+            Some(code) => Outcome::Refused(code),
+            None => Outcome::Memory,
+        },
     }
 }
 
@@ -80,7 +84,7 @@ fn outcome_of(rt: &HostRuntime, alloc: Global, matches: &ArgMatches<'_>) -> Outc
         Kind::Figures => shown_of(rt, alloc, store, Wanted::Figures),
         Kind::Log => log_outcome(rt, alloc, store, matches),
         Kind::Packets => packets_outcome(rt, alloc, store, rest_of(matches)),
-        Kind::Words => words_outcome(rt, alloc, store, matches),
+        Kind::Listing => listing_outcome(rt, alloc, store, matches),
     }
 }
 

@@ -9,7 +9,7 @@ ghost use Rattle.cli_show.specs.Showing.{Shows, ShowsRecord, IsRefused};
 
 use crate::figures::show_figures;
 use crate::logged::show_log;
-use crate::pfctl::{as_shown, show_verdicts, show_words};
+use crate::pfctl::{as_shown, show_listing, show_verdicts};
 use crate::scripts::show_script;
 use crate::shown::{Shown, Wanted};
 use crate::texts::show_texts;
@@ -44,7 +44,7 @@ pub fn show_node<R: Records>(
         (config_of node.now) wanted.entry s) }
 {
     match wanted {
-        Wanted::Words(words) => show_words(alloc, node.config(), words),
+        Wanted::Listing(action) => show_listing(alloc, node.config(), action),
         Wanted::Packets(packets) => show_verdicts(alloc, node.config(), packets),
         Wanted::Log { from, count } => show_log(alloc, node, from, count),
         Wanted::Nft { interfaces } => show_nft(alloc, interfaces, node.config(), node.applied()),

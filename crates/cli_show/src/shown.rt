@@ -1,10 +1,12 @@
 //! What is wanted of a record, and what is shown.
 
+use pf_arguments::Action;
+
 /// What is wanted of a record.
 #[derive(Clone, Copy)]
 pub enum Wanted<'a> {
-    /// What a line of pfctl's words prints, `pfctl` first.
-    Words(&'a [&'a str]),
+    /// What an action lists (pfctl(8), `-s` and `-T`).
+    Listing(&'a Action),
     /// The verdicts for packets.
     Packets(&'a [&'a str]),
     /// Lines of the log: from a position on, and that many at most. Without a position the last ones, 20 if it isn't said

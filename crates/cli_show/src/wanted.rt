@@ -1,13 +1,12 @@
 //! What the words ask for.
 
 use clap::ArgMatches;
-use std::alloc::{AllocError, Global};
 
 /// What is asked for beside a listing.
 #[derive(Clone, Copy, PartialEq, Eq)]
 pub(crate) enum Kind {
-    /// pfctl's words.
-    Words,
+    /// What pfctl's options list.
+    Listing,
     /// The verdicts for packets.
     Packets,
     /// Lines of the log.
@@ -66,7 +65,7 @@ pub(crate) fn kind_of(matches: &ArgMatches<'_>) -> Option<Kind> {
         };
     }
     if !is_plain {
-        return Some(Kind::Words);
+        return Some(Kind::Listing);
     }
     match rest {
         [] => Some(Kind::Figures),
@@ -74,39 +73,4 @@ pub(crate) fn kind_of(matches: &ArgMatches<'_>) -> Option<Kind> {
         ["test", _, ..] => Some(Kind::Packets),
         _ => None,
     }
-}
-
-/// Adds an option and its value, if the words have it.
-fn add_option<'a>(
-    words: &mut Vec<&'a str>,
-    matches: &ArgMatches<'a>,
-    option: &'a str,
-    id: &str,
-) -> Result<(), AllocError> {
-    if let Some(value) = matches.get_str(id) {
-        words.push(option)?;
-        words.push(value)?;
-    }
-    Ok(())
-}
-
-/// The line of pfctl's words, `pfctl` first.
-pub(crate) fn line_of<'a>(
-    alloc: Global,
-    matches: &ArgMatches<'a>,
-) -> Result<Vec<&'a str>, AllocError> {
-    let mut words = Vec::new(alloc);
-    words.push("pfctl")?;
-    if matches.get_flag("check") {
-        words.push("-n")?;
-    }
-    add_option(&mut words, matches, "-a", "path")?;
-    add_option(&mut words, matches, "-F", "flush")?;
-    add_option(&mut words, matches, "-t", "table")?;
-    add_option(&mut words, matches, "-T", "change")?;
-    add_option(&mut words, matches, "-s", "show")?;
-    for word in rest_of(matches) {
-        words.push(*word)?;
-    }
-    Ok(words)
 }

@@ -1,5 +1,5 @@
 -- What requests ask of the node.
-use Rattle.std.proofs.Common.{◌≡◌, ◌⊎◌, ◌≤◌, ◌+◌, ℕ, zero, suc, true, false, Bool, Result, Ok, Err, refl, sym, ap, subst, ◌∙◌, inl, inr, arith}
+use Rattle.std.proofs.Common.{◌≡◌, ◌⊎◌, ◌≤◌, ◌+◌, ℕ, zero, suc, true, false, Bool, refl, sym, ap, subst, ◌∙◌, inl, inr, arith}
 use Rattle.std.specs.Prelude.{if◌then◌else◌}
 use Rattle.px_records.specs.declared.records.Records.{Ghosts}
 use Rattle.px_replica.specs.declared.state.Replica.{Replica}
@@ -8,8 +8,8 @@ use Rattle.pf_node.specs.Nodes.{replica_of, applied_of}
 use Rattle.pf_node.specs.declared.state.Node.{Node}
 use Rattle.node_loop.specs.Hosting.{AskedOnce, AskedTimes, AsksUpTo}
 use Rattle.node_requests.specs.Answers.{AnswerValue}
-use Rattle.node_requests.specs.Changing.{bytes_of, Changes, ChangesIf, has_position}
-use Rattle.node_requests.specs.Requests.{Answers, IsChange}
+use Rattle.node_requests.specs.Changing.{bytes_of, ChangesIf, has_position}
+use Rattle.node_requests.specs.Requests.{Answers}
 use Rattle.node_requests.specs.declared.changing.Changed.{Changed}
 use Rattle.node_requests.specs.declared.handler.RequestHandler.{RequestHandler}
 use Rattle.node_requests.specs.declared.request.Request.{Request}
@@ -36,18 +36,9 @@ changed_if s t command changed true once =
     record { so = inr (bytes_of command, once.fault, once.call); applied = once.applied }
 changed_if s t command changed false still = same s t still.0
 
-changed_so : {R : Type 0} {G : Ghosts R} (s t : Node R G) (asked : Result entries.Command ℕ) (changed : Changed) →
-    Changes s t asked changed → Asked s t
-changed_so s t (Err code) changed still = same s t still.0
-changed_so s t (Ok command) changed c = changed_if s t command changed (has_position s) c
-
-changed_any : {R : Type 0} {G : Ghosts R} (s t : RequestHandler R G) (asked : Result entries.Command ℕ) (a : AnswerValue) → IsChange s t asked a →
-    Asked s.node t.node
-changed_any s t asked a c = changed_so s.node t.node asked c.changed c.changes
-
 answered_so : {R : Type 0} {G : Ghosts R} (s t : RequestHandler R G) (counted : Counters) (q : Request) (a : AnswerValue) →
     Answers s t counted q a → Asked s.node t.node
-answered_so s t counted (request.Change words text) a c = changed_any s t _ a c
+answered_so s t counted (request.Change command) a c = changed_if s.node t.node _ c.changed (has_position s.node) c.changes
 answered_so {R} {G} s t counted (request.Read at r) a c = same s.node t.node (ap (λ (d : RequestHandler R G). d.node) c.0)
 answered_so {R} {G} s t counted request.Stop a c = same s.node t.node (ap (λ (d : RequestHandler R G). d.node) c.0)
 
@@ -70,8 +61,8 @@ turned {R} {G} c d same left = none_asked c d (ap (λ (h : RequestHandler R G). 
 -- a request that was answered
 pub answered : {R : Type 0} {G : Ghosts R} (c d : HttpService R G) (counted : Counters) (q : Request) (a : AnswerValue) →
     c.changes_left ≡ (if is_change q then suc d.changes_left else d.changes_left) → Answers c.handler d.handler counted q a → AsksWithin c d
-answered c d counted (request.Change words text) a left k =
-    asked_so c d left (answered_so c.handler d.handler counted (request.Change words text) a k)
+answered c d counted (request.Change command) a left k =
+    asked_so c d left (answered_so c.handler d.handler counted (request.Change command) a k)
 answered {R} {G} c d counted (request.Read at r) a left k =
     none_asked c d (ap (λ (h : RequestHandler R G). h.node) k.0) left
 answered {R} {G} c d counted request.Stop a left k =

@@ -76,7 +76,7 @@ fn is_urgent(request: &Request) -> bool
     match request {
         Request::Stop => true,
         Request::Read { at: _, read } => matches!(read, Read::Health | Read::Ready),
-        Request::Change { .. } => false,
+        Request::Change(_) => false,
     }
 }
 
@@ -85,7 +85,7 @@ fn is_change(request: &Request) -> bool
     ensures { result ≡ is_change request.now }
 {
     match request {
-        Request::Change { .. } => true,
+        Request::Change(_) => true,
         Request::Read { .. } | Request::Stop => false,
     }
 }
@@ -325,7 +325,7 @@ impl<R: Records> HttpService<R> {
     {
         match request {
             Request::Read { at: _, read: _ } => self.ask(request, response),
-            Request::Change { .. } | Request::Stop => {
+            Request::Change(_) | Request::Stop => {
                 self.not_found(response);
                 Ok(())
             }

@@ -1,34 +1,80 @@
 -- Which requests change something: what a method, a path, a query and a body ask for, by cases.
 use Rattle.std.proofs.Common.{◌≡◌, ◌≢◌, ◌∙◌, ℕ, ◌==◌, Bool, true, false, List, [], ◌∷◌, refl, sym, ap, subst, Option, Some, None}
-use Rattle.std.proofs.Common.{◌⊎◌, ◌&&◌, ◌||◌, inl, inr, option_map}
+use Rattle.std.proofs.Common.{◌⊎◌, ◌&&◌, ◌||◌, inl, inr, Result, Ok, Err}
 use Rattle.std.specs.Prelude.{codes, length, nat_lt, nat_le, if◌then◌else◌, ◌↔◌}
 use Rattle.std.specs.Str.{bytes_eq}
 use Rattle.std.specs.List.{before_first, after_first, list_any}
 use Rattle.std.proofs.Common.{true≢false}
-use Rattle.std.proofs.lemmas.Bool.{eqb-true}
 use Rattle.std.proofs.lemmas.Slice.Eq.{bytes_eq-Decides}
-use Rattle.clap.specs.Words.{Text}
+use Rattle.clap.specs.Words.{Text, Row, first_of}
+use Rattle.pf_addr.specs.declared.fault.AddrFault.TheVariants.{BadNumber, BadShape, BadLength}
+use Rattle.pf_entry.specs.Entry.{Command}
+use Rattle.pf_arguments.specs.Asked.{Asked as Answer, ActionValue, Change, CheckOnly, ShowRules, ShowTables, ShowAnchors, TableShow, TableTest, asked, given_in}
+use Rattle.pf_arguments.specs.declared.fault.CommandFault.TheVariants.{Memory, Usage, BadPath, BadAddress, TooLong}
+use Rattle.pf_scripts.specs.Ctl.{numbered, rows_asked, asked_at as action_at, is_standard, rows_in}
 use Rattle.pf_scripts.specs.Lines.{words_in}
+use Rattle.pf_scripts.specs.WordsRead.{change_of as command_of, change_in}
 use Rattle.node_requests.specs.declared.target.Target.{Target}
 use Rattle.node_requests.specs.declared.target.Target.TheVariants as to
 use Rattle.node_requests.specs.Queries.{parameters, are_parameters}
 use Rattle.node_requests.specs.Targets.{plain_target, method_of}
 use Rattle.node_requests.specs.declared.routing.TheConstants.{PACKETS_MAX}
 use Rattle.node_requests.specs.Routing.{RoutedValue, Asked, Refused, Unread, Changes, Reads, Stops, is_newline}
-use Rattle.node_requests.specs.Routing.{change_of, change_in, table_test_of, test_of, target_asked, asked_by, request_number}
+use Rattle.node_requests.specs.Routing.{changes_if, change_of, change_asked, showing, on_table, looked_up, lists, lists_if, test_of, target_asked}
+use Rattle.node_requests.specs.Routing.{asked_by, request_number}
 use Rattle.node_requests.specs.Routing.{reads, Verdicts, Standing, asked_at, standing_of, behind, routed_behind, routed, lines_in}
 use Rattle.node_requests.specs.Answers.{status_of}
 use Rattle.node_requests.specs.Posting.{PostsChange, PostsStop, refused_with, is_of_clients}
 
+-- ---- what is refused
+
+-- a refusal with a status of clients, or none
+abbrev is_fair : {X : Type 0} → Result X ℕ → Bool
+is_fair (Ok x) = true
+is_fair (Err code) = is_of_clients (status_of code)
+
+numbered_fair : (a : Answer) → is_fair (numbered a) ≡ true
+numbered_fair (Ok action) = refl
+numbered_fair (Err Memory) = refl
+numbered_fair (Err Usage) = refl
+numbered_fair (Err BadPath) = refl
+numbered_fair (Err (BadAddress BadNumber)) = refl
+numbered_fair (Err (BadAddress BadShape)) = refl
+numbered_fair (Err (BadAddress BadLength)) = refl
+numbered_fair (Err TooLong) = refl
+
+fair_if : {X : Type 0} (b : Bool) (x y : Result X ℕ) → is_fair x ≡ true → is_fair y ≡ true → is_fair (if b then x else y) ≡ true
+fair_if true x y h k = h
+fair_if false x y h k = k
+
+action_fair : (text : List ℕ) (o : Option (List Row)) → is_fair (action_at text o) ≡ true
+action_fair text None = refl
+action_fair text (Some rows) =
+    fair_if (is_standard (first_of (codes "file") rows)) (numbered (asked (given_in rows) text)) (Err 40)
+    (numbered_fair (asked (given_in rows) text)) refl
+
+command_fair : (r : Result ActionValue ℕ) → is_fair r ≡ true → is_fair (command_of r) ≡ true
+command_fair (Err code) h = h
+command_fair (Ok (Change command)) h = refl
+command_fair (Ok (CheckOnly p)) h = refl
+command_fair (Ok (ShowRules p)) h = refl
+command_fair (Ok (ShowTables p)) h = refl
+command_fair (Ok ShowAnchors) h = refl
+command_fair (Ok (TableShow p t)) h = refl
+command_fair (Ok (TableTest p t list)) h = refl
+
+change_fair : (words : List Text) (text : List ℕ) → is_fair (change_in words text) ≡ true
+change_fair words text = command_fair (action_at text (rows_in words)) (action_fair text (rows_in words))
+
 -- ---- what changes nothing
 
--- a read, or a refusal with 400, 404 or 405
+-- a read, or a refusal with a status of clients
 abbrev still : RoutedValue → Bool
-still (Asked (Changes words text)) = false
+still (Asked (Changes command)) = false
 still (Asked (Reads at r)) = true
 still (Asked Stops) = false
 still (Refused status) = is_of_clients status
-still (Unread code) = code == 40
+still (Unread code) = is_of_clients (status_of code)
 
 still_if : (b : Bool) (x y : RoutedValue) → still x ≡ true → still y ≡ true → still (if b then x else y) ≡ true
 still_if true x y h k = h
@@ -42,9 +88,12 @@ guarded b c v h = still_if b (if c then v else Refused 400) (Refused 405) (still
 plain : (m q b : List ℕ) (j : Bool) (t : Target) → still (asked_at t (parameters q) b j) ≡ true → still (asked_by m (Some t) q b j) ≡ true
 plain m q b j t h = guarded (bytes_eq m (method_of t)) (are_parameters t (parameters q)) (asked_at t (parameters q) b j) h
 
-table_tests : (given : List (Text × Text)) (o : Option (List Text)) → still (table_test_of given o) ≡ true
-table_tests given None = refl
-table_tests given (Some addresses) = refl
+listings_if : (given : List (Text × Text)) (r : Result ActionValue ℕ) → is_fair r ≡ true → still (lists_if given r) ≡ true
+listings_if given (Ok action) h = refl
+listings_if given (Err code) h = h
+
+listings : (given : List (Text × Text)) (a : Answer) → still (lists given a) ≡ true
+listings given a = listings_if given (numbered a) (numbered_fair a)
 
 tests : (given : List (Text × Text)) (o : Option (List Text)) → still (test_of given o) ≡ true
 tests given None = refl
@@ -146,7 +195,7 @@ Post at m p q = (m ≡ codes "POST") × (p ≡ at) × (parameters q ≡ [])
 
 -- nothing is changed, or it is a change, or an end
 abbrev Outcome : (m p q b : List ℕ) → RoutedValue → Type 0
-Outcome m p q b v = (still v ≡ true) ⊎ ((Post (codes "/v1/changes") m p q × (v ≡ change_in b)) ⊎ (Post (codes "/v1/stop") m p q × (v ≡ Asked Stops)))
+Outcome m p q b v = (still v ≡ true) ⊎ ((Post (codes "/v1/changes") m p q × (v ≡ change_asked b)) ⊎ (Post (codes "/v1/stop") m p q × (v ≡ Asked Stops)))
 
 none_for_changes : (ps : List (Text × Text)) → are_parameters to.Changes ps ≡ true → ps ≡ []
 none_for_changes [] e = refl
@@ -159,7 +208,7 @@ none_for_stop (p ∷ ps) e = cc
 changes : (m p q b : List ℕ) (j : Bool) → p ≡ codes "/v1/changes" → Outcome m p q b (asked_by m (Some to.Changes) q b j)
 changes m p q b j at =
     (elim (bytes_eq m (codes "POST")) as (λ x. bytes_eq m (codes "POST") ≡ x → Outcome m p q b (if x then target_asked to.Changes q b j else Refused 405)) [
-      | true ↦ λ is. (elim (are_parameters to.Changes (parameters q)) as (λ y. are_parameters to.Changes (parameters q) ≡ y → Outcome m p q b (if y then change_in b else Refused 400)) [
+      | true ↦ λ is. (elim (are_parameters to.Changes (parameters q)) as (λ y. are_parameters to.Changes (parameters q) ≡ y → Outcome m p q b (if y then change_asked b else Refused 400)) [
         | true ↦ λ bare. inr (inl (((bytes_eq-Decides m (codes "POST")).0 is, at, none_for_changes (parameters q) bare), refl))
         | false ↦ λ bare. inl refl
       ]) refl
@@ -180,11 +229,11 @@ at_target : (m p q b : List ℕ) (j : Bool) (t : Option Target) → plain_target
 at_target m p q b j None e = inl refl
 at_target m p q b j (Some to.Changes) e = changes m p q b j (at_changes p (ap is_changes e))
 at_target m p q b j (Some to.Requests) e = inl (plain m q b j to.Requests refl)
-at_target m p q b j (Some to.Rules) e = inl (plain m q b j to.Rules refl)
-at_target m p q b j (Some to.Tables) e = inl (plain m q b j to.Tables refl)
+at_target m p q b j (Some to.Rules) e = inl (plain m q b j to.Rules (listings (parameters q) (asked (showing (parameters q) (codes "rules")) [])))
+at_target m p q b j (Some to.Tables) e = inl (plain m q b j to.Tables (listings (parameters q) (asked (showing (parameters q) (codes "Tables")) [])))
 at_target m p q b j (Some to.Anchors) e = inl (plain m q b j to.Anchors refl)
-at_target m p q b j (Some to.Table) e = inl (plain m q b j to.Table refl)
-at_target m p q b j (Some to.TableTest) e = inl (plain m q b j to.TableTest (table_tests (parameters q) (lines_in b)))
+at_target m p q b j (Some to.Table) e = inl (plain m q b j to.Table (listings (parameters q) (asked (on_table (parameters q) (codes "show") []) [])))
+at_target m p q b j (Some to.TableTest) e = inl (plain m q b j to.TableTest (listings (parameters q) (looked_up (parameters q) (lines_in b))))
 at_target m p q b j (Some to.Test) e = inl (plain m q b j to.Test (tests (parameters q) (lines_in b)))
 at_target m p q b j (Some to.Log) e = inl (plain m q b j to.Log refl)
 at_target m p q b j (Some to.Entries) e = inl (plain m q b j to.Entries refl)
@@ -203,82 +252,98 @@ outcome m p q b j = by_front m p q b j (behind p)
 
 -- ---- changes
 
-abbrev words_at : RoutedValue → List Text
-words_at (Asked (Changes words text)) = words
-words_at (Asked (Reads at r)) = []
-words_at (Asked Stops) = []
-words_at (Refused status) = []
-words_at (Unread code) = []
-
-abbrev text_at : RoutedValue → List ℕ
-text_at (Asked (Changes words text)) = text
-text_at (Asked (Reads at r)) = []
-text_at (Asked Stops) = []
-text_at (Refused status) = []
-text_at (Unread code) = []
-
 abbrev is_end : RoutedValue → Bool
-is_end (Asked (Changes words text)) = false
+is_end (Asked (Changes command)) = false
 is_end (Asked (Reads at r)) = false
 is_end (Asked Stops) = true
 is_end (Refused status) = false
 is_end (Unread code) = false
 
-abbrev is_asked : RoutedValue → Bool
-is_asked (Asked r) = true
-is_asked (Refused status) = false
-is_asked (Unread code) = false
+-- the change, if one is asked for
+abbrev asked_in : RoutedValue → Option Command
+asked_in (Asked (Changes command)) = Some command
+asked_in (Asked (Reads at r)) = None
+asked_in (Asked Stops) = None
+asked_in (Refused status) = None
+asked_in (Unread code) = None
 
-abbrev Read : (o : Option (List Text)) (rest : List ℕ) (words : List Text) (text : List ℕ) → Type 0
-Read o rest words text = (option_map (λ (ws : List Text). codes "pfctl" ∷ ws) o ≡ Some words) × (text ≡ rest)
+some_change : (r : Result Command ℕ) (command : Command) → asked_in (changes_if r) ≡ Some command → r ≡ Ok command
+some_change (Ok c) command e = let same : Some c ≡ Some command = e in cc
+some_change (Err code) command e = let none : None ≡ Some command = e in cc
 
-change_from : (o : Option (List Text)) (rest : List ℕ) (words : List Text) (text : List ℕ) →
-    change_of o rest ≡ Asked (Changes words text) → Read o rest words text
-change_from None rest words text e = absurd (true≢false (sym (ap is_asked e)))
-change_from (Some ws) rest words text e = (ap Some (ap words_at e), sym (ap text_at e))
+change_from : (m p q b : List ℕ) (o : Option (List Text)) (command : Command) → words_in (before_first is_newline b) ≡ o →
+    Post (codes "/v1/changes") m p q → asked_in (change_of o (after_first is_newline b)) ≡ Some command → PostsChange m p q b command
+change_from m p q b None command is post e = let none : None ≡ Some command = e in cc
+change_from m p q b (Some ws) command is post e = record {
+  posted = post.0;
+  there = post.1;
+  bare = post.2;
+  words = ws;
+  line = is;
+  asks = some_change (change_in (codes "pfctl" ∷ ws) (after_first is_newline b)) command e;
+}
 
-change_to : (o : Option (List Text)) (rest : List ℕ) (words : List Text) (text : List ℕ) → Read o rest words text →
-    change_of o rest ≡ Asked (Changes words text)
-change_to None rest words text h = let none : None ≡ Some words = h.0 in cc
-change_to (Some ws) rest words text h =
-    let same : Some (codes "pfctl" ∷ ws) ≡ Some words = h.0 in
-    let both : codes "pfctl" ∷ ws ≡ words = ap (λ (o : Option (List Text)). elim o [ None ↦ [] | Some v ↦ v ]) same in
-    ap (λ (v : List Text). Asked (Changes v rest)) both ∙ ap (λ (t : List ℕ). Asked (Changes words t)) (sym h.1)
+no_stop_if : (r : Result Command ℕ) → is_end (changes_if r) ≡ false
+no_stop_if (Ok command) = refl
+no_stop_if (Err code) = refl
 
-no_stop : (o : Option (List Text)) (rest : List ℕ) → change_of o rest ≡ Asked Stops → ⊥
-no_stop None rest e = true≢false (sym (ap is_asked e))
-no_stop (Some ws) rest e = let same : codes "pfctl" ∷ ws ≡ [] = ap words_at e in cc
+no_stop : (o : Option (List Text)) (text : List ℕ) → is_end (change_of o text) ≡ false
+no_stop None text = refl
+no_stop (Some ws) text = no_stop_if (change_in (codes "pfctl" ∷ ws) text)
 
-status_there : (o : Option (List Text)) (rest : List ℕ) (s : ℕ) → refused_with (change_of o rest) ≡ Some s → is_of_clients s ≡ true
-status_there None rest s e = let same : 400 ≡ s = ap (λ (n : Option ℕ). elim n [ None ↦ 400 | Some k ↦ k ]) e in subst (λ k. is_of_clients k ≡ true) same refl
-status_there (Some ws) rest s e = cc
+-- what is asked, or a refusal with a status of clients
+abbrev is_served : RoutedValue → Bool
+is_served (Asked r) = true
+is_served (Refused status) = is_of_clients status
+is_served (Unread code) = is_of_clients (status_of code)
+
+changes_served : (r : Result Command ℕ) → is_fair r ≡ true → is_served (changes_if r) ≡ true
+changes_served (Ok command) h = refl
+changes_served (Err code) h = h
+
+change_served : (o : Option (List Text)) (text : List ℕ) → is_served (change_of o text) ≡ true
+change_served None text = refl
+change_served (Some ws) text =
+    changes_served (change_in (codes "pfctl" ∷ ws) text) (change_fair (codes "pfctl" ∷ ws) text)
+
+still_served : (v : RoutedValue) → still v ≡ true → is_served v ≡ true
+still_served (Asked r) h = refl
+still_served (Refused status) h = h
+still_served (Unread code) h = h
+
+served_status : (v : RoutedValue) (s : ℕ) → is_served v ≡ true → refused_with v ≡ Some s → is_of_clients s ≡ true
+served_status (Asked r) s h e = cc
+served_status (Refused status) s h e =
+    let same : status ≡ s = ap (λ (n : Option ℕ). elim n [ None ↦ status | Some k ↦ k ]) e in subst (λ k. is_of_clients k ≡ true) same h
+served_status (Unread code) s h e =
+    let same : status_of code ≡ s = ap (λ (n : Option ℕ). elim n [ None ↦ status_of code | Some k ↦ k ]) e in
+    subst (λ k. is_of_clients k ≡ true) same h
 
 -- ---- laws
 
-change_of_case : (m p q b : List ℕ) (v : RoutedValue) (words : List Text) (text : List ℕ) → Outcome m p q b v → v ≡ Asked (Changes words text) →
-    PostsChange m p q b words text
-change_of_case m p q b v words text (inl h) e = absurd (true≢false (sym h ∙ ap still e))
-change_of_case m p q b v words text (inr (inl (post, is))) e =
-    let read = change_from (words_in (before_first is_newline b)) (after_first is_newline b) words text (sym is ∙ e) in
-    record { posted = post.0; there = post.1; bare = post.2; line = read.0; rest = read.1 }
-change_of_case m p q b v words text (inr (inr (post, is))) e = absurd (true≢false (ap is_end (sym is ∙ e)))
+change_of_case : (m p q b : List ℕ) (v : RoutedValue) (command : Command) → Outcome m p q b v → v ≡ Asked (Changes command) →
+    PostsChange m p q b command
+change_of_case m p q b v command (inl h) e = absurd (true≢false (sym h ∙ ap still e))
+change_of_case m p q b v command (inr (inl (post, is))) e =
+    change_from m p q b (words_in (before_first is_newline b)) command refl post (ap asked_in (sym is ∙ e))
+change_of_case m p q b v command (inr (inr (post, is))) e = absurd (true≢false (ap is_end (sym is ∙ e)))
 
-posted_change : (m p q b : List ℕ) (j : Bool) (words : List Text) (text : List ℕ) → PostsChange m p q b words text →
-    routed m p q b j ≡ Asked (Changes words text)
-posted_change m p q b j words text h =
+posted_change : (m p q b : List ℕ) (j : Bool) (command : Command) → PostsChange m p q b command →
+    routed m p q b j ≡ Asked (Changes command)
+posted_change m p q b j command h =
     ap (λ (x : List ℕ). routed x p q b j) h.posted ∙ ap (λ (x : List ℕ). routed (codes "POST") x q b j) h.there
-    ∙ ap (λ (ps : List (Text × Text)). if are_parameters to.Changes ps then change_in b else Refused 400) h.bare
-    ∙ change_to (words_in (before_first is_newline b)) (after_first is_newline b) words text (h.line, h.rest)
+    ∙ ap (λ (ps : List (Text × Text)). if are_parameters to.Changes ps then change_asked b else Refused 400) h.bare
+    ∙ ap (λ (o : Option (List Text)). change_of o (after_first is_newline b)) h.line ∙ ap changes_if h.asks
 
-pub changes_posted : (m p q b : List ℕ) (j : Bool) (words : List Text) (text : List ℕ) →
-    routed m p q b j ≡ Asked (Changes words text) ↔ PostsChange m p q b words text
-changes_posted m p q b j words text =
-    (change_of_case m p q b (routed m p q b j) words text (outcome m p q b j), posted_change m p q b j words text)
+pub changes_posted : (m p q b : List ℕ) (j : Bool) (command : Command) →
+    routed m p q b j ≡ Asked (Changes command) ↔ PostsChange m p q b command
+changes_posted m p q b j command =
+    (change_of_case m p q b (routed m p q b j) command (outcome m p q b j), posted_change m p q b j command)
 
 stop_of_case : (m p q b : List ℕ) (v : RoutedValue) → Outcome m p q b v → v ≡ Asked Stops → PostsStop m p q
 stop_of_case m p q b v (inl h) e = absurd (true≢false (sym h ∙ ap still e))
 stop_of_case m p q b v (inr (inl (post, is))) e =
-    absurd (no_stop (words_in (before_first is_newline b)) (after_first is_newline b) (sym is ∙ e))
+    absurd (true≢false (sym (ap is_end (sym is ∙ e)) ∙ no_stop (words_in (before_first is_newline b)) (after_first is_newline b)))
 stop_of_case m p q b v (inr (inr (post, is))) e = record { posted = post.0; there = post.1; bare = post.2 }
 
 posted_stop : (m p q b : List ℕ) (j : Bool) → PostsStop m p q → routed m p q b j ≡ Asked Stops
@@ -289,20 +354,12 @@ posted_stop m p q b j h =
 pub stops_posted : (m p q b : List ℕ) (j : Bool) → routed m p q b j ≡ Asked Stops ↔ PostsStop m p q
 stops_posted m p q b j = (stop_of_case m p q b (routed m p q b j) (outcome m p q b j), posted_stop m p q b j)
 
-still_status : (v : RoutedValue) (s : ℕ) → still v ≡ true → refused_with v ≡ Some s → is_of_clients s ≡ true
-still_status (Asked r) s h e = cc
-still_status (Refused status) s h e =
-    let same : status ≡ s = ap (λ (n : Option ℕ). elim n [ None ↦ status | Some k ↦ k ]) e in subst (λ k. is_of_clients k ≡ true) same h
-still_status (Unread code) s h e =
-    let forty : code ≡ 40 = eqb-true code 40 h in
-    let same : status_of code ≡ s = ap (λ (n : Option ℕ). elim n [ None ↦ status_of code | Some k ↦ k ]) e in
-    subst (λ k. is_of_clients k ≡ true) (sym (ap status_of forty) ∙ same) refl
-
-status_of_case : (m p q b : List ℕ) (v : RoutedValue) (s : ℕ) → Outcome m p q b v → refused_with v ≡ Some s → is_of_clients s ≡ true
-status_of_case m p q b v s (inl h) e = still_status v s h e
-status_of_case m p q b v s (inr (inl (post, is))) e =
-    status_there (words_in (before_first is_newline b)) (after_first is_newline b) s (ap refused_with (sym is) ∙ e)
-status_of_case m p q b v s (inr (inr (post, is))) e = let none : None ≡ Some s = ap refused_with (sym is) ∙ e in cc
+outcome_served : (m p q b : List ℕ) (v : RoutedValue) → Outcome m p q b v → is_served v ≡ true
+outcome_served m p q b v (inl h) = still_served v h
+outcome_served m p q b v (inr (inl (post, is))) =
+    ap is_served is ∙ change_served (words_in (before_first is_newline b)) (after_first is_newline b)
+outcome_served m p q b v (inr (inr (post, is))) = ap is_served is
 
 pub refusals_clients : (m p q b : List ℕ) (j : Bool) (s : ℕ) → refused_with (routed m p q b j) ≡ Some s → is_of_clients s ≡ true
-refusals_clients m p q b j s = status_of_case m p q b (routed m p q b j) s (outcome m p q b j)
+refusals_clients m p q b j s =
+    served_status (routed m p q b j) s (outcome_served m p q b (routed m p q b j) (outcome m p q b j))

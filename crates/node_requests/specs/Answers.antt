@@ -1,6 +1,6 @@
 -- What is answered: HTTP's status and a body.
 use Rattle.std.specs.Prelude.{ℕ, Bool, List, [], ◌∷◌, ◌++◌, ◌==◌, ◌||◌, Option, Some, None, option_map, string_bytes}
-use Rattle.std.specs.Prelude.{if◌then◌else◌}
+use Rattle.std.specs.Prelude.{Result, Ok, Err, if◌then◌else◌}
 use Rattle.clap.specs.Words.{Text}
 use Rattle.pf_config.specs.Map.{Configuration}
 use Rattle.pf_eval.specs.Packets.{PacketValue}
@@ -8,7 +8,6 @@ use Rattle.pf_eval.specs.PacketTexts.{packet_of}
 use Rattle.pf_eval.specs.Verdicts.{judgement}
 use Rattle.pf_eval.specs.Seen.{verdict_text}
 use Rattle.pf_scripts.specs.Lines.{line, refused_line}
-use Rattle.pf_scripts.specs.WordsRead.{WordsValue, Asks, Refuses, Shows, words_read}
 use Rattle.node_requests.specs.declared.answer.Answer.{Answer}
 
 -- HTTP's status, and the body's bytes
@@ -39,16 +38,11 @@ shown body = record { code = 200; body = body }
 abbrev pub refused : ℕ → ℕ → AnswerValue
 refused code at = record { code = status_of code; body = refused_line code at }
 
--- what words that only look give; words of a change are 40 here
+-- what is listed, or the number of its refusal
 -- Example: pfctl -t bad -T show without such a table is 404 and refused 20.
-abbrev pub answered : WordsValue → AnswerValue
-answered (Asks command) = refused 40 0
-answered (Refuses code at) = refused code at
-answered (Shows output) = shown output
-
--- a line of pfctl's words at a configuration
-abbrev pub listed : Configuration → List Text → AnswerValue
-listed c words = answered (words_read c words [])
+abbrev pub answered : Result (List ℕ) ℕ → AnswerValue
+answered (Ok output) = shown output
+answered (Err code) = refused code 0
 
 -- ---- packets
 

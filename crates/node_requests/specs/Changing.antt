@@ -1,6 +1,6 @@
 -- What a change does: one ask of the node, or nothing.
 use Rattle.std.specs.Prelude.{◌≡◌, ℕ, Bool, true, false, List, [], ◌++◌, ◌-◌, length, nat_lt, codes, decimal}
-use Rattle.std.specs.Prelude.{Option, Some, None, Result, Ok, Err}
+use Rattle.std.specs.Prelude.{Option, Some, None}
 use Rattle.px_model.specs.Node.Input.{Asks}
 use Rattle.px_model.specs.Spelling.{Bytes, command_in}
 use Rattle.px_model.specs.Step.{front, positions}
@@ -59,10 +59,8 @@ abbrev pub ChangesIf : {R : Type 0} {G : Ghosts R} → Bool → (s t : Node R G)
 ChangesIf true s t command changed = AskedOnce s t command changed
 ChangesIf false s t command changed = (t ≡ s) × (changed ≡ Refused 62)
 
--- the words' refusal and nothing else, or one ask where the command has a position
-abbrev pub Changes : {R : Type 0} {G : Ghosts R} → (s t : Node R G) → Result entries.Command ℕ → Changed → Type 0
-Changes s t (Err code) changed = (t ≡ s) × (changed ≡ Refused code)
-Changes s t (Ok command) changed = ChangesIf (has_position s) s t command changed
+abbrev pub Changes : {R : Type 0} {G : Ghosts R} → (s t : Node R G) → entries.Command → Changed → Type 0
+Changes s t command changed = ChangesIf (has_position s) s t command changed
 
 -- ---- the numbers that were given
 

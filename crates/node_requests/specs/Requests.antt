@@ -1,10 +1,12 @@
 -- What is answered to a request.
-use Rattle.std.specs.Prelude.{◌≡◌, ◌⊎◌, ◌-◌, ℕ, Bool, true, false, [], map, length, nat_lt, Option, Result, codes}
+use Rattle.std.specs.Prelude.{◌≡◌, ◌⊎◌, ◌-◌, ℕ, Bool, true, false, [], map, length, nat_lt, Option, codes}
 use Rattle.px_model.specs.Step.{front, positions}
 use Rattle.px_records.specs.declared.records.Records.{Ghosts}
 use Rattle.pf_config.specs.Map.{paths_in}
 use Rattle.pf_entry.specs.Entry as entries
-use Rattle.pf_scripts.specs.WordsRead.{change_in}
+use Rattle.pf_entry.specs.Owned.{command_value}
+use Rattle.pf_arguments.specs.Answers.{action_value}
+use Rattle.pf_scripts.specs.Listings.{listed}
 use Rattle.pf_node.specs.Nodes.{learned_by, applied_of, config_of, membership_of, has_failed, records_of, state_in}
 use Rattle.pf_node.specs.declared.state.Node.{Node}
 use Rattle.node_requests.specs.declared.changing.Changed.{Changed}
@@ -15,12 +17,11 @@ use Rattle.node_requests.specs.declared.request.Read.TheVariants as read
 use Rattle.node_requests.specs.declared.request.Request.{Request}
 use Rattle.node_requests.specs.declared.request.Request.TheVariants as request
 use Rattle.node_requests.specs.declared.counters.Counters.{Counters}
-use Rattle.node_requests.specs.Answers.{AnswerValue, shown, listed}
+use Rattle.node_requests.specs.Answers.{AnswerValue, shown, answered}
 use Rattle.node_requests.specs.Bounded.{verdicts_within}
 use Rattle.node_requests.specs.Changing.{Changes, with_number, change_answer}
 use Rattle.node_requests.specs.EntryLines.{entries_answer}
 use Rattle.node_requests.specs.Health.{health, health_answer, ready_answer}
-use Rattle.node_requests.specs.Listings.{words_of}
 use Rattle.node_requests.specs.LogLines.{log_answer}
 use Rattle.node_requests.specs.Metrics.{metrics_text}
 use Rattle.node_requests.specs.Sizes.{rules_below, tables_below, entries_below}
@@ -61,7 +62,7 @@ pub record AreMetrics {R : Type 0} {G : Ghosts R} (n : Node R G) (t : Counters) 
 
 -- what a read answers
 abbrev pub IsRead : {R : Type 0} {G : Ghosts R} → Node R G → Option (ℕ × ℕ) → Counters → Read → AnswerValue → Type 0
-IsRead n accepted t (read.List listing) a = a ≡ listed (config_of n) (words_of listing)
+IsRead n accepted t (read.List action) a = a ≡ answered (listed (config_of n) (action_value action))
 IsRead n accepted t (read.Test packets) a = a ≡ verdicts_within (config_of n) (map (λ p. p.now) packets.items)
 IsRead n accepted t (read.Standing origin number) a = a ≡ standing n accepted origin number
 IsRead n accepted t (read.Log from) a = a ≡ log_answer n from
@@ -84,24 +85,24 @@ IsReadIf false n accepted t r a = IsRead n accepted t r a
 
 -- ---- all requests
 
--- where no memory is there for the line of a change that was made or refused
+-- where no memory is there for the line of a change that was asked or refused
 abbrev pub no_memory : AnswerValue
 no_memory = record { code = 503; body = [] }
 
 -- one ask or none, and the line of it; the number that was given is kept
-pub record IsChange {R : Type 0} {G : Ghosts R} (s t : RequestHandler R G) (asked : Result entries.Command ℕ) (a : AnswerValue) :
-    Type 0 where
+pub record IsChange {R : Type 0} {G : Ghosts R} (s t : RequestHandler R G) (command : entries.Command)
+    (a : AnswerValue) : Type 0 where
   pub changed : Changed
-  pub changes : Changes s.node t.node asked changed
+  pub changes : Changes s.node t.node command changed
   pub accepted : t.accepted ≡ with_number s.accepted changed
   pub stopping : t.is_stopping ≡ s.is_stopping
   pub answered : (a ≡ change_answer changed) ⊎ (a ≡ no_memory)
 
 -- A read leaves all as it was. A change is one ask of the node, or a refusal with nothing changed.
 -- Example: Stop is answered 200 and stopping.
-abbrev pub Answers : {R : Type 0} {G : Ghosts R} → (s t : RequestHandler R G) → Counters → Request → AnswerValue → Type 0
-Answers s t counted (request.Change words text) a =
-    IsChange s t (change_in (map (λ w. w.now) words.items) text.now) a
+abbrev pub Answers : {R : Type 0} {G : Ghosts R} → (s t : RequestHandler R G) → Counters → Request → AnswerValue →
+    Type 0
+Answers s t counted (request.Change command) a = IsChange s t (command_value command) a
 Answers s t counted (request.Read at r) a =
     (t ≡ s) × IsReadIf (nat_lt (applied_of s.node) at) s.node s.accepted counted r a
 Answers s t counted request.Stop a = (t ≡ record s { is_stopping = true }) × (a ≡ shown (codes "stopping\n"))

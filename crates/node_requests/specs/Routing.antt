@@ -1,11 +1,18 @@
 -- Which request a method, a path, a query and a body ask for.
-use Rattle.std.specs.Prelude.{ℕ, ◌==◌, ◌&&◌, Bool, List, [], ◌∷◌, map, length, take, drop, nat_lt, nat_le}
-use Rattle.std.specs.Prelude.{Option, Some, None, unwrap_or, codes, bytes_eq, if◌then◌else◌}
+use Rattle.std.specs.Prelude.{ℕ, ◌==◌, ◌&&◌, Bool, false, List, [], ◌∷◌, map, length, take, drop, nat_lt, nat_le}
+use Rattle.std.specs.Prelude.{Option, Some, None, unwrap_or, Result, Ok, Err, codes, bytes_eq, if◌then◌else◌}
 use Rattle.std.specs.List.{before_first, after_first, position_or_len}
 use Rattle.std.specs.Str.{is_utf8}
 use Rattle.std.specs.Str.Lines.{lines}
 use Rattle.clap.specs.Words.{Text}
+use Rattle.pf_entry.specs.Entry.{Command}
+use Rattle.pf_entry.specs.Owned.{command_value}
+use Rattle.pf_arguments.specs.Asked.{Asked as Answer, ActionValue, ShowAnchors, GivenWords, asked}
+use Rattle.pf_arguments.specs.Answers.{action_value}
+use Rattle.pf_arguments.specs.declared.fault.CommandFault.TheVariants.{Usage}
+use Rattle.pf_scripts.specs.Ctl.{numbered}
 use Rattle.pf_scripts.specs.Lines.{words_in}
+use Rattle.pf_scripts.specs.WordsRead.{change_in}
 use Rattle.node_requests.specs.declared.request.Read.{Read}
 use Rattle.node_requests.specs.declared.request.Read.TheVariants as read
 use Rattle.node_requests.specs.declared.request.Request.{Request}
@@ -15,15 +22,14 @@ use Rattle.node_requests.specs.declared.request.Routed.TheVariants as rust
 use Rattle.node_requests.specs.declared.routing.TheConstants.{PACKETS_MAX}
 use Rattle.node_requests.specs.declared.target.Target.{Target}
 use Rattle.node_requests.specs.declared.target.Target.TheVariants as to
-use Rattle.node_requests.specs.Listings.{at_path, words_of}
 use Rattle.node_requests.specs.Queries.{number_in, parameters, value_of, position_of, are_parameters}
 use Rattle.node_requests.specs.Targets.{plain_target, method_of}
 
 -- ---- what is asked for
 
--- a read; a listing by its line of pfctl's words
+-- a read; a listing by pfctl's action
 pub data ReadValue : Type 0 where
-  Listing : (words : List Text) → ReadValue
+  Lists : ActionValue → ReadValue
   Verdicts : (packets : List Text) → ReadValue
   Standing : (origin number : ℕ) → ReadValue
   Log : (from : Option ℕ) → ReadValue
@@ -33,13 +39,13 @@ pub data ReadValue : Type 0 where
   Ready : ReadValue
   Metrics : ReadValue
 
--- a change by pfctl's words and the text of their file, a read once the given number of positions is applied, or an end
+-- a change, a read once the given number of positions is applied, or an end
 pub data RequestValue : Type 0 where
-  Changes : (words : List Text) → (text : List ℕ) → RequestValue
+  Changes : Command → RequestValue
   Reads : (at : ℕ) → ReadValue → RequestValue
   Stops : RequestValue
 
--- a request; HTTP's status of one that isn't served; or the number of the refusal of a body that isn't understood
+-- a request; HTTP's status of one that isn't served; or the number of the refusal of what isn't understood
 pub data RoutedValue : Type 0 where
   Asked : RequestValue → RoutedValue
   Refused : (status : ℕ) → RoutedValue
@@ -50,14 +56,19 @@ pub data RoutedValue : Type 0 where
 abbrev pub is_newline : ℕ → Bool
 is_newline b = b == 10
 
--- a change: the arguments of the first line, and the text behind it
--- Example: -a x -f -, a newline and block ask for pfctl -a x -f - over block.
+-- a change, or the number of its refusal
+abbrev pub changes_if : Result Command ℕ → RoutedValue
+changes_if (Ok command) = Asked (Changes command)
+changes_if (Err code) = Unread code
+
+-- the change that the arguments of a line ask for, with the text behind it
+-- Example: -a x -f -, a newline and block ask for what pfctl -a x -f - asks for over block.
 abbrev pub change_of : Option (List Text) → (text : List ℕ) → RoutedValue
 change_of None text = Unread 40
-change_of (Some words) text = Asked (Changes (codes "pfctl" ∷ words) text)
+change_of (Some words) text = changes_if (change_in (codes "pfctl" ∷ words) text)
 
-abbrev pub change_in : List ℕ → RoutedValue
-change_in body = change_of (words_in (before_first is_newline body)) (after_first is_newline body)
+abbrev pub change_asked : List ℕ → RoutedValue
+change_asked body = change_of (words_in (before_first is_newline body)) (after_first is_newline body)
 
 -- the lines of a body, if it is UTF-8; a line ends with a newline, or with a carriage return and a newline
 abbrev pub lines_in : List ℕ → Option (List Text)
@@ -69,33 +80,32 @@ lines_in body = if is_utf8 body then Some (lines body) else None
 abbrev pub reads : List (Text × Text) → ReadValue → RoutedValue
 reads given read = Asked (Reads (unwrap_or (position_of (codes "at") given) 0) read)
 
--- the value of a parameter, the empty text where it isn't given
-abbrev pub text_in : (name : Text) → List (Text × Text) → Text
-text_in name given = unwrap_or (value_of name given) []
+-- what the parameters give of pfctl's options: -a PATH -s WHAT, or -a PATH -t TABLE -T WHAT ADDR..
+-- Example: GET /v1/rules?a=x asks for what pfctl -a x -s rules asks for.
+abbrev pub showing : List (Text × Text) → (what : Text) → GivenWords
+showing given what = record {
+  path = value_of (codes "a") given; file = None; check = false; flush = None; table = None; change = None;
+  show = Some what; addresses = [];
+}
 
--- a listing at the anchor that the parameters name
-abbrev pub lists : List (Text × Text) → (words : List Text) → RoutedValue
-lists given words = reads given (Listing (at_path (text_in (codes "a") given) words))
+abbrev pub on_table : List (Text × Text) → (what : Text) → (addresses : List Text) → GivenWords
+on_table given what addresses = record {
+  path = value_of (codes "a") given; file = None; check = false; flush = None; table = value_of (codes "t") given;
+  change = Some what; show = None; addresses = addresses;
+}
 
--- the rules, and the names of the tables there
-abbrev pub rules_asked : List (Text × Text) → RoutedValue
-rules_asked given = lists given (codes "-s" ∷ codes "rules" ∷ [])
+-- what an action lists, or the number of its refusal
+abbrev pub lists_if : List (Text × Text) → Result ActionValue ℕ → RoutedValue
+lists_if given (Ok action) = reads given (Lists action)
+lists_if given (Err code) = Unread code
 
-abbrev pub tables_asked : List (Text × Text) → RoutedValue
-tables_asked given = lists given (codes "-s" ∷ codes "Tables" ∷ [])
-
--- a table's entries
-abbrev pub table_asked : List (Text × Text) → RoutedValue
-table_asked given = lists given (codes "-t" ∷ text_in (codes "t") given ∷ codes "-T" ∷ codes "show" ∷ [])
+abbrev pub lists : List (Text × Text) → Answer → RoutedValue
+lists given asked = lists_if given (numbered asked)
 
 -- the addresses of a line each, looked up in a table
-abbrev pub table_test_of : List (Text × Text) → Option (List Text) → RoutedValue
-table_test_of given None = Unread 40
-table_test_of given (Some addresses) =
-    lists given (codes "-t" ∷ text_in (codes "t") given ∷ codes "-T" ∷ codes "test" ∷ codes "--" ∷ addresses)
-
-abbrev pub table_test_asked : List (Text × Text) → (body : List ℕ) → RoutedValue
-table_test_asked given body = table_test_of given (lines_in body)
+abbrev pub looked_up : List (Text × Text) → Option (List Text) → Answer
+looked_up given None = Err Usage
+looked_up given (Some addresses) = asked (on_table given (codes "test") addresses) []
 
 -- the packets of a line each, 1 to 64 of them
 abbrev pub test_of : List (Text × Text) → Option (List Text) → RoutedValue
@@ -118,12 +128,12 @@ entries_asked given = reads given (Entries (position_of (codes "from") given) (p
 
 -- what a path asks for, of its parameters and the body; of the paths of requests see below
 abbrev pub asked_at : Target → List (Text × Text) → (body : List ℕ) → (json : Bool) → RoutedValue
-asked_at to.Changes given body json = change_in body
-asked_at to.Rules given body json = rules_asked given
-asked_at to.Tables given body json = tables_asked given
-asked_at to.Anchors given body json = reads given (Listing (at_path [] (codes "-s" ∷ codes "Anchors" ∷ [])))
-asked_at to.Table given body json = table_asked given
-asked_at to.TableTest given body json = table_test_asked given body
+asked_at to.Changes given body json = change_asked body
+asked_at to.Rules given body json = lists given (asked (showing given (codes "rules")) [])
+asked_at to.Tables given body json = lists given (asked (showing given (codes "Tables")) [])
+asked_at to.Anchors given body json = reads given (Lists ShowAnchors)
+asked_at to.Table given body json = lists given (asked (on_table given (codes "show") []) [])
+asked_at to.TableTest given body json = lists given (looked_up given (lines_in body))
 asked_at to.Test given body json = test_asked given body
 asked_at to.Log given body json = log_asked given
 asked_at to.Entries given body json = entries_asked given
@@ -194,7 +204,7 @@ routed method path query body json = routed_behind (behind path) method path que
 -- ---- the code's values
 
 abbrev pub read_value : Read → ReadValue
-read_value (read.List listing) = Listing (words_of listing)
+read_value (read.List action) = Lists (action_value action)
 read_value (read.Test packets) = Verdicts (map (λ p. p.now) packets.items)
 read_value (read.Standing origin number) = Standing origin number
 read_value (read.Log from) = Log from
@@ -205,7 +215,7 @@ read_value read.Ready = Ready
 read_value read.Metrics = Metrics
 
 abbrev pub request_value : Request → RequestValue
-request_value (request.Change words text) = Changes (map (λ w. w.now) words.items) text.now
+request_value (request.Change command) = Changes (command_value command)
 request_value (request.Read at r) = Reads at (read_value r)
 request_value request.Stop = Stops
 

@@ -2,9 +2,12 @@
 
 ghost use Rattle.std.specs.Prelude.{◌≡◌, ◌++◌, IfOk, string_bytes};
 ghost use Rattle.node_requests.specs.Answers.{status_of, answer_value, refused, shown, answered};
-ghost use Rattle.pf_scripts.specs.WordsRead.{words_value};
+ghost use Rattle.pf_arguments.specs.Answers.{action_value};
+ghost use Rattle.pf_scripts.specs.Listings.{listed};
 
-use pf_scripts::{WordsRead, push_refusal};
+use pf_arguments::Action;
+use pf_config::Config;
+use pf_scripts::{list, push_refusal};
 use std::alloc::{AllocError, Global};
 
 /// What is answered: HTTP's status, and the body, which is what an operator reads.
@@ -53,14 +56,17 @@ impl Answer {
         })
     }
 
-    /// What words that only look give; words of a change are 40 here.
-    pub(crate) fn of_words(alloc: Global, read: WordsRead) -> Result<Answer, AllocError>
-        ensures { IfOk result (λ a. answer_value a ≡ answered (words_value read)) }
+    /// What an action lists at a configuration, or its refusal.
+    pub(crate) fn listed(
+        alloc: Global,
+        config: &Config,
+        action: &Action,
+    ) -> Result<Answer, AllocError>
+        ensures { IfOk result (λ a. answer_value a ≡ answered (listed config.now (action_value action.now))) }
     {
-        match read {
-            WordsRead::Change(_command) => Answer::refused(alloc, 40, 0),
-            WordsRead::Refused(code, at) => Answer::refused(alloc, code, at),
-            WordsRead::Output(output) => Ok(Answer::shown(output)),
+        match list(alloc, config, action)? {
+            Ok(output) => Ok(Answer::shown(output)),
+            Err(code) => Answer::refused(alloc, code, 0),
         }
     }
 }

@@ -2,12 +2,13 @@
 
 ghost use Rattle.std.specs.Prelude.{◌≡◌, IfOk, OnErr, OnOk, map, codes, nat_lt, true, false, None};
 ghost use Rattle.pf_node.specs.Nodes.{config_of, applied_of};
-ghost use Rattle.pf_scripts.specs.WordsRead.{change_in};
-ghost use Rattle.node_requests.specs.Answers.{answer_value, listed, shown};
+ghost use Rattle.pf_entry.specs.Owned.{command_value};
+ghost use Rattle.pf_arguments.specs.Answers.{action_value};
+ghost use Rattle.pf_scripts.specs.Listings.{listed};
+ghost use Rattle.node_requests.specs.Answers.{answer_value, answered, shown};
 ghost use Rattle.node_requests.specs.Bounded.{verdicts_within};
 ghost use Rattle.node_requests.specs.Changing.{Changes, with_number};
 ghost use Rattle.node_requests.specs.Health.{health};
-ghost use Rattle.node_requests.specs.Listings.{words_of};
 ghost use Rattle.node_requests.specs.Requests.{IsStatus, AreMetrics, IsRead, IsReadIf, IsChange, Answers};
 ghost use Rattle.node_requests.specs.Standing.{standing};
 ghost use Rattle.node_requests.specs.StatusJson.{status_as};
@@ -20,13 +21,13 @@ use crate::figures::Figures;
 use crate::handler::RequestHandler;
 use crate::health::Health;
 use crate::json::status_json;
-use crate::listing::list;
 use crate::log::log;
 use crate::metrics::metrics;
 use crate::packets::test;
-use crate::request::{Listing, Read, Request};
+use crate::request::{Read, Request};
 use crate::standing::standing;
 use crate::status::status;
+use pf_arguments::{Action, Command};
 use pf_node::Node;
 use px_records::Records;
 use std::alloc::{AllocError, Global};
@@ -90,12 +91,13 @@ impl<R: Records> RequestHandler<R> {
         node
     }
 
-    /// What a listing answers: what a script's line prints at the configuration after the positions that are applied.
-    /// 404 where it speaks of a table that isn't there, 400 where the words are refused.
-    pub fn list(&self, listing: &Listing) -> Result<Answer, AllocError>
-        ensures { IfOk result (λ a. answer_value a ≡ listed (config_of self.now.node) (words_of listing.now)) }
+    /// What an action lists, as a script's line prints it, at the configuration after the positions that are applied:
+    /// 404 where there is no such table, 400 of an action that lists nothing.
+    pub fn list(&self, action: &Action) -> Result<Answer, AllocError>
+        ensures { IfOk result (λ a. answer_value a
+            ≡ answered (listed (config_of self.now.node) (action_value action.now))) }
     {
-        list(self.alloc, self.node.config(), listing)
+        Answer::listed(self.alloc, self.node.config(), action)
     }
 
     /// A verdict line for each packet's text in turn, up to the first that is no packet: that is 30, and 400. It ends
@@ -143,7 +145,7 @@ impl<R: Records> RequestHandler<R> {
         ensures { IfOk result (λ a. IsRead self.now.node self.now.accepted counters.now read.now (answer_value a)) }
     {
         match read {
-            Read::List(listing) => self.list(listing),
+            Read::List(action) => self.list(action),
             Read::Test { packets } => self.test(packets),
             Read::Standing { origin, number } => self.standing(*origin, *number),
             Read::Log { from } => log(self.alloc, &self.node, *from),
@@ -167,35 +169,30 @@ impl<R: Records> RequestHandler<R> {
         self.read(read, counters)
     }
 
-    /// Takes the change in that a line of pfctl's words asks for, `pfctl` itself first, with the text of its file: one
-    /// ask of the node, or a refusal with nothing changed: 62 where the positions that are left are those of commands
-    /// that wait. Where memory runs out nothing has changed, and the node wasn't asked.
-    pub fn change(&mut self, words: &[&str], text: &[u8]) -> Result<Changed, AllocError>
-        ensures changes { IfOk result (Changes self.old.node self.new.node
-            (change_in (map (λ w. w.now) words.now) text.now)) }
-        ensures accepted { IfOk result (λ c. self.new.accepted ≡ with_number self.old.accepted c) }
+    /// One ask of the node, or a refusal with nothing changed: 62 where the positions that are left are those of
+    /// commands that wait.
+    pub fn change(&mut self, command: &Command) -> Changed
+        ensures changes { Changes self.old.node self.new.node (command_value command.now) result }
+        ensures accepted { self.new.accepted ≡ with_number self.old.accepted result }
         ensures stopping { self.new.is_stopping ≡ self.old.is_stopping }
-        ensures memory { OnErr result (self.new ≡ self.old) }
     {
-        let changed = change_node(self.alloc, &mut self.node, words, text)?;
+        let changed = change_node(&mut self.node, command);
         self.accepted = with_number(self.accepted, changed);
-        Ok(changed)
+        changed
     }
 
     /// What a change answers. Where no memory is there for its line it is 503 with an empty body, and the node may have
     /// been asked.
-    fn change_answer(&mut self, words: &[&str], text: &[u8]) -> Result<Answer, AllocError>
-        ensures changes { IfOk result (λ a. IsChange self.old self.new
-            (change_in (map (λ w. w.now) words.now) text.now) (answer_value a)) }
-        ensures memory { OnErr result (self.new ≡ self.old) }
+    fn change_answer(&mut self, command: &Command) -> Answer
+        ensures { IsChange self.old self.new (command_value command.now) (answer_value result) }
     {
-        let changed = self.change(words, text)?;
+        let changed = self.change(command);
         match changed.to_answer(self.alloc) {
-            Ok(answer) => Ok(answer),
-            Err(_) => Ok(Answer {
+            Ok(answer) => answer,
+            Err(_) => Answer {
                 code: 503,
                 body: String::new(self.alloc),
-            }),
+            },
         }
     }
 
@@ -217,7 +214,7 @@ impl<R: Records> RequestHandler<R> {
         ensures memory { OnErr result (self.new ≡ self.old) }
     {
         match request {
-            Request::Change { words, text } => self.change_answer(words, text),
+            Request::Change(command) => Ok(self.change_answer(command)),
             Request::Read { at, read } => self.read_at(*at, read, counters),
             Request::Stop => self.stop(),
         }

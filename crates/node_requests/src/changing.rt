@@ -1,19 +1,18 @@
 //! A change is one ask, or a refusal.
 
-ghost use Rattle.std.specs.Prelude.{◌≡◌, OnErr, IfOk, map, string_bytes};
+ghost use Rattle.std.specs.Prelude.{◌≡◌, IfOk, string_bytes};
 ghost use Rattle.pf_entry.specs.Owned.{command_value};
-ghost use Rattle.pf_scripts.specs.WordsRead.{change_in};
 ghost use Rattle.node_requests.specs.Answers.{answer_value};
 ghost use Rattle.node_requests.specs.Changing.{Changes, AskedOnce, has_position, refused_by, asked_line, change_answer};
 
 use crate::answer::Answer;
 use crate::figures::positions_left;
 use pf_node::{Command, Node, NodeFault};
-use pf_scripts::{ChangeFault, push_number, read_change};
+use pf_scripts::push_number;
 use px_records::Records;
 use std::alloc::{AllocError, Global};
 
-/// What became of words of a change.
+/// What became of a change.
 #[derive(Clone, Copy, PartialEq, Eq)]
 pub enum Changed {
     /// The node took the command in: its number as a member, and the number that the request got there.
@@ -53,28 +52,15 @@ fn has_position<R: Records>(node: &Node<R>) -> bool
     node.waiting() < left as usize
 }
 
-/// Takes the change in that a line of pfctl's words asks for, `pfctl` itself first, with the text of its file: one ask
-/// of the node, or a refusal with nothing changed, which is 62 where every position that is left is one of a command
+/// One ask of the node, or a refusal with nothing changed: 62 where every position that is left is one of a command
 /// that waits.
-pub(crate) fn change_node<R: Records>(
-    alloc: Global,
-    node: &mut Node<R>,
-    words: &[&str],
-    text: &[u8],
-) -> Result<Changed, AllocError>
-    ensures changes { IfOk result (Changes node.old node.new (change_in (map (λ w. w.now) words.now) text.now)) }
-    ensures memory { OnErr result (node.new ≡ node.old) }
+pub(crate) fn change_node<R: Records>(node: &mut Node<R>, command: &Command) -> Changed
+    ensures { Changes node.old node.new (command_value command.now) result }
 {
-    match read_change(alloc, words, text) {
-        Ok(command) => {
-            if !has_position(node) {
-                return Ok(Changed::Refused(62));
-            }
-            Ok(ask_once(node, &command))
-        }
-        Err(ChangeFault::Refused(code)) => Ok(Changed::Refused(code)),
-        Err(ChangeFault::Memory) => Err(AllocError),
+    if !has_position(node) {
+        return Changed::Refused(62);
     }
+    ask_once(node, command)
 }
 
 /// `asked N.NUMBER`

@@ -1,8 +1,8 @@
 //! What holds of requests, and of what the request handler answers.
 
 ghost use Rattle.std.specs.Prelude.{◌≡◌, ◌≤◌, ◌↔◌, ℕ, Bool, true, List, [], length, Some};
-ghost use Rattle.clap.specs.Words.{Text};
 ghost use Rattle.pf_config.specs.Map.{Configuration};
+ghost use Rattle.pf_entry.specs.Entry.{Command};
 ghost use Rattle.pf_eval.specs.Packets.{PacketValue};
 ghost use Rattle.pf_eval.specs.Verdicts.{hits};
 ghost use Rattle.node_requests.specs.Bounded.{most_met};
@@ -16,12 +16,11 @@ pub fn hits_are_met()
     ensures { (c : Configuration) (k : PacketValue) → length (hits 9 c k []) ≤ most_met 9 c [] }
 {}
 
-/// A change is asked for by `POST /v1/changes` without parameters, and by nothing else: its words are those of the
-/// body's first line, and its text is what follows that line.
+/// A change is asked for by `POST /v1/changes` without parameters, and by nothing else: it is the one that the words
+/// of the body's first line ask for, as pfctl's, with what follows that line as their text.
 pub fn changes_are_posted()
-    ensures { (method path query body : List ℕ) (json : Bool) (words : List Text) (text : List ℕ) →
-        routed method path query body json ≡ Asked (Changes words text)
-        ↔ PostsChange method path query body words text }
+    ensures { (method path query body : List ℕ) (json : Bool) (command : Command) →
+        routed method path query body json ≡ Asked (Changes command) ↔ PostsChange method path query body command }
 {}
 
 /// The end of a node is asked for by `POST /v1/stop` without parameters, and by nothing else.
@@ -30,7 +29,7 @@ pub fn stops_are_posted()
         routed method path query body json ≡ Asked Stops ↔ PostsStop method path query }
 {}
 
-/// What is no request is refused as an error of the client: with 400, 404 or 405.
+/// What is no request is refused as an error of the client: with 400, 404, 405 or 413.
 pub fn refusals_are_of_clients()
     ensures { (method path query body : List ℕ) (json : Bool) (status : ℕ) →
         refused_with (routed method path query body json) ≡ Some status → is_of_clients status ≡ true }

@@ -27,7 +27,8 @@
 //!   lacks the last positions while votes are on their way.
 //! - **A carriage return before a newline is no part of an address or a packet**: bodies over HTTP may have such lines.
 //!   In a change it is refused, as in pf.conf(5).
-//! - **The addresses of a look-up follow `--`**, so no line of a body is read as an option of pfctl's.
+//! - **The words of a change are read once**, where they come in. What isn't understood is refused there; what is
+//!   understood is a command from then on. A listing has none: its parameters give an action.
 //! - **`sync` is a load that no configuration accepts**: it is learned and applied, and changes nothing.
 //! - **A request is sought in the log whenever a client asks for it**, from the front down. One that waits has a number
 //!   above all that this node's requests had a stretch before, so the search ends there (pf_node).
@@ -69,7 +70,8 @@ pub use figures::Figures;
 pub use handler::RequestHandler;
 pub use health::{Health, STUCK, counted};
 pub use outcome::push_outcome;
+pub use pf_arguments::Action;
 pub use pf_node::Node;
 pub use positions::{push_position, push_positions};
-pub use request::{Listing, Read, Request, Routed};
+pub use request::{Read, Request, Routed};
 pub use routing::request_in;

@@ -1,81 +1,119 @@
-//! Listings as lines of pfctl's words.
+//! Which action of pfctl's the parameters of a listing ask for.
 
-ghost use Rattle.std.specs.Prelude.{◌≡◌, ◌∷◌, [], IfOk, codes, map};
-ghost use Rattle.node_requests.specs.Answers.{answer_value, listed};
-ghost use Rattle.node_requests.specs.Listings.{at_path, words_of};
+ghost use Rattle.std.specs.Prelude.{◌≡◌, [], IfOk, map, codes};
+ghost use Rattle.pf_addr.specs.Spelling.{addr_of};
+ghost use Rattle.pf_arguments.specs.Answers.{Answers};
+ghost use Rattle.pf_arguments.specs.Asked.{path_given, table_given, asked, each};
+ghost use Rattle.pf_arguments.specs.inner.Answers.{PathGiven, Reads, lowest_of, vec_read};
+ghost use Rattle.node_requests.specs.Routing.{showing, on_table};
+ghost use Rattle.node_requests.specs.inner.Parameters.{pairs_of};
 
-use crate::answer::Answer;
-use crate::request::Listing;
-use pf_config::Config;
-use pf_scripts::read_words;
+use crate::query::{Parameter, value_of};
+use pf_addr::{Addr, AddrFault, parse_addr};
+use pf_arguments::{Action, CommandFault, Path, TableName};
+use pf_config::{ConfigFault, parse_path};
 use std::alloc::{AllocError, Global};
 
-/// Words behind `pfctl` and its path.
-fn at_path<'a>(alloc: Global, path: &'a str, words: &[&'a str]) -> Result<Vec<&'a str>, AllocError>
-    ensures { IfOk result (λ v. map (λ w. w.now) v.items ≡ at_path path.entry.now (map (λ w. w.now) words.entry.now)) }
+/// The path of `a`, the main ruleset's without it.
+fn path_in(alloc: Global, given: &[Parameter]) -> Result<Path, CommandFault>
+    ensures { PathGiven result (path_given (showing (pairs_of given.now) [])) }
 {
-    let mut all = Vec::new(alloc);
-    all.push("pfctl")?;
-    if !path.is_empty() {
-        all.push("-a")?;
-        all.push(path)?;
+    match parse_path(alloc, value_of("a", given).unwrap_or("")) {
+        Ok(path) => Ok(path),
+        Err(ConfigFault::Memory) => Err(CommandFault::Memory),
+        Err(_) => Err(CommandFault::BadPath),
     }
-    all.extend_from_slice(words)?;
-    Ok(all)
 }
 
-/// The words in a table's test. Behind `--` no address is read as an option.
-fn test_words<'a>(
+/// The name of `t`, if it is a table's name.
+fn table_in(alloc: Global, given: &[Parameter]) -> Result<Option<TableName>, AllocError>
+    ensures { IfOk result (λ name. name ≡ table_given (on_table (pairs_of given.now) [] [])) }
+{
+    match value_of("t", given) {
+        Some(text) => TableName::new(alloc, text.as_bytes()),
+        None => Ok(None),
+    }
+}
+
+/// The rules of an anchor.
+#[tactic(auto, unfolding(pf_arguments::specs::Asked::asked))]
+pub(crate) fn rules(alloc: Global, given: &[Parameter]) -> Result<Action, CommandFault>
+    ensures { Answers result (asked (showing (pairs_of given.now) (codes "rules")) []) }
+{
+    Ok(Action::ShowRules(path_in(alloc, given)?))
+}
+
+/// The names of an anchor's tables.
+#[tactic(auto, unfolding(pf_arguments::specs::Asked::asked))]
+pub(crate) fn tables(alloc: Global, given: &[Parameter]) -> Result<Action, CommandFault>
+    ensures { Answers result (asked (showing (pairs_of given.now) (codes "Tables")) []) }
+{
+    Ok(Action::ShowTables(path_in(alloc, given)?))
+}
+
+/// A table's entries.
+#[tactic(auto, unfolding(pf_arguments::specs::Asked::asked))]
+pub(crate) fn table(alloc: Global, given: &[Parameter]) -> Result<Action, CommandFault>
+    ensures { Answers result (asked (on_table (pairs_of given.now) (codes "show") []) []) }
+{
+    let Some(table) = table_in(alloc, given)? else {
+        return Err(CommandFault::Usage);
+    };
+    let path = path_in(alloc, given)?;
+    Ok(Action::TableShow(path, table))
+}
+
+/// The lower of a fault and one that came before it, if one did.
+fn lowest(found: Option<AddrFault>, fault: AddrFault) -> AddrFault
+    ensures { result ≡ lowest_of found fault }
+{
+    match found {
+        None => fault,
+        Some(first) => {
+            if fault.code() < first.code() {
+                fault
+            } else {
+                first
+            }
+        }
+    }
+}
+
+/// The addresses that the lines spell, or the lowest fault of any.
+#[tactic(auto, using(pf_arguments::proofs::Each::one_value, pf_arguments::proofs::Each::one_fault))]
+fn addresses(alloc: Global, lines: &[&str]) -> Result<Vec<Addr>, CommandFault>
+    ensures { Reads (vec_read result) (each addr_of (map (λ l. l.now) lines.now)) }
+{
+    let mut list = Vec::new(alloc);
+    let mut found = None;
+    for line in lines {
+        match parse_addr(line) {
+            Ok(addr) => list.push(addr)?,
+            Err(fault) => found = Some(lowest(found, fault)),
+        }
+    }
+    match found {
+        Some(fault) => Err(CommandFault::BadAddress(fault)),
+        None => Ok(list),
+    }
+}
+
+/// The addresses of a line each, looked up in a table.
+#[tactic(auto, unfolding(pf_arguments::specs::Asked::asked))]
+pub(crate) fn table_test(
     alloc: Global,
-    path: &'a str,
-    table: &'a str,
-    addresses: &[&'a str],
-) -> Result<Vec<&'a str>, AllocError>
-    ensures { IfOk result (λ v. map (λ w. w.now) v.items ≡ at_path path.entry.now (codes "-t" ∷ table.entry.now
-        ∷ codes "-T" ∷ codes "test" ∷ codes "--" ∷ map (λ w. w.now) addresses.entry.now)) }
+    given: &[Parameter],
+    lines: &[&str],
+) -> Result<Action, CommandFault>
+    ensures { Answers result (asked (on_table (pairs_of given.now) (codes "test") (map (λ l. l.now) lines.now)) []) }
 {
-    let mut all = at_path(alloc, path, &["-t", table, "-T", "test", "--"])?;
-    all.extend_from_slice(addresses)?;
-    Ok(all)
-}
-
-/// The words that list all anchors.
-fn anchor_words<'a>(alloc: Global) -> Result<Vec<&'a str>, AllocError>
-    ensures { IfOk result (λ v. map (λ w. w.now) v.items ≡ at_path [] (codes "-s" ∷ codes "Anchors" ∷ [])) }
-{
-    let mut all = Vec::new(alloc);
-    all.push("pfctl")?;
-    all.push("-s")?;
-    all.push("Anchors")?;
-    Ok(all)
-}
-
-/// The words in a listing, `pfctl` first.
-fn words_of<'a, 'b: 'a>(alloc: Global, listing: &'a Listing<'b>) -> Result<Vec<&'a str>, AllocError>
-    ensures { IfOk result (λ v. map (λ w. w.now) v.items ≡ words_of listing.entry.now) }
-{
-    match listing {
-        Listing::Rules { path } => at_path(alloc, path.as_str(), &["-s", "rules"]),
-        Listing::Tables { path } => at_path(alloc, path.as_str(), &["-s", "Tables"]),
-        Listing::Anchors => anchor_words(alloc),
-        Listing::Table { path, table } => at_path(
-            alloc,
-            path.as_str(),
-            &["-t", table.as_str(), "-T", "show"],
-        ),
-        Listing::TableTest {
-            path,
-            table,
-            addresses,
-        } => test_words(alloc, path.as_str(), table.as_str(), addresses),
+    let Some(table) = table_in(alloc, given)? else {
+        return Err(CommandFault::Usage);
+    };
+    if lines.is_empty() {
+        return Err(CommandFault::Usage);
     }
-}
-
-/// What a listing answers at a configuration: what a script's line prints there.
-pub(crate) fn list(alloc: Global, config: &Config, listing: &Listing) -> Result<Answer, AllocError>
-    ensures { IfOk result (λ a. answer_value a ≡ listed config.now (words_of listing.now)) }
-{
-    let words = words_of(alloc, listing)?;
-    let read = read_words(alloc, config, &words, &[])?;
-    Answer::of_words(alloc, read)
+    let path = path_in(alloc, given)?;
+    let list = addresses(alloc, lines)?;
+    Ok(Action::TableTest(path, table, list))
 }

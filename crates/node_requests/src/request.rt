@@ -1,43 +1,12 @@
 //! What operators ask for.
 
-/// A line of pfctl's words that lists what stands (pfctl(8), `-s` and `-T`). An empty path is the main ruleset's.
-#[derive(Drop)]
-pub enum Listing<'a> {
-    /// `-a PATH -s rules`
-    Rules {
-        /// The anchor's path.
-        path: String,
-    },
-    /// `-a PATH -s Tables`
-    Tables {
-        /// The anchor's path.
-        path: String,
-    },
-    /// `-s Anchors`
-    Anchors,
-    /// `-a PATH -t TABLE -T show`
-    Table {
-        /// The anchor's path.
-        path: String,
-        /// The table's name.
-        table: String,
-    },
-    /// `-a PATH -t TABLE -T test -- ADDR..`
-    TableTest {
-        /// The anchor's path.
-        path: String,
-        /// The table's name.
-        table: String,
-        /// The addresses.
-        addresses: Vec<&'a str>,
-    },
-}
+use pf_arguments::{Action, Command};
 
 /// What only looks.
 #[derive(Drop)]
 pub enum Read<'a> {
-    /// A listing.
-    List(Listing<'a>),
+    /// What an action lists (pfctl(8), `-s` and `-T`).
+    List(Action),
     /// The verdicts for packets.
     Test {
         /// Each packet's text, 1 to 64 of them.
@@ -79,12 +48,7 @@ pub enum Read<'a> {
 #[derive(Drop)]
 pub enum Request<'a> {
     /// A change.
-    Change {
-        /// pfctl's words, `pfctl` itself first.
-        words: Vec<&'a str>,
-        /// The text of `-f -`.
-        text: &'a [u8],
-    },
+    Change(Command),
     /// A read, once that many positions are applied.
     Read {
         /// How many positions at least, 0 for any.
@@ -103,6 +67,6 @@ pub enum Routed<'a> {
     Asked(Request<'a>),
     /// HTTP's status, with an empty body: 404 another path, 405 another method, 400 parameters that aren't understood.
     Refused(u16),
-    /// The number of a refusal: of a body that isn't understood.
+    /// The number of a refusal: of parameters or a body that aren't understood.
     Unread(u8),
 }

@@ -1,20 +1,22 @@
 //! From HTTP to requests.
 
-ghost use Rattle.std.specs.Prelude.{◌≡◌, IfOk, map, option_map, option_copied, string_bytes, if◌then◌else◌};
-ghost use Rattle.std.specs.Prelude.{Some, None};
+ghost use Rattle.std.specs.Prelude.{◌≡◌, IfOk, map, option_map, option_copied, if◌then◌else◌, Some, None};
 ghost use Rattle.std.specs.List.{before_first, after_first};
 ghost use Rattle.std.specs.Str.{is_utf8};
 ghost use Rattle.std.specs.Str.Lines.{lines};
+ghost use Rattle.pf_arguments.specs.Answers.{Answers};
+ghost use Rattle.pf_arguments.specs.Asked.{Asked};
 ghost use Rattle.node_requests.specs.inner.Parameters.{pairs_of};
-ghost use Rattle.node_requests.specs.Routing.{is_newline, change_in, lines_in, text_in, reads, routed_value};
-ghost use Rattle.node_requests.specs.Routing.{rules_asked, tables_asked, table_asked, table_test_asked, test_asked};
-ghost use Rattle.node_requests.specs.Routing.{log_asked, entries_asked, asked_at, target_asked, plain_asked};
-ghost use Rattle.node_requests.specs.Routing.{request_number, standing_asked, behind, routed, read_value};
+ghost use Rattle.node_requests.specs.Routing.{is_newline, change_asked, lines_in, reads, routed_value, lists, looked_up};
+ghost use Rattle.node_requests.specs.Routing.{test_asked, log_asked, entries_asked, asked_at, target_asked};
+ghost use Rattle.node_requests.specs.Routing.{plain_asked, request_number, standing_asked, behind, routed, read_value};
 
-use crate::query::{Parameter, are_parameters, number_in, parameters, position_of, value_of};
-use crate::request::{Listing, Read, Request, Routed};
+use crate::listing::{rules, table, table_test, tables};
+use crate::query::{Parameter, are_parameters, number_in, parameters, position_of};
+use crate::request::{Read, Request, Routed};
 use crate::target::Target;
-use pf_scripts::words_in;
+use pf_arguments::{Action, CommandFault};
+use pf_scripts::{ChangeFault, read_change, words_in};
 use std::alloc::{AllocError, Global};
 
 /// How many packets one request may have.
@@ -78,8 +80,8 @@ fn request_number(text: &str) -> Option<(u8, u64)>
 }
 
 /// A change: its words are the first line, the text is what is behind it.
-fn change_in(alloc: Global, body: &[u8]) -> Result<Routed<'_>, AllocError>
-    ensures { IfOk result (λ r. routed_value r ≡ change_in body.now) }
+fn change_in<'a>(alloc: Global, body: &[u8]) -> Result<Routed<'a>, AllocError>
+    ensures { IfOk result (λ r. routed_value r ≡ change_asked body.now) }
 {
     let (line, text) = cut_at_newline(body);
     let Some(rest) = words_in(alloc, line)? else {
@@ -88,7 +90,11 @@ fn change_in(alloc: Global, body: &[u8]) -> Result<Routed<'_>, AllocError>
     let mut words = Vec::new(alloc);
     words.push("pfctl")?;
     words.extend_from_slice(&rest)?;
-    Ok(Routed::Asked(Request::Change { words, text }))
+    match read_change(alloc, &words, text) {
+        Ok(command) => Ok(Routed::Asked(Request::Change(command))),
+        Err(ChangeFault::Refused(code)) => Ok(Routed::Unread(code)),
+        Err(ChangeFault::Memory) => Err(AllocError),
+    }
 }
 
 /// A read, once the positions are applied that the parameters name.
@@ -101,62 +107,31 @@ fn reads<'a>(given: &[Parameter], read: Read<'a>) -> Routed<'a>
     })
 }
 
-/// The value of a parameter, the empty text where it isn't given.
-fn text_in(alloc: Global, name: &str, given: &[Parameter]) -> Result<String, AllocError>
-    ensures { IfOk result (λ s. string_bytes s ≡ text_in name.now (pairs_of given.now)) }
+/// A read of what an action lists, or the number of its refusal.
+#[tactic(auto, using(pf_scripts::proofs::Acted::fault_numbered))]
+fn lists<'a>(
+    given: &[Parameter],
+    asked: Result<Action, CommandFault>,
+) -> Result<Routed<'a>, AllocError>
+    ensures { (a : Asked) → Answers asked a → IfOk result (λ r. routed_value r ≡ lists (pairs_of given.now) a) }
 {
-    match value_of(name, given) {
-        Some(value) => String::from_str(alloc, value),
-        None => Ok(String::new(alloc)),
+    match asked {
+        Ok(action) => Ok(reads(given, Read::List(action))),
+        Err(fault) => match fault.code() {
+            Some(code) => Ok(Routed::Unread(code)),
+            None => Err(AllocError),
+        },
     }
 }
 
-/// The rules of an anchor.
-fn rules_in<'a>(alloc: Global, given: &[Parameter]) -> Result<Routed<'a>, AllocError>
-    ensures { IfOk result (λ r. routed_value r ≡ rules_asked (pairs_of given.now)) }
-{
-    let path = text_in(alloc, "a", given)?;
-    Ok(reads(given, Read::List(Listing::Rules { path })))
-}
-
-/// The names of an anchor's tables.
-fn tables_in<'a>(alloc: Global, given: &[Parameter]) -> Result<Routed<'a>, AllocError>
-    ensures { IfOk result (λ r. routed_value r ≡ tables_asked (pairs_of given.now)) }
-{
-    let path = text_in(alloc, "a", given)?;
-    Ok(reads(given, Read::List(Listing::Tables { path })))
-}
-
-/// A table's entries.
-fn table_in<'a>(alloc: Global, given: &[Parameter]) -> Result<Routed<'a>, AllocError>
-    ensures { IfOk result (λ r. routed_value r ≡ table_asked (pairs_of given.now)) }
-{
-    let path = text_in(alloc, "a", given)?;
-    let table = text_in(alloc, "t", given)?;
-    Ok(reads(given, Read::List(Listing::Table { path, table })))
-}
-
 /// The addresses of a line each, looked up in a table.
-fn table_test_in<'a>(
-    alloc: Global,
-    given: &[Parameter],
-    body: &'a [u8],
-) -> Result<Routed<'a>, AllocError>
-    ensures { IfOk result (λ r. routed_value r ≡ table_test_asked (pairs_of given.now) body.now) }
+fn table_test_in(alloc: Global, given: &[Parameter], body: &[u8]) -> Result<Action, CommandFault>
+    ensures { Answers result (looked_up (pairs_of given.now) (lines_in body.now)) }
 {
-    let Some(addresses) = lines_in(alloc, body)? else {
-        return Ok(Routed::Unread(40));
-    };
-    let path = text_in(alloc, "a", given)?;
-    let table = text_in(alloc, "t", given)?;
-    Ok(reads(
-        given,
-        Read::List(Listing::TableTest {
-            path,
-            table,
-            addresses,
-        }),
-    ))
+    match lines_in(alloc, body)? {
+        Some(lines) => table_test(alloc, given, &lines),
+        None => Err(CommandFault::Usage),
+    }
 }
 
 /// The verdicts for a line's packet each.
@@ -201,11 +176,11 @@ fn asked_at<'a>(
 {
     match target {
         Target::Changes => change_in(alloc, body),
-        Target::Rules => rules_in(alloc, given),
-        Target::Tables => tables_in(alloc, given),
-        Target::Anchors => Ok(reads(given, Read::List(Listing::Anchors))),
-        Target::Table => table_in(alloc, given),
-        Target::TableTest => table_test_in(alloc, given, body),
+        Target::Rules => lists(given, rules(alloc, given)),
+        Target::Tables => lists(given, tables(alloc, given)),
+        Target::Anchors => Ok(reads(given, Read::List(Action::ShowAnchors))),
+        Target::Table => lists(given, table(alloc, given)),
+        Target::TableTest => lists(given, table_test_in(alloc, given, body)),
         Target::Test => test_in(alloc, given, body),
         Target::Log => Ok(log_in(given)),
         Target::Entries => Ok(entries_in(given)),

@@ -31,4 +31,3 @@ pub mod Merging
 pub mod Listed
 pub mod Acted
 pub mod Rows
-pub mod Looked

@@ -6,7 +6,7 @@ use Rattle.clap.specs.Words.{Text, Row, matches_of, first_of, fault_of}
 use Rattle.clap.specs.Kinds.{Kinds}
 use Rattle.pf_rules.specs.declared.profile.Profile.TheVariants.{Two}
 use Rattle.pf_rules.specs.Rulesets.{RulesetValue}
-use Rattle.pf_config.specs.Map.{Configuration, table_at}
+use Rattle.pf_config.specs.Map.{Configuration}
 use Rattle.pf_grammar.specs.declared.fault.Refusal.{Refusal}
 use Rattle.pf_grammar.specs.Reading.{reading}
 use Rattle.pf_eval.specs.Packets.{PacketValue}
@@ -16,13 +16,12 @@ use Rattle.pf_eval.specs.Seen.{verdict_text}
 use Rattle.pf_entry.specs.Entry.{Command, load, flush_rules, flush_tables, flush_all, add, delete, replace, flush_table}
 use Rattle.pf_command.specs.Effect.{Effect, RefusedCommand, refused_text, effect, after_command, place_at, empty}
 use Rattle.pf_arguments.specs.Options.{pfctl_app}
-use Rattle.pf_arguments.specs.Asked.{Asked, Change, CheckOnly, ShowRules, ShowTables, ShowAnchors, TableShow}
-use Rattle.pf_arguments.specs.Asked.{TableTest, given_in, asked}
+use Rattle.pf_arguments.specs.Asked.{Asked, ActionValue, Change, CheckOnly, given_in, asked}
 use Rattle.pf_arguments.specs.Answers.{command_fault_code}
 use Rattle.pf_scripts.specs.Lines.{ScriptLine, lines, bytes_of, words_in, line, refused_line, spaced, stand_together}
-use Rattle.pf_scripts.specs.Listings.{rules_listed, tables_listed, anchors_listed, entries_listed, matches_listed}
+use Rattle.pf_scripts.specs.Listings.{listed}
 
--- ---- what is printed of an action
+-- ---- what is printed of a change
 
 -- a change of one table counts
 abbrev pub is_counted : Command → Bool
@@ -35,10 +34,6 @@ is_counted (delete p table list) = true
 is_counted (replace p table list) = true
 is_counted (flush_table p table) = true
 
--- the line of a command's refusal
-abbrev pub refusal_line : RefusedCommand → List ℕ
-refusal_line r = refused_line r.code r.line
-
 -- ok, with how many addresses were added and removed where these count
 abbrev pub counts_line : Bool → ℕ → ℕ → List ℕ
 counts_line counts added removed =
@@ -47,47 +42,14 @@ counts_line counts added removed =
 -- the line of a command's effect, or of its refusal
 abbrev pub change_line : Bool → Result Effect RefusedCommand → List ℕ
 change_line counts (Ok e) = counts_line counts e.added e.removed
-change_line counts (Err r) = refusal_line r
+change_line counts (Err r) = refused_line r.code r.line
 
--- -n: the text is only read
-abbrev pub check_line : Result RulesetValue Refusal → List ℕ
-check_line (Ok rules) = line (codes "ok")
-check_line (Err refusal) = refusal_line (refused_text refusal)
-
--- the configuration after a line, and what it prints
-pub record Outcome : Type 0 where
-  pub configuration : Configuration
-  pub output : List ℕ
-
--- a configuration and what is printed
-abbrev pub prints : Configuration → List ℕ → Outcome
-prints c output = record { configuration = c; output = output }
-
--- what an action gives: the configuration after it, and what it prints; a fault prints its refusal
-abbrev pub acted : Configuration → List ℕ → Asked → Outcome
-acted c text (Err fault) = prints c (refused_line (unwrap_or (command_fault_code fault) 0) 0)
-acted c text (Ok (Change command)) =
-    prints (after_command c command) (change_line (is_counted command) (effect c command))
-acted c text (Ok (CheckOnly p)) = prints c (check_line (reading (place_at p) Two text))
-acted c text (Ok (ShowRules p)) = prints c (rules_listed c p)
-acted c text (Ok (ShowTables p)) = prints c (tables_listed c p)
-acted c text (Ok ShowAnchors) = prints c (anchors_listed c)
-acted c text (Ok (TableShow p t)) = prints c (entries_listed (table_at c p t))
-acted c text (Ok (TableTest p t list)) = prints c (matches_listed list (table_at c p t))
-
--- ---- a line of pfctl's words
+-- ---- what a line of pfctl's words asks for
 
 -- the file of -f is standard input, or there is none
 abbrev pub is_standard : Option Text → Bool
 is_standard None = true
 is_standard (Some file) = bytes_eq file (codes "-")
-
--- what rows ask for, with the text of the file; any other file is 40
--- Source: pfctl(8).
-abbrev pub pfctl_rows : Configuration → List ℕ → List Row → Outcome
-pfctl_rows c text rows =
-    if is_standard (first_of (codes "file") rows) then acted c text (asked (given_in rows) text)
-    else prints c (refused_line 40 0)
 
 -- what words have, pfctl itself first; none where they aren't understood
 abbrev pub rows_unless : Kinds → List Row → Option (List Row)
@@ -98,14 +60,76 @@ rows_unless (k ∷ ks) rows = None
 unfoldable pub rows_in : List Text → Option (List Row)
 rows_in words = rows_unless (fault_of pfctl_app words) (matches_of pfctl_app words)
 
--- what pfctl's words give once they are read; words that aren't pfctl's are 40
-abbrev pub at_rows : Configuration → List ℕ → Option (List Row) → Outcome
-at_rows c text None = prints c (refused_line 40 0)
-at_rows c text (Some rows) = pfctl_rows c text rows
+-- an action, or the number of its refusal
+abbrev pub numbered : Asked → Result ActionValue ℕ
+numbered (Ok action) = Ok action
+numbered (Err fault) = Err (unwrap_or (command_fault_code fault) 0)
 
--- words with the text of their file; those that aren't understood are 40
+-- what rows ask for, with the text of the file; any other file is 40
+-- Source: pfctl(8).
+abbrev pub rows_asked : List ℕ → List Row → Result ActionValue ℕ
+rows_asked text rows =
+    if is_standard (first_of (codes "file") rows) then numbered (asked (given_in rows) text) else Err 40
+
+-- the same of words; those that aren't pfctl's are 40
+abbrev pub asked_at : List ℕ → Option (List Row) → Result ActionValue ℕ
+asked_at text None = Err 40
+asked_at text (Some rows) = rows_asked text rows
+
+-- the action that words ask for, with the text of their file, or the number of the refusal
+abbrev pub action_in : List Text → List ℕ → Result ActionValue ℕ
+action_in words text = asked_at text (rows_in words)
+
+-- ---- what it gives where nothing is changed
+
+-- a change that is asked for and not made; a refusal with its number and a ruleset's line; or what is printed
+pub data WordsValue : Type 0 where
+  Asks : (command : Command) → WordsValue
+  Refuses : (code : ℕ) → (at : ℕ) → WordsValue
+  Shows : (output : List ℕ) → WordsValue
+
+-- -n: the text is only read
+abbrev pub checked : Result RulesetValue Refusal → WordsValue
+checked (Ok rules) = Shows (line (codes "ok"))
+checked (Err refusal) = Refuses (refused_text refusal).code (refused_text refusal).line
+
+-- what is listed, or its refusal
+abbrev pub shown : Result (List ℕ) ℕ → WordsValue
+shown (Ok output) = Shows output
+shown (Err code) = Refuses code 0
+
+-- an action where nothing is changed: a change is handed back
+abbrev pub looked : Configuration → List ℕ → Result ActionValue ℕ → WordsValue
+looked c text (Err code) = Refuses code 0
+looked c text (Ok (Change command)) = Asks command
+looked c text (Ok (CheckOnly p)) = checked (reading (place_at p) Two text)
+looked c text (Ok action) = shown (listed c action)
+
+-- words with the text of their file
+-- Source: pfctl(8). Example: pfctl -F rules asks for a change.
+abbrev pub words_read : Configuration → List Text → List ℕ → WordsValue
+words_read c words text = looked c text (action_in words text)
+
+-- ---- what it does
+
+-- the configuration after a line, and what it prints
+pub record Outcome : Type 0 where
+  pub configuration : Configuration
+  pub output : List ℕ
+
+-- a configuration and what is printed
+abbrev pub prints : Configuration → List ℕ → Outcome
+prints c output = record { configuration = c; output = output }
+
+-- a change is made, and the line of its effect printed; all else changes nothing
+abbrev pub done_with : Configuration → WordsValue → Outcome
+done_with c (Asks command) = prints (after_command c command) (change_line (is_counted command) (effect c command))
+done_with c (Refuses code at) = prints c (refused_line code at)
+done_with c (Shows output) = prints c output
+
+-- a line of pfctl's words, with the text of their file
 abbrev pub pfctl : Configuration → List Text → List ℕ → Outcome
-pfctl c words text = at_rows c text (rows_in words)
+pfctl c words text = done_with c (words_read c words text)
 
 -- ---- a ruleset behind a line
 

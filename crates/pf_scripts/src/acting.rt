@@ -1,25 +1,21 @@
-//! What an action does and prints.
+//! What a line of pfctl's words does.
 
-ghost use Rattle.std.specs.Prelude.{◌≡◌, ◌++◌, OnOk, Ok, true, false, string_bytes};
-ghost use Rattle.pf_grammar.specs.Reading.{reading};
-ghost use Rattle.pf_rules.specs.declared.profile.Profile.TheVariants.{Two};
+ghost use Rattle.std.specs.Prelude.{◌≡◌, ◌++◌, OnOk, map, true, false, string_bytes};
 ghost use Rattle.pf_entry.specs.Entry.{are_names, path_of, rest_fits};
 ghost use Rattle.pf_entry.specs.Owned.{command_value};
 ghost use Rattle.pf_entry.specs.Seen.{command_of};
-ghost use Rattle.pf_command.specs.Effect.{effect, after_command, place_at};
+ghost use Rattle.pf_command.specs.Effect.{effect, after_command};
 ghost use Rattle.pf_arguments.specs.Asked.{is_too_long};
-ghost use Rattle.pf_arguments.specs.Answers.{action_value, IsShort};
-ghost use Rattle.pf_scripts.specs.Ctl.{acted, is_counted, counts_line, change_line, check_line, prints};
+ghost use Rattle.pf_scripts.specs.Ctl.{is_counted, counts_line, change_line, prints, pfctl};
 ghost use Rattle.pf_scripts.specs.inner.Seen.{Does};
 
-use crate::listing::{list_anchors, list_entries, list_matches, list_rules, list_tables};
-use crate::printing::{push_line, push_number, push_refusal};
-use pf_arguments::{Action, Command, CommandView, EncodeFault, Entry, decode, encode};
+use crate::printing::{push_number, push_refusal};
+use crate::reading::read_words;
+use crate::words_read::WordsRead;
+use pf_arguments::{Command, CommandView, EncodeFault, Entry, decode, encode};
 use pf_command::{Applied, ApplyFault, apply};
 use pf_config::Config;
 use pf_entry::BadEntry;
-use pf_grammar::{ParseFault, Place, Profile, parse};
-use pf_rules::Name;
 use std::alloc::{AllocError, Global};
 
 /// Whether a command's counts are printed: it changes one table.
@@ -109,53 +105,20 @@ fn run_change(
     }
 }
 
-/// Where a ruleset for this path is loaded.
-pub(crate) fn place_at(path: &[Name]) -> Place
-    ensures { result ≡ place_at path.now }
-{
-    match path {
-        [] => Place::Main,
-        [_, ..] => Place::Anchor,
-    }
-}
-
-/// Reads a ruleset and loads nothing.
-fn run_check(alloc: Global, path: &[Name], text: &[u8], out: &mut String) -> Result<(), AllocError>
-    ensures { OnOk result (string_bytes out.new
-        ≡ string_bytes out.old ++ check_line (reading (place_at path.now) Two text.now)) }
-{
-    match parse(alloc, text, place_at(path), Profile::Two) {
-        Ok(_rules) => push_line(out, "ok"),
-        Err(ParseFault::Memory) => Err(AllocError),
-        Err(ParseFault::Refused(refusal)) => {
-            push_refusal(alloc, out, refusal.cause.code(), refusal.line)
-        }
-    }
-}
-
-/// Does what an action asks for; `text` is what is behind the line.
-pub(crate) fn run_action(
+/// Does what a line of pfctl's words asks for, `pfctl` itself first.
+pub(crate) fn run_words(
     alloc: Global,
     config: &mut Config,
-    action: Action,
+    words: &[&str],
     text: &[u8],
     out: &mut String,
 ) -> Result<(), AllocError>
-    requires { IsShort action }
-    ensures { OnOk result (Does (acted config.old text.now (Ok (action_value action)))
+    ensures { OnOk result (Does (pfctl config.old (map (λ w. w.now) words.now) text.now)
         config.new (string_bytes out.old) (string_bytes out.new)) }
 {
-    match action {
-        Action::Change(command) => run_change(alloc, config, command, out),
-        Action::CheckOnly(path) => run_check(alloc, path.names(), text, out),
-        Action::ShowRules(path) => list_rules(alloc, config, path.names(), out),
-        Action::ShowTables(path) => list_tables(alloc, config, path.names(), out),
-        Action::ShowAnchors => list_anchors(alloc, config, out),
-        Action::TableShow(path, name) => {
-            list_entries(alloc, config.table(path.names(), name.as_str()), out)
-        }
-        Action::TableTest(path, name, list) => {
-            list_matches(alloc, config.table(path.names(), name.as_str()), &list, out)
-        }
+    match read_words(alloc, config, words, text)? {
+        WordsRead::Change(command) => run_change(alloc, config, command, out),
+        WordsRead::Refused(code, at) => push_refusal(alloc, out, code, at),
+        WordsRead::Output(output) => out.push_str(output.as_str()),
     }
 }

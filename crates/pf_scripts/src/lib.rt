@@ -4,13 +4,13 @@
 //!
 //! - [`ctl`]: what a script of pfctl's words and packets prints.
 //! - [`read_words`]: what a line of pfctl's words gives where nothing is changed; [`read_change`]: the change that
-//!   it asks for.
+//!   it asks for; [`list`]: what an action lists.
 //! - For scripts of other kinds: [`cut_line`] and [`words_in`] cut; [`takes_text`] and [`Waiting`] are of the text
 //!   behind a line of pfctl's words, [`matches_in`], [`file_in`] and [`is_standard`] of those words; [`push_line`],
 //!   [`push_number`], [`push_counts`], [`push_refusal`] and [`test_packet`] print.
 //!
-//! Within: `lines` cuts scripts and lines, `order` and `listing` are what is listed, `acting` what an action does,
-//! `pfctl` a line of pfctl's words, `reading` one that changes nothing, `stepping` a line of a script.
+//! Within: `lines` cuts scripts and lines, `order` and `listing` are what is listed, `pfctl` is a line of pfctl's words
+//! as `clap` reads it, `reading` what it asks for, `acting` what it does, `stepping` a line of a script.
 #![tactic(auto)]
 
 mod acting;
@@ -27,6 +27,7 @@ mod words_read;
 
 pub use acting::push_counts;
 pub use lines::{Line, cut_line, push_bytes, spaced, words_in};
+pub use listing::list;
 pub use pfctl::{file_in, is_standard, matches_in, takes_text};
 pub use printing::{push_line, push_number, push_refusal};
 pub use reading::{read_change, read_words};

@@ -1,20 +1,16 @@
-//! A line of pfctl's words.
+//! A line of pfctl's words, as `clap` reads it.
 
-ghost use Rattle.std.specs.Prelude.{◌≡◌, IfOk, OnOk, map, codes, string_bytes, option_map, false};
+ghost use Rattle.std.specs.Prelude.{◌≡◌, IfOk, map, codes, option_map, false};
 ghost use Rattle.std.specs.Option.{option_copied};
 ghost use Rattle.clap.specs.Words.{app_of, found_of, rows_of, first_of};
 ghost use Rattle.clap.specs.declared.builder.command.Command.TheViews.{out-Command};
 ghost use Rattle.pf_arguments.specs.Options.{pfctl_app};
-ghost use Rattle.pf_scripts.specs.Ctl.{pfctl, pfctl_rows, rows_in, takes_text, is_standard, is_input};
-ghost use Rattle.pf_scripts.specs.inner.Seen.{Does};
+ghost use Rattle.pf_scripts.specs.Ctl.{rows_in, takes_text, is_standard, is_input};
 
-use crate::acting::run_action;
 use crate::lines::stand_together;
-use crate::printing::push_refusal;
 use clap::error::ErrorKind;
 use clap::{ArgMatches, Command};
-use pf_arguments::{from_matches, pfctl_args};
-use pf_config::Config;
+use pf_arguments::pfctl_args;
 use std::alloc::{AllocError, Global};
 
 /// pfctl by itself, as `clap` reads it.
@@ -78,46 +74,5 @@ pub fn takes_text(alloc: Global, words: &[&str]) -> Result<bool, AllocError>
     match matches_in(alloc, words)? {
         Some(matches) => Ok(is_input(file_in(&matches))),
         None => Ok(stand_together("-f", "-", words)),
-    }
-}
-
-/// Does what matches ask for.
-#[tactic(auto, using(crate::proofs::Acted::fault_acted))]
-fn run_matches(
-    alloc: Global,
-    config: &mut Config,
-    matches: &ArgMatches<'_>,
-    text: &[u8],
-    out: &mut String,
-) -> Result<(), AllocError>
-    ensures { OnOk result (Does (pfctl_rows config.old text.now (rows_of (found_of matches.now)))
-        config.new (string_bytes out.old) (string_bytes out.new)) }
-{
-    if !is_standard(file_in(matches)) {
-        return push_refusal(alloc, out, 40, 0);
-    }
-    match from_matches(alloc, matches, text) {
-        Ok(action) => run_action(alloc, config, action, text, out),
-        Err(fault) => match fault.code() {
-            Some(code) => push_refusal(alloc, out, code, 0),
-            None => Err(AllocError),
-        },
-    }
-}
-
-/// Does what a line of pfctl's words asks for, `pfctl` itself first.
-pub(crate) fn run_words(
-    alloc: Global,
-    config: &mut Config,
-    words: &[&str],
-    text: &[u8],
-    out: &mut String,
-) -> Result<(), AllocError>
-    ensures { OnOk result (Does (pfctl config.old (map (λ w. w.now) words.now) text.now)
-        config.new (string_bytes out.old) (string_bytes out.new)) }
-{
-    match matches_in(alloc, words)? {
-        Some(matches) => run_matches(alloc, config, &matches, text, out),
-        None => push_refusal(alloc, out, 40, 0),
     }
 }

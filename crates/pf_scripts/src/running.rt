@@ -4,8 +4,8 @@ ghost use Rattle.std.specs.Prelude.{◌≡◌, ◌++◌, IfOk, OnOk, option_map,
 ghost use Rattle.pf_scripts.specs.Ctl.{at_end, printed};
 ghost use Rattle.pf_scripts.specs.inner.Seen.{waiting_of};
 
+use crate::acting::run_words;
 use crate::lines::cut_line;
-use crate::pfctl::run_words;
 use crate::stepping::step;
 use crate::waiting::Waiting;
 use pf_config::Config;

@@ -5,8 +5,9 @@ ghost use Rattle.pf_scripts.specs.Ctl.{tested, packet_line, pfctl_line, at_words
 ghost use Rattle.pf_scripts.specs.Seen.{line_of};
 ghost use Rattle.pf_scripts.specs.inner.Seen.{waiting_of, Steps};
 
+use crate::acting::run_words;
 use crate::lines::{Line, push_bytes, spaced, words_in};
-use crate::pfctl::{run_words, takes_text};
+use crate::pfctl::takes_text;
 use crate::printing::{push_line, push_refusal};
 use crate::waiting::Waiting;
 use pf_config::Config;

@@ -44,17 +44,17 @@ is_of_health other = false
 
 -- what is answered also where there are as many clients as may be
 abbrev pub is_urgent : Request → Bool
-is_urgent (request.Change words text) = false
+is_urgent (request.Change command) = false
 is_urgent (request.Read at r) = is_of_health r
 is_urgent request.Stop = true
 
 abbrev pub is_change : Request → Bool
-is_change (request.Change words text) = true
+is_change (request.Change command) = true
 is_change (request.Read at r) = false
 is_change request.Stop = false
 
 abbrev pub is_read : Request → Bool
-is_read (request.Change words text) = false
+is_read (request.Change command) = false
 is_read (request.Read at r) = true
 is_read request.Stop = false
 
