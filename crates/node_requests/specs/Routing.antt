@@ -84,14 +84,26 @@ reads given read = Asked (Reads (unwrap_or (position_of (codes "at") given) 0) r
 -- Example: GET /v1/rules?a=x asks for what pfctl -a x -s rules asks for.
 abbrev pub showing : List (Text × Text) → (what : Text) → GivenWords
 showing given what = record {
-  path = value_of (codes "a") given; file = None; check = false; flush = None; table = None; change = None;
-  show = Some what; addresses = [];
+  path = value_of (codes "a") given;
+  file = None;
+  check = false;
+  flush = None;
+  table = None;
+  change = None;
+  show = Some what;
+  addresses = [];
 }
 
 abbrev pub on_table : List (Text × Text) → (what : Text) → (addresses : List Text) → GivenWords
 on_table given what addresses = record {
-  path = value_of (codes "a") given; file = None; check = false; flush = None; table = value_of (codes "t") given;
-  change = Some what; show = None; addresses = addresses;
+  path = value_of (codes "a") given;
+  file = None;
+  check = false;
+  flush = None;
+  table = value_of (codes "t") given;
+  change = Some what;
+  show = None;
+  addresses = addresses;
 }
 
 -- what an action lists, or the number of its refusal
