@@ -9,8 +9,8 @@ use Rattle.node_requests.specs.Answers.{status_of}
 use Rattle.node_requests.specs.Queries.{parameters}
 use Rattle.node_requests.specs.Routing.{RoutedValue, Asked, Refused, Unread, is_newline}
 
--- a change: POST /v1/changes without parameters; it is what pfctl and the words of the body's first line ask for, with
--- what follows that line as their text
+-- a change: POST /v1/changes without parameters; it is what pfctl and the arguments in the body's first line ask
+-- for, with what follows that line as their text
 pub record PostsChange (method path query body : List ℕ) (command : Command) : Type 0 where
   pub posted : method ≡ codes "POST"
   pub there : path ≡ codes "/v1/changes"
