@@ -8,7 +8,7 @@
 //! the same line, what it writes, each line of its standard error behind `! `, and `-- STATUS`.
 
 use crate::line::{BEGIN, Line, LineFault, arguments_of, line_of, mode_of};
-use crate::running::{helped, run_line, subcommand_of};
+use crate::running::{run_line, subcommand_of};
 use bstr::ByteSlice;
 use clap::{Arg, ArgAction, Command};
 use cli_io::{InputFault, Status, misused, out_of_memory, read_all};
@@ -126,11 +126,7 @@ fn status_of<W: Write>(
     errors: &mut Vec<u8>,
 ) -> Result<Status, LineFault> {
     let arguments = arguments_of(rt.alloc(), shared, line.arguments)?;
-    let asked = helped(arguments.as_slice());
-    let arguments = match &asked {
-        Some(help) => help.as_slice(),
-        None => arguments.as_slice(),
-    };
+    let arguments = arguments.as_slice();
     match subcommand_of(arguments) {
         "" => Err(LineFault::Refused(40, "no subcommand")),
         "batch" => Err(LineFault::Refused(40, "a batch in a batch")),

@@ -9,7 +9,6 @@ use cli_nft::{asks_nft, run_nft};
 use cli_node::run_net;
 use cli_show::run_show;
 use pf_tool::run;
-use std::alloc::{AllocError, Global};
 use std::io::{Read, Write};
 
 /// The first argument behind the program's name, empty where there is none.
@@ -20,13 +19,11 @@ pub(crate) fn subcommand_of<'a>(arguments: &[&'a str]) -> &'a str {
     }
 }
 
-/// `help SUBCOMMAND` as `SUBCOMMAND --help`, where a crate of its own has its options.
-pub(crate) fn helped<'a>(arguments: &[&'a str]) -> Option<[&'a str; 3]> {
+/// The subcommand whose help `help SUBCOMMAND` asks for, where a crate of its own has its options.
+pub(crate) fn helped<'a>(arguments: &[&'a str]) -> Option<&'a str> {
     match arguments {
-        [name, "help", subcommand] => match *subcommand {
-            "node" | "ask" | "key" | "show" | "follow" | "batch" => Some([
-                name, subcommand, "--help",
-            ]),
+        [_, "help", subcommand] => match *subcommand {
+            "node" | "ask" | "key" | "show" | "follow" | "batch" => Some(*subcommand),
             _ => None,
         },
         _ => None,
@@ -73,23 +70,6 @@ pub(crate) fn lacks_control(arguments: &[&str]) -> bool {
         }
         _ => false,
     }
-}
-
-/// The arguments with `--control PATH` behind the subcommand.
-pub(crate) fn with_control<'a>(
-    alloc: Global,
-    arguments: &[&'a str],
-    path: &'a str,
-) -> Result<Vec<&'a str>, AllocError> {
-    let mut all = Vec::new(alloc);
-    if let [name, subcommand, rest @ ..] = arguments {
-        all.push(*name)?;
-        all.push(*subcommand)?;
-        all.push("--control")?;
-        all.push(path)?;
-        all.extend_from_slice(rest)?;
-    }
-    Ok(all)
 }
 
 /// Writes the help of `ask`: of the control socket's form, then of the one over UDP.
