@@ -23,8 +23,8 @@
 //! - **A part is searched by halving.** A hash table with a fixed seed would let entries be chosen whose keys all
 //!   meet, and std's proved maps are none whose times are bounded otherwise.
 //! - **The tree of anchors is kept as a tree**, the definition is a map from whole paths. A path of the map has a
-//!   rule or a table; an anchor that has neither, nor any below it that has, isn't kept. A change copies the
-//!   anchors from main to its path, and shares all others with the tree before it (`Rc`).
+//!   rule or a table; an anchor that has neither, nor any below it that has, isn't kept. A change is made in place, or
+//!   it copies the anchors from main to its path, and shares all others with the tree before it (`Rc`).
 //! - **A load puts a ruleset's blocks in their places one after another**: each before those in it, and these before
 //!   the blocks that follow (`blocks_in`). The anchors share the block's rules with the text's value (`Rc`), so
 //!   nothing of a rule is copied.
@@ -35,8 +35,12 @@
 //!   no entry is copied, and of those of its family and length the ones behind it move by one. Where something is
 //!   shared, where there is no such table, or the table has no entry of that family and length yet, the table is
 //!   made anew. Lists of several entries are merged, which costs the table once for all of them.
+//! - **A table is put in its place in place too, and a load** (`Change`), where nothing on the way is shared: in the
+//!   lists of tables and of anchors one slot is replaced, or what follows a new one moves by one. Memory is had first.
+//!   A load is made so at a path that isn't main's, if no block comes or goes and each table of the configuration
+//!   persists (`has_fleeting`), since no other table can go then. All else is made beside the old tree.
 //! - **Room for 1,024 paths** (23) is asked of the configuration that the command would leave, so a load that
-//!   clears away others may make room for itself.
+//!   clears away others may make room for itself. A change in place asks for it only where a path is new.
 //! - **Faults of a configuration have no place in a ruleset**: `pfx test` says `refused 23` alone.
 //! - **`find` and `kid` are `Config::anchor` and `Anchor::child`**: an anchor is lent as a part of the tree, with
 //!   its rules, its tables and the anchors below it. So a verdict goes down name by name, and looks no path up from
@@ -50,7 +54,7 @@
 //! - **Laws over the definitions of several crates are in pfx_laws**, on which nothing stands: they are proved
 //!   beside the crates that use the definitions, and no crate is proved again for them.
 //! - **The tables of an anchor are in the order of their names**, where one is found by binary search; so are skipped
-//!   interfaces (`Skipped`). A new table of a load moves those after it.
+//!   interfaces (`Skipped`). A new table moves those after it.
 //! - **For unnamed blocks below a block's path the anchor at that path alone is asked**, and the tree of a load is
 //!   changed in place. For which tables stay, the names that rules refer to are gathered once a load, if main has more
 //!   than 16 tables of which one may go (`Referred`).
@@ -64,8 +68,8 @@
 //!   pf_eval), and the anchors that a wildcard names are entered in order, since `Anchor::kids` says that each is the
 //!   one of its name (`AreBelow`).
 //! - **A command that changes tables alone shares the order of rules.** Anchors off the changed path are shared, and
-//!   what a load would remove is asked for before anything is copied. A change costs a few walks over all anchors, and
-//!   the new list of pointers.
+//!   what a load would remove is asked for before anything is copied. A change that isn't made in place costs a few
+//!   walks over all anchors, and the new list of pointers.
 #![tactic(auto)]
 
 mod anchor;

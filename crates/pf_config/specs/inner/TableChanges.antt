@@ -1,6 +1,6 @@
 -- A change in place: of one table, or of the rules and tables of a path.
-use Rattle.std.specs.Prelude.{◌≡◌, ℕ, Bool, true, false, ◌&&◌, ◌<◌, ◌≤◌, List, [], ◌∷◌, ◌+◌, ◌++◌, length, take, drop, get_or}
-use Rattle.std.specs.Prelude.{Option, Some, None, Result, Ok, find, not, nat_lt, if◌then◌else◌, map}
+use Rattle.std.specs.Prelude.{◌≡◌, ℕ, Bool, true, false, ◌&&◌, ◌<◌, ◌≤◌, List, [], ◌∷◌, ◌+◌, ◌++◌, length, map}
+use Rattle.std.specs.Prelude.{take, drop, get_or, Option, Some, None, Result, Ok, find, not, nat_lt, if◌then◌else◌}
 use Rattle.std.specs.List.{list_all, list_any}
 use Rattle.pf_rules.specs.declared.ruleset.TableEntry.{TableEntry}
 use Rattle.pf_rules.specs.Names.{Name, is_before}
@@ -10,7 +10,8 @@ use Rattle.pf_tables.specs.Tables.{TableValue}
 use Rattle.pf_tables.specs.Contents.{edited}
 use Rattle.pf_rules.specs.Items.{AnyRule}
 use Rattle.pf_rules.specs.Seen.{rule_of}
-use Rattle.pf_config.specs.Map.{Configuration, Path, named, rules_in, tables_in, AnchorValue, anchor_at, rules_at, tables_at}
+use Rattle.pf_config.specs.Map.{Configuration, Path, named, rules_in, tables_in, AnchorValue, anchor_at}
+use Rattle.pf_config.specs.Map.{rules_at, tables_at}
 use Rattle.pf_config.specs.declared.change.Change.{Change}
 use Rattle.pf_config.specs.declared.change.Change.TheVariants.{Entry, Whole, Own}
 use Rattle.pf_config.specs.declared.fault.ConfigFault.{ConfigFault}
