@@ -1,5 +1,5 @@
 -- The rules and tables of a path are changed in place, below an anchor and in a configuration.
-use Rattle.std.proofs.Common.{◌≡◌, ℕ, zero, suc, ◌+◌, ◌-◌, ◌<◌, ◌≤◌, Bool, true, false, ◌&&◌, ◌||◌, cond, List, [], ◌∷◌, ◌++◌, Option, Some, None, Ok, Err, length, length-append, take, drop, get_or, refl, sym, subst, ap, ◌∙◌, arith}
+use Rattle.std.proofs.Common.{◌≡◌, ℕ, zero, suc, ◌+◌, ◌-◌, ◌<◌, ◌≤◌, Bool, true, false, ◌&&◌, cond, List, [], ◌∷◌, ◌++◌, Option, Some, None, Ok, Err, length, length-append, take, drop, get_or, refl, sym, subst, ap, ◌∙◌, arith}
 use Rattle.std.specs.declared.rc.Rc.{Rc}
 use Rattle.std.specs.Prelude.{if◌then◌else◌, find, nat_lt, not, unwrap_or, is_some, Result, MatchResult}
 use Rattle.std.proofs.Math.ListN.{set}
@@ -237,11 +237,18 @@ found_own es p t h = ap is_some (ap own_at h ∙ found_at es p)
 pub no_own_found : (es : List AnchorValue) (p : Path) → None ≡ anchor_in es p → false ≡ is_some (anchor_at p es)
 no_own_found es p h = sym (ap is_some (nothing_found es p h))
 
-pub room_left : (n left : ℕ) → Some left ≡ room_after 1024 n → nat_lt 0 left ≡ nat_lt n 1024
-room_left n left h =
-    (elim (nat_lt 1024 n) as (λ b. nat_lt 1024 n ≡ b → Some left ≡ (if b then None else Some (1024 - n)) → nat_lt 0 left ≡ nat_lt n 1024) [
+pub takes_none : (o : Option AnchorValue) (n room : ℕ) → n + room ≤ 1024 → is_some o ≡ true → n + room + 1 ≤ 1024 + count_of o
+takes_none None n room h e = cc
+takes_none (Some a) n room h e = omega (arith, h)
+
+pub takes_one : (o : Option AnchorValue) (n room : ℕ) → n + room ≤ 1024 → 0 < room → n + (room - 1) + 1 ≤ 1024 + count_of o
+takes_one o n room h k = omega (arith, h, k)
+
+pub takes_counted : (o : Option AnchorValue) (n left : ℕ) → Some left ≡ room_after 1024 n → 0 < left → n + (left - 1) + 1 ≤ 1024 + count_of o
+takes_counted o n left h k =
+    (elim (nat_lt 1024 n) as (λ b. nat_lt 1024 n ≡ b → Some left ≡ (if b then None else Some (1024 - n)) → n + (left - 1) + 1 ≤ 1024 + count_of o) [
       | true ↦ λ e f. cc
-      | false ↦ λ e f. (let s : left ≡ 1024 - n = cc in rw s (grind (arith, nat_tests, e)))
+      | false ↦ λ e f. (let s : left ≡ 1024 - n = cc in omega (arith, s, k))
     ]) refl h
 
 own_same : (o : Option AnchorTree) → own_of o ≡ own_at o
@@ -251,14 +258,17 @@ own_same (Some k) = refl
 abbrev pub config_with : List Name → List AnchorValue → Configuration
 config_with skip es = record { skip = skip; anchors = es }
 
-main_changes_if : (by : Changing) (done : Bool) (path : Path) (skip : List Name) (t new : AnchorTree) → t.names ≡ [] → length t.anchors ≤ 1024 → length t.anchors + 1 ≤ 1024 + count_of (anchor_at path t.anchors) → TreeChangesIf done by path t new → (new.names ≡ []) × (length new.anchors ≤ 1024) × MapChangesIf done by path (config_with skip t.anchors) (config_with skip new.anchors)
+main_changes_if : (by : Changing) (done : Bool) (path : Path) (skip : List Name) (t new : AnchorTree) (left : ℕ) → t.names ≡ [] → length t.anchors ≤ 1024 → length t.anchors + left + 1 ≤ 1024 + count_of (anchor_at path t.anchors) → TreeChangesIf done by path t new → (new.names ≡ []) × (length new.anchors + left ≤ 1024) × MapChangesIf done by path (config_with skip t.anchors) (config_with skip new.anchors)
 unfolding tables_at rules_at
-main_changes_if by false path skip t new h few room c = (ap (λ (x : AnchorTree). x.names) c ∙ h, subst (λ (x : AnchorTree). length x.anchors ≤ 1024) (sym c) few, ap (λ (x : AnchorTree). config_with skip x.anchors) c)
-main_changes_if by true path skip t new h few room c =
+main_changes_if by false path skip t new left h few room c =
+    let one = at_most_one (anchor_at path t.anchors) in
+    let same = ap (λ (x : AnchorTree). length x.anchors) c in
+    (ap (λ (x : AnchorTree). x.names) c ∙ h, omega (arith, room, one, same), ap (λ (x : AnchorTree). config_with skip x.anchors) c)
+main_changes_if by true path skip t new left h few room c =
     let there : own_of (tree_at t path) ≡ anchor_at path t.anchors = own_same (tree_at t path) ∙ ap own_at (main_down t path h) ∙ found_at t.anchors path in
     let placed = main_placed t new path c.rules c.rules c.tables c.tables h refl refl c.is in
     let grown = subst (λ o. length new.anchors + count_of o ≡ length t.anchors + 1) there c.long in
-    let less : length new.anchors ≤ 1024 = omega (arith, room, grown) in (
+    let less : length new.anchors + left ≤ 1024 = omega (arith, room, grown) in (
       placed.0,
       less,
       record {
@@ -267,22 +277,15 @@ main_changes_if by true path skip t new h few room c =
         skip = refl;
         is = placed.1;
         made = subst (λ o. by (rules_in o) (tables_in o) c.rules c.tables) there c.made;
-        few = less;
+        few = omega (arith, less);
       },
     )
 
 -- the same, whatever the call answers
-pub main_changes : {X : Type 0} (res : Result Bool X) (by : Changing) (path : Path) (skip : List Name) (t new : AnchorTree) → t.names ≡ [] → length t.anchors ≤ 1024 → (is_some (anchor_at path t.anchors) || nat_lt (length t.anchors) 1024) ≡ true → MatchResult res (λ done. TreeChangesIf done by path t new) (λ x. new ≡ t) →
-    (new.names ≡ []) × (length new.anchors ≤ 1024) × MatchResult res (λ done. MapChangesIf done by path (config_with skip t.anchors) (config_with skip new.anchors)) (λ x. config_with skip new.anchors ≡ config_with skip t.anchors)
-main_changes {X} res by path skip t new h few place c = all res c
-  where
-    fits : (o : Option AnchorValue) → (is_some o || nat_lt (length t.anchors) 1024) ≡ true → length t.anchors + 1 ≤ 1024 + count_of o
-    fits None k = grind (arith, nat_tests, k)
-    fits (Some a) k = omega (arith, few)
-
-    all : (r : Result Bool X) → MatchResult r (λ done. TreeChangesIf done by path t new) (λ x. new ≡ t) → (new.names ≡ []) × (length new.anchors ≤ 1024) × MatchResult r (λ done. MapChangesIf done by path (config_with skip t.anchors) (config_with skip new.anchors)) (λ x. config_with skip new.anchors ≡ config_with skip t.anchors)
-    all (Ok done) d = main_changes_if by done path skip t new h few (fits (anchor_at path t.anchors) place) d
-    all (Err x) d = main_changes_if by false path skip t new h few (fits (anchor_at path t.anchors) place) d
+pub main_changes : {X : Type 0} (res : Result Bool X) (by : Changing) (path : Path) (skip : List Name) (t new : AnchorTree) (left : ℕ) → t.names ≡ [] → length t.anchors ≤ 1024 → length t.anchors + left + 1 ≤ 1024 + count_of (anchor_at path t.anchors) → MatchResult res (λ done. TreeChangesIf done by path t new) (λ x. new ≡ t) →
+    (new.names ≡ []) × (length new.anchors + left ≤ 1024) × MatchResult res (λ done. MapChangesIf done by path (config_with skip t.anchors) (config_with skip new.anchors)) (λ x. config_with skip new.anchors ≡ config_with skip t.anchors)
+main_changes (Ok done) by path skip t new left h few room c = main_changes_if by done path skip t new left h few room c
+main_changes (Err x) by path skip t new left h few room c = main_changes_if by false path skip t new left h few room c
 
 -- there is a changed table, and the new configuration is the old one with it
 abbrev pub Sets : Option TableValue → Path → Name → Configuration → Configuration → Type 0

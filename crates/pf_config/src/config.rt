@@ -1,6 +1,6 @@
 //! The configuration: anchors with their rules and tables.
 
-ghost use Rattle.std.specs.Prelude.{◌≡◌, ◌≤◌, ◌||◌, is_some, map, length, not, nat_lt};
+ghost use Rattle.std.specs.Prelude.{◌≡◌, ◌≤◌, ◌+◌, IfSome, is_some, map, length, not, nat_lt};
 ghost use Rattle.std.specs.Prelude.{[], IfOk, MatchResult};
 ghost use Rattle.std.specs.Prelude.{unwrap_or, Ok, false};
 ghost use Rattle.std.specs.Option.{option_copied};
@@ -12,7 +12,7 @@ ghost use Rattle.pf_config.specs.inner.Changes.{FailsWith};
 ghost use Rattle.pf_config.specs.Changes.{add, replace, delete, flush_table, set_table, filled, new_table};
 ghost use Rattle.pf_config.specs.Changes.{load_ruleset};
 ghost use Rattle.pf_rules.specs.Rulesets.{ruleset_of};
-ghost use Rattle.pf_config.specs.inner.TableChanges.{commanded, GivesIf, LoadsIf, Makes, MapChangesIf};
+ghost use Rattle.pf_config.specs.inner.TableChanges.{commanded, count_of, GivesIf, LoadsIf, Makes, MapChangesIf};
 ghost use Rattle.pf_config.specs.inner.Texts.{definition_of};
 ghost use Rattle.pf_config.specs.Ordered.{AreOrdered};
 ghost use Rattle.pf_config.specs.SkippedNames.{is_listed};
@@ -56,10 +56,12 @@ pub struct Config {
     main: Anchor,
     /// False only where each table persists: a load then asks no rules which tables they refer to.
     has_fleeting: bool,
+    /// How many paths more there may be at least. Where it is 0 they are counted before one comes in.
+    room: usize,
 }
 
 impl Model for Config {
-    ghost use Rattle.std.specs.Prelude.{◌≡◌, ◌≤◌, ◌&&◌, [], length, not, false};
+    ghost use Rattle.std.specs.Prelude.{◌≡◌, ◌≤◌, ◌+◌, ◌&&◌, [], length, not, false};
     ghost use Rattle.pf_config.specs.Map.{Configuration};
     ghost use Rattle.pf_config.specs.inner.Referring.{any_may_shed};
 
@@ -68,7 +70,7 @@ impl Model for Config {
     ghost view = { λ c. record { skip = c.skip; anchors = c.main.anchors } };
 
     ghost invariant = { λ c. (c.main.names ≡ []) × (length c.main.anchors ≤ 1024)
-        × ((not c.has_fleeting && any_may_shed c.main.anchors) ≡ false) };
+        × ((not c.has_fleeting && any_may_shed c.main.anchors) ≡ false) × (length c.main.anchors + c.room ≤ 1024) };
 }
 
 impl Config {
@@ -82,6 +84,7 @@ impl Config {
             skip: Skipped::new(alloc),
             main,
             has_fleeting: false,
+            room: 0,
         })
     }
 
@@ -365,37 +368,8 @@ impl Config {
         ensures { self.new ≡ record { skip = self.old.skip; anchors = main.anchors } }
     {
         self.has_fleeting = main.has_fleeting();
+        self.room = 0;
         self.main = main;
-    }
-
-    /// Whether there are rules or tables at a path.
-    #[tactic(auto, using(crate::proofs::Changing::found_own, crate::proofs::Changing::no_own_found))]
-    fn has_own(&self, path: &[Name]) -> bool
-        ensures { result ≡ is_some (anchor_at path.now self.now.anchors) }
-    {
-        match self.anchor(path) {
-            Some(anchor) => anchor.has_own(),
-            None => false,
-        }
-    }
-
-    /// Whether there is room for one path more.
-    #[tactic(auto, using(crate::proofs::Changing::room_left))]
-    fn has_room_for_one(&self) -> bool
-        ensures { result ≡ nat_lt (length self.now.anchors) ANCHORS_MAX }
-    {
-        match self.main.room_after(ANCHORS_MAX) {
-            Some(left) => left > 0,
-            None => false,
-        }
-    }
-
-    /// Whether a change at a path leaves no more paths than there may be. Their number is asked only where it may grow.
-    fn has_place(&self, path: &[Name]) -> bool
-        ensures { result ≡ (is_some (anchor_at path.now self.now.anchors) ||
-            nat_lt (length self.now.anchors) ANCHORS_MAX) }
-    {
-        self.has_own(path) || self.has_room_for_one()
     }
 
     /// Makes a change at a path in place. False, and nothing is changed, where that can't be done.
@@ -403,9 +377,10 @@ impl Config {
         ensures { MatchResult result (λ done. MapChangesIf done (Makes change.now) path.now self.old self.new)
             (λ e. self.new ≡ self.old) }
     {
-        if !self.has_place(path) {
+        let Some(left) = room_after_one(&self.main, path, self.room) else {
             return Ok(false);
-        }
+        };
+        self.room = left;
         self.has_fleeting = self.has_fleeting || change.makes_fleeting();
         change_below(self.alloc, &mut self.main, path, change)
     }
@@ -447,6 +422,39 @@ impl Config {
         }
         self.put(next);
         Ok(())
+    }
+}
+
+/// Whether there are rules or tables at a path.
+#[tactic(auto, using(crate::proofs::Descents::main_down, crate::proofs::Changing::found_own, crate::proofs::Changing::no_own_found))]
+fn has_own(main: &Anchor, path: &[Name]) -> bool
+    requires { main.now.names ≡ [] }
+    ensures { result ≡ is_some (anchor_at path.now main.now.anchors) }
+{
+    match descend(main, path) {
+        Some(anchor) => anchor.has_own(),
+        None => false,
+    }
+}
+
+/// How many paths more there may be at least after a change at a path: of the known room one is taken where the path is
+/// new, and the paths are counted where none is known. None where there may be no more.
+#[tactic(auto, using(crate::proofs::Changing::takes_none, crate::proofs::Changing::takes_one, crate::proofs::Changing::takes_counted))]
+fn room_after_one(main: &Anchor, path: &[Name], room: usize) -> Option<usize>
+    requires names { main.now.names ≡ [] }
+    requires room { length main.now.anchors + room ≤ ANCHORS_MAX }
+    ensures { IfSome result (λ left. length main.now.anchors + left + 1 ≤ ANCHORS_MAX + count_of (anchor_at path.now
+        main.now.anchors)) }
+{
+    if has_own(main, path) {
+        return Some(room);
+    }
+    if room > 0 {
+        return Some(room - 1);
+    }
+    match main.room_after(ANCHORS_MAX) {
+        Some(left) if left > 0 => Some(left - 1),
+        _ => None,
     }
 }
 
