@@ -21,7 +21,7 @@ use Rattle.node_loop.proofs.Among.{among_all, among_is, among_front}
 use Rattle.px_wire.specs.Message.{group}
 use Rattle.px_replica.specs.Replicas.{membership_of}
 use Rattle.node_loop.specs.Resending.{IsKnown}
-use Rattle.node_loop.specs.Turns.{Acts, Stand, Turned, Ticked, TickedIf, Took, TookAll, TookThenTicked, Same, Turns, Ends, Served}
+use Rattle.node_loop.specs.Turns.{Acts, Stand, HeardTurn, Ticked, TickedIf, Took, TookAll, TookThenTicked, Same, Turns, Ends, Served}
 use Rattle.node_loop.specs.Turns.{Resent, Passed, Between, IsIdle, IsKnownTo}
 use Rattle.node_loop.specs.Progress.{IsNobodys, Saw, SawOne, SawAll, looked}
 use Rattle.node_loop.specs.Timing.{TimerEvent, SawThenLooked, looks, sends_if, view_of}
@@ -154,36 +154,28 @@ served_between x y b = record { turns = zero; then = y; made = b; last = between
 pub served_none : {R : Type 0} {G : Ghosts R} (x y : Stand G) → Same x y → Served x y None
 served_none x y s = served_between x y (between_same x y s)
 
-pub served_turn : {R : Type 0} {G : Ghosts R} (x y : Stand G) (a : Option NodeFault) → Turned x y a → Served x y a
+pub served_turn : {R : Type 0} {G : Ghosts R} (x y : Stand G) (a : Option NodeFault) → HeardTurn x y a → Served x y a
 served_turn x y None d = record { turns = suc zero; then = y; made = (x, y, between_all x, d, between_all y); last = between_all y }
 served_turn x y (Some e) d = record { turns = zero; then = x; made = between_all x; last = d }
 
 -- one turn more
-pub served_on : {R : Type 0} {G : Ghosts R} (x y z : Stand G) (a : Option NodeFault) → Served x y None → Turned y z a → Served x z a
+pub served_on : {R : Type 0} {G : Ghosts R} (x y z : Stand G) (a : Option NodeFault) → Served x y None → HeardTurn y z a → Served x z a
 served_on x y z a s d = served_then x y z a s (served_turn y z a d)
 
--- turns of either kind are turns
-pub turned_by_clock : {R : Type 0} {G : Ghosts R} (x y : Stand G) (a : Option NodeFault) → Ticked x y a → Turned x y a
-turned_by_clock x y a t = record {
-  came = None;
-  out = t.out;
-  acts = t.call;
-  went = t.went;
-  kept = t.kept;
-  requests = among_front y.requests x.requests [] (among_is y.requests x.requests t.requests);
-  hears = t.hears;
-}
-
-pub turned_by_datagram : {R : Type 0} {G : Ghosts R} (x y : Stand G) (a : Option NodeFault) → Took x y a → Turned x y a
-turned_by_datagram x y a t = record {
-  came = Some t.bytes;
-  out = t.out;
-  acts = t.acts;
-  went = t.went;
-  kept = t.kept;
-  requests = t.requests;
-  hears = t.hears;
-}
+-- a turn of the clock is a turn
+pub turned_by_clock : {R : Type 0} {G : Ghosts R} (x y : Stand G) (a : Option NodeFault) → Ticked x y a → HeardTurn x y a
+turned_by_clock x y a t = (
+  record {
+    came = None;
+    out = t.out;
+    acts = t.call;
+    went = t.went;
+    kept = t.kept;
+    requests = among_front y.requests x.requests [] (among_is y.requests x.requests t.requests);
+    hears = t.hears;
+  },
+  tt,
+)
 
 -- a datagram that is nobody's leaves the member as it was
 pub nobodys_still : {R : Type 0} {G : Ghosts R} (s t : Replica R G) (bytes : Bytes) (out : List Datagram) →

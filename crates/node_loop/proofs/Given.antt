@@ -13,7 +13,7 @@ use Rattle.px_transport.specs.declared.wire.Wire as wires
 use Rattle.std.proofs.lemmas.List.{map-append}
 use Rattle.node_loop.proofs.Traffic.{among_chain}
 use Rattle.px_transport.specs.Wires.{WireEvent, Handed, Adds, IsQuiet, Moves, gives, hands}
-use Rattle.node_loop.specs.Turns.{Stand, Same, Served, Turned, Resent}
+use Rattle.node_loop.specs.Turns.{Stand, Same, Served, HeardTurn, Resent}
 use Rattle.node_loop.proofs.Chains.{served_then, served_none, served_between, served_turn, between_resent}
 use Rattle.px_replica.specs.declared.datagram.Datagram.{Datagram}
 use Rattle.node_loop.specs.Turns.{handed_over}
@@ -125,7 +125,7 @@ over_between o n x y f es t =
     let r = f es t in (r.0, r.1, served_between (x es) (y r.0) (between_resent (x es) (y r.0) r.2))
 
 pub over_turn : {R : Type 0} {G : Ghosts R} (o n : List WireEvent → Type 0) (x y : List WireEvent → Stand G)
-    (a : Option NodeFault) → Moves o n (λ es es'. Turned (x es) (y es') a) → Moves o n (λ es es'. Served (x es) (y es') a)
+    (a : Option NodeFault) → Moves o n (λ es es'. HeardTurn (x es) (y es') a) → Moves o n (λ es es'. Served (x es) (y es') a)
 over_turn o n x y a f es t = let r = f es t in (r.0, r.1, served_turn (x es) (y r.0) a r.2)
 
 -- what holds where a call answered Ok

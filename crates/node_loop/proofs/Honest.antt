@@ -1,5 +1,5 @@
 -- What became of a record in a run, in the terms of the model.
-use Rattle.std.proofs.Common.{◌≢◌, ◌∙◌, ℕ, Bool, List, [], ◌∷◌, ◌++◌, Option, Some, None, refl, sym, ap, subst, inl, inr}
+use Rattle.std.proofs.Common.{◌≡◌, ◌≢◌, ◌∙◌, ℕ, Bool, List, [], ◌∷◌, ◌++◌, Option, Some, None, refl, sym, ap, subst, inl, inr}
 use Rattle.px_model.specs.Node.{Record}
 use Rattle.px_model.specs.Spelling.{Bytes}
 use Rattle.px_model.specs.World.{NodeState, started}
@@ -29,27 +29,31 @@ module _ {R : Type 0} (G : Ghosts R) (How : (s t : Node R G) → Type 0)
   at_start m given back honest l =
       before l.begun l.done l.went (subst (λ (r : R). G.is_honest r) l.closed honest)
 
-  -- a life from where the node began is one from what its record held
+  -- a life from where the node began is one from what its record held, and hears asks from outside where that does
   pub life_lived : (m : Membership) (given back : R) (w v : List WireEvent) (a : Option NodeFault) → G.is_honest back → (l : Life G How m given back) →
-      (hears : Bool) (buffers : Buffers) → Living (stands l.begun w (new_buffers hears)) (stands l.done v buffers) a → LivedOver G m given back w v
+      (hears : Bool) (buffers : Buffers) → Living (stands l.begun w (new_buffers hears)) (stands l.done v buffers) a →
+      (over : LivedOver G m given back w v) × (over.hears ≡ hears)
   life_lived m given back w v a honest l hears buffers living =
-      let began = l.starts (at_start m given back honest l) in
-      record {
-        moves = living.moves;
-        then = living.then;
-        lived = subst (λ (b : NodeState Bytes). Lived (group m) m.me b (trace_of living.moves) living.then) began
-            (subst (λ (n : Membership). Lived (group n) n.me (state_in l.begun) (trace_of living.moves) living.then) l.membership living.lived);
-        up = living.up;
-        hears = hears;
-        are = subst (λ (n : Membership). AreMoves (group n) n.me hears living.moves [] []) l.membership living.are;
-        last = living.last;
-        went = living.went;
-        again = living.again;
-        stays = λ none. ap G.stored l.closed
-            ∙ ap (λ (t : NodeState Bytes). t.stored) (living.stays (sym (ap G.failed l.closed) ∙ none));
-        stop = λ left may. subst (λ (n : Membership). LeavesThere (group n) n.me (given_in living.last) living.then left) l.membership
-            (living.stop left (subst (λ (r : R). G.may_leave r left) l.closed may));
-      }
+      let began = l.starts (at_start m given back honest l) in (
+        record {
+          moves = living.moves;
+          then = living.then;
+          lived = subst (λ (b : NodeState Bytes). Lived (group m) m.me b (trace_of living.moves) living.then) began
+              (subst (λ (n : Membership). Lived (group n) n.me (state_in l.begun) (trace_of living.moves) living.then) l.membership living.lived);
+          up = living.up;
+          hears = hears;
+          are = subst (λ (n : Membership). AreMoves (group n) n.me hears living.moves [] []) l.membership living.are;
+          members = living.members;
+          last = living.last;
+          went = living.went;
+          again = living.again;
+          stays = λ none. ap G.stored l.closed
+              ∙ ap (λ (t : NodeState Bytes). t.stored) (living.stays (sym (ap G.failed l.closed) ∙ none));
+          stop = λ left may. subst (λ (n : Membership). LeavesThere (group n) n.me (given_in living.last) living.then left) l.membership
+              (living.stop left (subst (λ (r : R). G.may_leave r left) l.closed may));
+        },
+        refl,
+      )
 
 -- a run that doesn't end with a fault of the store has none
 not_store : (n k : ℕ) (a : Option NodeFault) (ended : Ended) → Tells n k a ended → ended ≢ Fault fault.Store → a ≢ Some fault.Store
@@ -67,18 +71,18 @@ runs_lived {R} G law m given back w v ended honest l =
     served_before (stands x w (new_buffers k.hears)) (stands y v k.buffers) k.answered k.served h in
     let at_end = subst (λ (r : R). G.is_honest r) l.closed honest in
     let lives = law (stands l.begun w (new_buffers s.hears)) (stands l.done v s.buffers) s.answered at_end l.works s.served in (
-      life_lived G (λ x y. Serves x y w v ended) before m given back w v s.answered honest l s.hears s.buffers lives.0,
+      (life_lived G (λ x y. Serves x y w v ended) before m given back w v s.answered honest l s.hears s.buffers lives.0).0,
       λ other. ap G.failed l.closed ∙ lives.1 (not_store _ _ s.answered ended s.reported other),
     )
 
 pub hosted_runs_lived : {R : Type 0} (G : Ghosts R) → HostingsAreLived G → HostedRunsAreLived G
-hosted_runs_lived {R} G law m given back w v ended honest l =
+hosted_runs_lived {R} G law m given back w v hears ended honest l =
     let s = l.went in
-    let before = λ (x y : Node R G) (k : Hosts x y w v ended) (h : G.is_honest (records_of y)).
-    hosted_before (stands x w (new_buffers k.hears)) (stands y v k.buffers) k.answered k.hosted h in
+    let before = λ (x y : Node R G) (k : Hosts x y w v hears ended) (h : G.is_honest (records_of y)).
+    hosted_before (stands x w (new_buffers hears)) (stands y v k.buffers) k.answered k.hosted h in
     let at_end = subst (λ (r : R). G.is_honest r) l.closed honest in
-    life_lived G (λ x y. Hosts x y w v ended) before m given back w v s.answered honest l s.hears s.buffers
-    (law (stands l.begun w (new_buffers s.hears)) (stands l.done v s.buffers) s.answered at_end l.works s.hosted)
+    life_lived G (λ x y. Hosts x y w v hears ended) before m given back w v s.answered honest l hears s.buffers
+    (law (stands l.begun w (new_buffers hears)) (stands l.done v s.buffers) s.answered at_end l.works s.hosted)
 
 -- ---- several runs
 

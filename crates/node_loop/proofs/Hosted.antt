@@ -1,5 +1,5 @@
 -- A run without a control socket is one in which no command is asked.
-use Rattle.std.proofs.Common.{ℕ, List, Option, None, Some, inl, inr}
+use Rattle.std.proofs.Common.{ℕ, Bool, false, List, Option, None, Some, inl, inr}
 use Rattle.px_model.specs.Step.{front}
 use Rattle.px_records.specs.declared.records.Records.{Ghosts}
 use Rattle.px_transport.specs.Wires.{WireEvent}
@@ -15,26 +15,29 @@ pub tells : (n k : ℕ) (answered : Option NodeFault) (ended : Ended) → Tells 
 tells n k None ended reported = inl reported
 tells n k (Some e) ended reported = reported
 
-pub serves : {R : Type 0} {G : Ghosts R} (s t : Node R G) (w v : List WireEvent) (ended : Ended) → Serves s t w v ended → Hosts s t w v ended
+pub serves : {R : Type 0} {G : Ghosts R} (s t : Node R G) (w v : List WireEvent) (ended : Ended) →
+    (k : Serves s t w v ended) → Hosts s t w v k.hears ended
 serves s t w v ended k = record {
   answered = k.answered;
-  hears = k.hears;
   buffers = k.buffers;
   hosted = hosted_served (stands s w (new_buffers k.hears)) (stands t v k.buffers) k.answered k.served;
   reported = tells (front (learned_by t)) (applied_of t) k.answered ended k.reported;
 }
 
 pub runs : {R : Type 0} (G : Ghosts R) (m : Membership) (given back : R) (w v : List WireEvent) (ended : Ended) →
-    Runs G m given w v ended back → HostedRuns G m given w v ended back
-runs G m given back w v ended (inl unopened) = inl unopened
-runs G m given back w v ended (inr l) = inr (record {
-  begun = l.begun;
-  done = l.done;
-  membership = l.membership;
-  works = l.works;
-  was = l.was;
-  starts = l.starts;
-  stop = l.stop;
-  went = serves l.begun l.done w v ended l.went;
-  closed = l.closed;
-})
+    Runs G m given w v ended back → (hears : Bool) × HostedRuns G m hears given w v ended back
+runs G m given back w v ended (inl unopened) = (false, inl unopened)
+runs G m given back w v ended (inr l) = (
+  l.went.hears,
+  inr (record {
+    begun = l.begun;
+    done = l.done;
+    membership = l.membership;
+    works = l.works;
+    was = l.was;
+    starts = l.starts;
+    stop = l.stop;
+    went = serves l.begun l.done w v ended l.went;
+    closed = l.closed;
+  }),
+)

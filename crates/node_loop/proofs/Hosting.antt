@@ -19,7 +19,7 @@ use Rattle.node_loop.specs.Again.{AreAmong}
 use Rattle.node_loop.proofs.Among.{among_is, among_then, among_front, among_none}
 use Rattle.node_loop.specs.Turns.{Stand, Same, IsIdle, Between, Served}
 use Rattle.node_loop.specs.Hosting.{AskedOnce, AskedTimes, Goes, Steps, Stops, Hosted}
-use Rattle.node_loop.specs.Living.{sent_by, LeavesThere, trace_of, events_of, came_by, AreMoves, Living, HostingsAreLived}
+use Rattle.node_loop.specs.Living.{sent_by, AllFromMembers, LeavesThere, trace_of, events_of, came_by, AreMoves, Living, HostingsAreLived}
 use Rattle.node_loop.proofs.Traffic.{none_brought, among_chain, among_nil, trace_then, events_then, came_then, moves_then, idly, idle_trace, idle_events, idle_moves}
 use Rattle.node_loop.proofs.Chains.{same_is, idle_from, between_all, went_then}
 use Rattle.node_loop.proofs.Lives.{Led, called, idles_in, led_between, led_then, served_before, served_led, served_ended, Ended, failed_call, between_lost, broken_served, broken_between, ended_more, led_living, ended_living}
@@ -143,6 +143,7 @@ refused {R} {G} x y z command e false is l honest call rest =
       moves = [];
       lived = d.stays (z.replica.works is);
       are = tt;
+      members = λ off h m. absurd m;
       went = went;
       kept = among_nil z.kept y.kept (among_is z.kept y.kept kept);
       requests = among_nil z.requests y.requests (among_is z.requests y.requests requests);
@@ -157,7 +158,7 @@ asks : {R : Type 0} {G : Ghosts R} (x y z : Stand G) → Led (membership_of x.re
     AskedOnce y.replica z.replica → z ≡ record y { replica = z.replica } → GoesOn x z
 asks {R} {G} x y z l honest (command, None, call) rest =
     inl (led_then (membership_of x.replica) x y z l
-    (called y z (Asks command) None [] l.works honest tt tt call
+    (called y z (Asks command) None [] l.works honest tt tt (λ off h m. absurd m) call
     (ap (λ (s : Stand G). s.traffic) rest ∙ sym (append-nil y.traffic))
     (among_nil z.kept y.kept (among_is z.kept y.kept (ap (λ (s : Stand G). s.kept) rest)))
     (among_nil z.requests y.requests (among_is z.requests y.requests (ap (λ (s : Stand G). s.requests) rest)))
@@ -229,6 +230,7 @@ module _ {R : Type 0} (G : Ghosts R)
         lived = subst (λ (ds : List TraceEvent). Lived (group m) m.me (state_in x.replica) ds (state_in b.stood.replica)) (sym same) l.lived;
         up = refl;
         are = moves_then (group m) m.me x.hears_asks l.moves on x.requests b.stood.requests x.kept b.stood.kept l.are still l.requests l.kept;
+        members = λ off. subst (λ (ds : List TraceEvent). AllFromMembers ds) (sym same) (l.members off);
         last = [];
         went = went_then x.traffic b.stood.traffic z.traffic (events_of l.moves) d.last l.went d.went
             ∙ ap (λ (es : List WireEvent). x.traffic ++ (events_of l.moves ++ es)) (sym (idle_events d.last))

@@ -11,6 +11,7 @@ use Rattle.px_model.specs.Law.{Among}
 use Rattle.px_transport.specs.Wires.{WireEvent, Gave, Handed, given_in, handed_in, gives, hands}
 use Rattle.px_transport.proofs.Traffic.{given_append, handed_append}
 use Rattle.px_wire.specs.Message.{Group, group}
+use Rattle.px_wire.specs.Members.{as_sent}
 use Rattle.px_wire.specs.declared.membership.Membership.{Membership}
 use Rattle.px_replica.specs.Calls.{Call, Receives}
 use Rattle.px_replica.specs.Faults.{fault_of}
@@ -25,10 +26,10 @@ use Rattle.px_replica.specs.declared.state.Replica.{Replica}
 use Rattle.node_loop.specs.Again.{AreAmong}
 use Rattle.node_loop.proofs.Among.{among_is, among_front, among_then, among_none, among_both}
 use Rattle.node_loop.specs.Resending.{came_in}
-use Rattle.node_loop.specs.Turns.{Acts, Stand, IsIdle, Between, Turns, Ends, Served, handed_over}
-use Rattle.node_loop.specs.Living.{message_in, AreBrought, sent_by, LeavesThere, Living, TurnsAreLived}
+use Rattle.node_loop.specs.Turns.{Acts, Stand, IsHeard, IsIdle, Between, Turns, Ends, Served, handed_over}
+use Rattle.node_loop.specs.Living.{Heard, message_in, messages_of, AllFromMembers, AreBrought, sent_by, LeavesThere, Living, TurnsAreLived}
 use Rattle.node_loop.specs.Living.{Move, Does, Passes, trace_of, events_of, came_by, IsBrought, AreMoves}
-use Rattle.node_loop.proofs.Traffic.{sent_then, brought_more, none_brought, one_brought, among_chain, trace_then, events_then, came_then, moves_then}
+use Rattle.node_loop.proofs.Traffic.{sent_then, members_then, brought_more, none_brought, one_brought, among_chain, trace_then, events_then, came_then, moves_then}
 use Rattle.node_loop.proofs.Traffic.{idly, idle_trace, idle_events, Idles, idle_moves}
 use Rattle.node_loop.proofs.Chains.{between_then, went_then}
 
@@ -45,6 +46,7 @@ pub record Led {R : Type 0} {G : Ghosts R} (m : Membership) (x y : Stand G) : Ty
   pub moves : List Move
   pub lived : Lived (group m) m.me (state_in x.replica) (trace_of moves) (state_in y.replica)
   pub are : AreMoves (group m) m.me x.hears_asks moves x.requests x.kept
+  pub members : x.hears_asks ≡ false → AllFromMembers (trace_of moves)
   pub went : y.traffic ≡ x.traffic ++ events_of moves
   pub kept : AreAmong y.kept (x.kept ++ sent_by (trace_of moves))
   pub requests : AreAmong y.requests (x.requests ++ came_by moves)
@@ -61,13 +63,15 @@ pub called : {R : Type 0} {G : Ghosts R} (x y : Stand G) (i : Input Bytes) (came
     has_failed x.replica ≡ false → G.is_honest (records_of y.replica) →
     IsInput (group (membership_of x.replica)) (membership_of x.replica).me i →
     IsBrought (group (membership_of x.replica)) (membership_of x.replica).me came i →
+    (x.hears_asks ≡ false → (h : Heard) → Among (message_in i) h → h.0 ≢ 255) →
     Call x.replica y.replica i [] out None → y.traffic ≡ x.traffic ++ (gives came ++ hands (handed_over out)) →
     AreAmong y.kept (x.kept ++ handed_over out) → AreAmong y.requests (x.requests ++ came_in came) → y.hears_asks ≡ x.hears_asks →
     Led (membership_of x.replica) x y
-called {R} {G} x y i came out works honest input brought call went kept requests hears = record {
+called {R} {G} x y i came out works honest input brought heard call went kept requests hears = record {
   moves = Does came i (state_in y.replica) out ∷ [];
   lived = (refl, input, call.made honest refl, refl);
   are = (brought, tt);
+  members = λ off h m. heard off h (subst (λ (hs : List Heard). Among hs h) (append-nil (message_in i)) m);
   went = went ∙ ap (λ (es : List WireEvent). x.traffic ++ es) (sym (append-nil (gives came ++ hands (handed_over out))));
   kept = subst (λ (ds : List (ℕ × Bytes)). AreAmong y.kept (x.kept ++ ds)) (sym (append-nil (handed_over out))) kept;
   requests = subst (λ (bs : List Bytes). AreAmong y.requests (x.requests ++ bs)) (sym (append-nil (came_in came))) requests;
@@ -91,6 +95,7 @@ led_between {R} {G} x y b works = record {
       (sym (idle_trace b.events)) (ap (λ (z : Replica R G). state_in z) b.replica);
   are = idle_moves (group (membership_of x.replica)) (membership_of x.replica).me x.hears_asks b.events x.requests x.kept
       (λ e m. idles_in x e (b.idle e m));
+  members = λ off h m. absurd (subst (λ (ds : List TraceEvent). Among (messages_of ds) h) (idle_trace b.events) m);
   went = b.went ∙ ap (λ (es : List WireEvent). x.traffic ++ es) (sym (idle_events b.events));
   kept = among_front y.kept x.kept (sent_by (trace_of (idly b.events))) (among_is y.kept x.kept b.kept);
   requests = among_front y.requests x.requests (came_by (idly b.events)) (among_is y.requests x.requests b.requests);
@@ -102,15 +107,17 @@ led_between {R} {G} x y b works = record {
 
 received : {R : Type 0} {G : Ghosts R} (x y : Stand G) (bytes : Bytes) (out : List Datagram) (r : Result Received NodeFault) →
     has_failed x.replica ≡ false → G.is_honest (records_of y.replica) → Receives x.replica y.replica bytes [] out r → fault_of r ≡ None →
+    IsHeard x (Some bytes) →
     y.traffic ≡ x.traffic ++ (Gave bytes ∷ hands (handed_over out)) →
     AreAmong y.kept (x.kept ++ handed_over out) → AreAmong y.requests (x.requests ++ bytes ∷ []) → y.hears_asks ≡ x.hears_asks →
     Led (membership_of x.replica) x y
-received x y bytes out r works honest (inl lost) none went kept requests hears =
+received x y bytes out r works honest (inl lost) none heard went kept requests hears =
     absurd (let is : true ≡ false = sym lost.failed ∙ works in cc)
-received {R} {G} x y bytes out r works honest (inr (inl passed)) none went kept requests hears = record {
+received {R} {G} x y bytes out r works honest (inr (inl passed)) none heard went kept requests hears = record {
   moves = Passes bytes ∷ [];
   lived = ap (λ (z : Replica R G). state_in z) passed.still;
   are = (inl passed.unspelled, tt);
+  members = λ off h m. absurd m;
   went = subst (λ (ds : List Datagram). y.traffic ≡ x.traffic ++ (Gave bytes ∷ hands (handed_over ds))) passed.silent went;
   kept = subst (λ (ds : List Datagram). AreAmong y.kept (x.kept ++ handed_over ds)) passed.silent kept;
   requests = requests;
@@ -119,19 +126,23 @@ received {R} {G} x y bytes out r works honest (inr (inl passed)) none went kept 
   works = ap (λ (z : Replica R G). has_failed z) passed.still ∙ works;
   membership = ap (λ (z : Replica R G). membership_of z) passed.still;
 }
-received {R} {G} x y bytes out r works honest (inr (inr handled)) none went kept requests hears =
+received {R} {G} x y bytes out r works honest (inr (inr handled)) none heard went kept requests hears =
     called x y (Comes handled.sender handled.message) (Some bytes) out works honest handled.passes handled.spelled
+    (λ off h m. elim m [
+      | inl is ↦ subst (λ (k : Heard). k.0 ≢ 255) is (heard off handled.sender (as_sent handled.message) handled.spelled)
+      | inr none ↦ absurd none
+    ])
     (subst (λ (o : Option NodeFault). Call x.replica y.replica (Comes handled.sender handled.message) [] out o) none handled.call) went
     kept requests hears
 
 acted : {R : Type 0} {G : Ghosts R} (x y : Stand G) (came : Option Bytes) (out : List Datagram) → has_failed x.replica ≡ false →
-    G.is_honest (records_of y.replica) → Acts x.replica y.replica came out None →
+    G.is_honest (records_of y.replica) → Acts x.replica y.replica came out None → IsHeard x came →
     y.traffic ≡ x.traffic ++ (gives came ++ hands (handed_over out)) → AreAmong y.kept (x.kept ++ handed_over out) →
     AreAmong y.requests (x.requests ++ came_in came) → y.hears_asks ≡ x.hears_asks → Led (membership_of x.replica) x y
-acted x y None out works honest call went kept requests hears =
-    called x y Ticks None out works honest tt tt call went kept requests hears
-acted x y (Some bytes) out works honest (r, receives, none) went kept requests hears =
-    received x y bytes out r works honest receives none went kept requests hears
+acted x y None out works honest call heard went kept requests hears =
+    called x y Ticks None out works honest tt tt (λ off h m. absurd m) call went kept requests hears
+acted x y (Some bytes) out works honest (r, receives, none) heard went kept requests hears =
+    received x y bytes out r works honest receives none heard went kept requests hears
 
 sent_all : (ms ns : List Move) → sent_by (trace_of (ms ++ ns)) ≡ sent_by (trace_of ms) ++ sent_by (trace_of ns)
 sent_all ms ns = ap sent_by (trace_then ms ns) ∙ sent_then (trace_of ms) (trace_of ns)
@@ -149,6 +160,8 @@ led_then {R} {G} m x y z a b =
       lived = subst (λ (ds : List TraceEvent). Lived (group m) m.me (state_in x.replica) ds (state_in z.replica)) (sym (trace_then a.moves b.moves))
           (lived_then (group m) m.me (state_in x.replica) (state_in y.replica) (state_in z.replica) (trace_of a.moves) (trace_of b.moves) a.lived lived);
       are = moves_then (group m) m.me x.hears_asks a.moves b.moves x.requests y.requests x.kept y.kept a.are are a.requests a.kept;
+      members = λ off. subst (λ (ds : List TraceEvent). AllFromMembers ds) (sym (trace_then a.moves b.moves))
+          (members_then (trace_of a.moves) (trace_of b.moves) (a.members off) (b.members (a.hears ∙ off)));
       went = went_then x.traffic y.traffic z.traffic (events_of a.moves) (events_of b.moves) a.went b.went
           ∙ ap (λ (es : List WireEvent). x.traffic ++ es) (sym (events_then a.moves b.moves));
       kept = subst (λ (ds : List (ℕ × Bytes)). AreAmong z.kept (x.kept ++ ds)) (sym (sent_all a.moves b.moves))
@@ -175,13 +188,13 @@ turns_before : {R : Type 0} {G : Ghosts R} (n : ℕ) (x y : Stand G) → Turns n
     G.is_honest (records_of x.replica)
 turns_before {R} {G} zero x y b honest = subst (λ (z : Replica R G). G.is_honest (records_of z)) b.replica honest
 turns_before {R} {G} (suc n) x y (v, w, turns, turn, b) honest =
-    turns_before n x v turns (acted_before v.replica w.replica turn.came turn.out None turn.acts
+    turns_before n x v turns (acted_before v.replica w.replica turn.0.came turn.0.out None turn.0.acts
     (subst (λ (z : Replica R G). G.is_honest (records_of z)) b.replica honest))
 
 ends_before : {R : Type 0} {G : Ghosts R} (x y : Stand G) (a : Option NodeFault) → Ends x y a → G.is_honest (records_of y.replica) →
     G.is_honest (records_of x.replica)
 ends_before {R} {G} x y None same honest = subst (λ (z : Replica R G). G.is_honest (records_of z)) same.replica honest
-ends_before x y (Some e) turn honest = acted_before x.replica y.replica turn.came turn.out (Some e) turn.acts honest
+ends_before x y (Some e) turn honest = acted_before x.replica y.replica turn.0.came turn.0.out (Some e) turn.0.acts honest
 
 -- a record that is honest after turns was honest before them
 pub served_before : {R : Type 0} {G : Ghosts R} (x y : Stand G) (a : Option NodeFault) → Served x y a → G.is_honest (records_of y.replica) →
@@ -193,8 +206,8 @@ turns_led : {R : Type 0} {G : Ghosts R} (n : ℕ) (x y : Stand G) → Turns n x 
 turns_led zero x y b works honest = led_between x y b works
 turns_led {R} {G} (suc n) x y (v, w, turns, turn, b) works honest =
     let honest' : G.is_honest (records_of w.replica) = subst (λ (z : Replica R G). G.is_honest (records_of z)) b.replica honest in
-    let a = turns_led n x v turns works (acted_before v.replica w.replica turn.came turn.out None turn.acts honest') in
-    let d = acted v w turn.came turn.out a.works honest' turn.acts turn.went turn.kept turn.requests turn.hears in
+    let a = turns_led n x v turns works (acted_before v.replica w.replica turn.0.came turn.0.out None turn.0.acts honest') in
+    let d = acted v w turn.0.came turn.0.out a.works honest' turn.0.acts turn.1 turn.0.went turn.0.kept turn.0.requests turn.0.hears in
     let c = led_then (membership_of x.replica) x v w a d in
     led_then (membership_of x.replica) x w y c (led_between w y b c.works)
 
@@ -284,7 +297,7 @@ failed_turn w z (Some bytes) out e works honest (r, inr (inr handled), is) went 
 pub served_ended : {R : Type 0} {G : Ghosts R} (x z : Stand G) (e : NodeFault) → Served x z (Some e) → has_failed x.replica ≡ false →
     G.is_honest (records_of z.replica) → (w : Stand G) × Led (membership_of x.replica) x w × Ended w z e
 served_ended x z e s works honest =
-    let t = s.last in
+    let t = s.last.0 in
     let l = turns_led s.turns x s.then s.made works (acted_before s.then.replica z.replica t.came t.out (Some e) t.acts honest) in
     (s.then, l, failed_turn s.then z t.came t.out e l.works honest t.acts t.went t.kept t.requests t.hears)
 
@@ -361,7 +374,7 @@ broken_turns : {R : Type 0} {G : Ghosts R} (n : ℕ) (x y : Stand G) → has_fai
 broken_turns zero x y broken b = b
 broken_turns {R} {G} (suc n) x y broken (v, w, turns, turn, b) =
     let c = broken_turns n x v broken turns in
-    absurd (no_turn v.replica w.replica turn.came turn.out (ap (λ (z : Replica R G). has_failed z) c.replica ∙ broken) turn.acts)
+    absurd (no_turn v.replica w.replica turn.0.came turn.0.out (ap (λ (z : Replica R G). has_failed z) c.replica ∙ broken) turn.0.acts)
 
 still_kept : {R : Type 0} {G : Ghosts R} (x y : Stand G) (out : List Datagram) → out ≡ [] → AreAmong y.kept (x.kept ++ handed_over out) →
     AreAmong y.kept x.kept
@@ -402,7 +415,7 @@ broken_served x z None broken s =
     lost_then x s.then z (between_lost x s.then (broken_turns s.turns x s.then broken s.made)) (between_lost s.then z s.last)
 broken_served {R} {G} x z (Some e) broken s =
     let b = broken_turns s.turns x s.then broken s.made in
-    let t = s.last in
+    let t = s.last.0 in
     lost_then x s.then z (between_lost x s.then b)
     (broken_turn s.then z t.came t.out e (ap (λ (y : Replica R G). has_failed y) b.replica ∙ broken) t.acts t.went t.kept t.requests t.hears)
 
@@ -441,6 +454,7 @@ module _ {R : Type 0} (G : Ghosts R)
     lived = l.lived;
     up = refl;
     are = l.are;
+    members = l.members;
     last = [];
     went = l.went ∙ ap (λ (es : List WireEvent). x.traffic ++ es) (sym (append-nil (events_of l.moves)));
     again = among_none (x.kept ++ sent_by (trace_of l.moves));
@@ -462,6 +476,7 @@ module _ {R : Type 0} (G : Ghosts R)
     lived = l.lived;
     up = refl;
     are = l.are;
+    members = l.members;
     last = d.last;
     went = went_then x.traffic w.traffic z.traffic (events_of l.moves) d.last l.went d.went;
     again = among_then (handed_in d.last) w.kept (x.kept ++ sent_by (trace_of l.moves)) d.again l.kept;
@@ -483,8 +498,9 @@ module _ {R : Type 0} (G : Ghosts R)
       let all = led_then (membership_of x.replica) x w z l (led_between w z same l.works) in
       (led_living x z honest all, λ other. z.replica.works all.works)
   ended x w z (Some e) n honest works turns turn =
-      let l = turns_led n x w turns works (acted_before w.replica z.replica turn.came turn.out (Some e) turn.acts honest) in
-      let d = failed_turn w z turn.came turn.out e l.works honest turn.acts turn.went turn.kept turn.requests turn.hears in
+      let t = turn.0 in
+      let l = turns_led n x w turns works (acted_before w.replica z.replica t.came t.out (Some e) t.acts honest) in
+      let d = failed_turn w z t.came t.out e l.works honest t.acts t.went t.kept t.requests t.hears in
       (ended_living x w z e (Some e) l d (λ none. absurd (some_none e none)), d.counts)
 
   pub turns_lived : TurnsAreLived G

@@ -1,12 +1,13 @@
 -- Where no turn is made nothing changes.
-use Rattle.std.proofs.Common.{List, None, false}
+use Rattle.std.proofs.Common.{Bool, List, None, false, refl}
 use Rattle.px_model.specs.Step.{front}
 use Rattle.px_records.specs.declared.records.Records.{Ghosts}
 use Rattle.px_transport.specs.Wires.{WireEvent}
 use Rattle.pf_node.specs.Nodes.{learned_by, applied_of}
 use Rattle.pf_node.specs.declared.state.Node.{Node}
 use Rattle.node_loop.proofs.Chains.{served_none, same_all}
-use Rattle.node_loop.specs.Lives.{new_buffers, stands, Tells, Serves}
+use Rattle.node_loop.proofs.Hosting.{hosted_none}
+use Rattle.node_loop.specs.Lives.{new_buffers, stands, Tells, Serves, HostTells, Hosts}
 use Rattle.node_loop.specs.declared.ended.Ended.{Ended}
 
 pub still : {R : Type 0} {G : Ghosts R} (s : Node R G) (w : List WireEvent) (ended : Ended) →
@@ -16,5 +17,15 @@ still s w ended reported = record {
   hears = false;
   buffers = new_buffers false;
   served = served_none (stands s w (new_buffers false)) (stands s w (new_buffers false)) (same_all (stands s w (new_buffers false)));
+  reported = reported;
+}
+
+-- nor where no command is asked
+pub unasked : {R : Type 0} {G : Ghosts R} (s : Node R G) (w : List WireEvent) (hears : Bool) (ended : Ended) →
+    HostTells (front (learned_by s)) (applied_of s) None ended → Hosts s s w w hears ended
+unasked s w hears ended reported = record {
+  answered = None;
+  buffers = new_buffers hears;
+  hosted = hosted_none (stands s w (new_buffers hears)) (stands s w (new_buffers hears)) refl;
   reported = reported;
 }

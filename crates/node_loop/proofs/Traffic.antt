@@ -14,7 +14,7 @@ use Rattle.px_replica.specs.Lives.{TraceEvent}
 use Rattle.px_replica.specs.Lives.TraceEvent.{Calls, Stops, Opens}
 use Rattle.node_loop.specs.Resending.{IsKnown, IsPassedOver, came_in}
 use Rattle.node_loop.specs.Turns.{handed_over}
-use Rattle.node_loop.specs.Living.{Heard, message_in, messages_of, AreBrought, sent_by}
+use Rattle.node_loop.specs.Living.{Heard, message_in, messages_of, AllFromMembers, AreBrought, sent_by}
 use Rattle.node_loop.specs.Living.{Move, Does, Passes, Repeats, trace_of, events_of, came_by, IsBrought, AreMoves}
 
 -- ---- lists of what is kept
@@ -122,6 +122,15 @@ moves_then g me hears (Passes c ∷ ms) ns before later kept keeps a b r k =
     (a.0, moves_then g me hears ms ns (before ++ c ∷ []) later kept keeps a.1 b (among_one before c (came_by ms) later r) k)
 moves_then g me hears (Repeats to c ∷ ms) ns before later kept keeps a b r k =
     (a.0, moves_then g me hears ms ns before later kept keeps a.1 b r k)
+
+-- ---- who sent what came
+
+pub members_then : (xs ys : List TraceEvent) → AllFromMembers xs → AllFromMembers ys → AllFromMembers (xs ++ ys)
+members_then xs ys a b x m =
+    elim (among_cases (messages_of xs) (messages_of ys) x (subst (λ (hs : List Heard). Among hs x) (messages_then xs ys) m)) [
+      | inl here ↦ a x here
+      | inr later ↦ b x later
+    ]
 
 -- ---- what is idle
 

@@ -18,9 +18,10 @@ use Rattle.pf_node.specs.Nodes.{replica_of, records_of, learned_by, membership_o
 use Rattle.pf_node.specs.declared.state.Node.{Node}
 use Rattle.node_loop.specs.Turns.{Stand, Served}
 use Rattle.node_loop.specs.Hosting.{Hosted}
-use Rattle.node_loop.specs.Living.{message_in, AreBrought, sent_by, LeavesThere, Move, trace_of, events_of, AreMoves}
+use Rattle.node_loop.specs.Living.{message_in, AllFromMembers, AreBrought, sent_by, LeavesThere}
+use Rattle.node_loop.specs.Living.{Move, trace_of, events_of, AreMoves}
 use Rattle.node_loop.specs.declared.ended.Ended.{Ended}
-use Rattle.node_loop.specs.declared.ended.Ended.TheVariants.{Front, Fault, NoWire, NoControlSocket, NoPort}
+use Rattle.node_loop.specs.declared.ended.Ended.TheVariants.{Front, Stopped, Fault, NoWire, NoControlSocket, NoPort}
 
 -- ---- a run
 
@@ -54,6 +55,7 @@ Tells n applied (Some e) ended = ended ≡ Fault e
 -- this holds where all turns were made
 abbrev pub OnFront : Ended → (holds : Type 0) → Type 0
 OnFront (Front n applied) holds = holds
+OnFront (Stopped n applied) holds = Unit {0}
 OnFront (Fault e) holds = Unit {0}
 OnFront NoWire holds = Unit {0}
 OnFront NoControlSocket holds = Unit {0}
@@ -68,15 +70,18 @@ pub record Serves {R : Type 0} {G : Ghosts R} (s t : Node R G) (w v : List WireE
   pub served : Served (stands s w (new_buffers hears)) (stands t v buffers) answered
   pub reported : Tells (front (learned_by t)) (applied_of t) answered ended
 
--- the same where commands are asked between turns, as at a control socket; if that or its port is missing, none is made
+-- The same where commands are asked between turns, as at a control socket, and the end too. If that socket or its port
+-- is missing, no turn is made.
 abbrev pub HostTells : (front applied : ℕ) → (answered : Option NodeFault) → Ended → Type 0
-HostTells n applied None ended = Tells n applied None ended ⊎ ((ended ≡ NoControlSocket) ⊎ (ended ≡ NoPort))
+HostTells n applied None ended =
+    Tells n applied None ended ⊎ ((ended ≡ Stopped n applied) ⊎ ((ended ≡ NoControlSocket) ⊎ (ended ≡ NoPort)))
 HostTells n applied (Some e) ended = Tells n applied (Some e) ended
 
--- turns of the node, and commands asked of it between them, led from one to the other, and these went over its wire
-pub record Hosts {R : Type 0} {G : Ghosts R} (s t : Node R G) (w v : List WireEvent) (ended : Ended) : Type 0 where
+-- turns of the node, and commands asked of it between them, led from one to the other, and these went over its wire;
+-- asks from outside were heard or weren't
+pub record Hosts {R : Type 0} {G : Ghosts R} (s t : Node R G) (w v : List WireEvent) (hears : Bool) (ended : Ended) :
+    Type 0 where
   pub answered : Option NodeFault
-  pub hears : Bool
   pub buffers : Buffers
   pub hosted : Hosted (stands s w (new_buffers hears)) (stands t v buffers) answered
   pub reported : HostTells (front (learned_by t)) (applied_of t) answered ended
@@ -110,11 +115,11 @@ abbrev pub Runs : {R : Type 0} → (G : Ghosts R) → Membership → (given : R)
 Runs G m given w v ended back =
     IsUnopened G m given w v ended back ⊎ Life G (λ s t. Serves s t w v ended) m given back
 
--- the same where commands are asked between turns
-abbrev pub HostedRuns : {R : Type 0} → (G : Ghosts R) → Membership → (given : R) → (w v : List WireEvent) → Ended →
-    (back : R) → Type 0
-HostedRuns G m given w v ended back =
-    IsUnopened G m given w v ended back ⊎ Life G (λ s t. Hosts s t w v ended) m given back
+-- the same where commands are asked between turns, and asks from outside are heard or aren't
+abbrev pub HostedRuns : {R : Type 0} → (G : Ghosts R) → Membership → (hears : Bool) → (given : R) →
+    (w v : List WireEvent) → Ended → (back : R) → Type 0
+HostedRuns G m hears given w v ended back =
+    IsUnopened G m given w v ended back ⊎ Life G (λ s t. Hosts s t w v hears ended) m given back
 
 -- ---- a life
 
@@ -131,6 +136,7 @@ pub record LivedOver {R : Type 0} (G : Ghosts R) (m : Membership) (given back : 
   pub up : then.is_up ≡ true
   pub hears : Bool
   pub are : AreMoves (group m) m.me hears moves [] []
+  pub members : hears ≡ false → AllFromMembers (trace_of moves)
   pub last : List WireEvent
   pub went : v ≡ w ++ (events_of moves ++ last)
   pub again : AreAmong (handed_in last) (sent_by (trace_of moves))
@@ -145,11 +151,12 @@ RunsAreLived {R} G =
     Life G (λ s t. Serves s t w v ended) m given back →
     LivedOver G m given back w v × (ended ≢ Fault fault.Store → G.failed back ≡ 0)
 
--- the same of runs with commands asked between turns, as at a control socket
+-- the same of runs with commands asked between turns, as at a control socket; asks from outside are heard where the run
+-- hears them
 abbrev pub HostedRunsAreLived : {R : Type 0} → Ghosts R → Type 0
 HostedRunsAreLived {R} G =
-    (m : Membership) (given back : R) (w v : List WireEvent) (ended : Ended) → G.is_honest back →
-    Life G (λ s t. Hosts s t w v ended) m given back → LivedOver G m given back w v
+    (m : Membership) (given back : R) (w v : List WireEvent) (hears : Bool) (ended : Ended) → G.is_honest back →
+    Life G (λ s t. Hosts s t w v hears ended) m given back → (l : LivedOver G m given back w v) × (l.hears ≡ hears)
 
 -- ---- one life of several runs
 

@@ -41,6 +41,10 @@ messages_of (Calls x t out ∷ ds) = message_in x ++ messages_of ds
 messages_of (Stops x left ∷ ds) = message_in x ++ messages_of ds
 messages_of (Opens ∷ ds) = messages_of ds
 
+-- each of them came from a member: none is an ask from outside
+abbrev pub AllFromMembers : List TraceEvent → Type 0
+AllFromMembers ds = (x : Heard) → Among (messages_of ds) x → x.0 ≢ 255
+
 -- each of the messages is spelled by one of the datagrams
 abbrev pub AreBrought : Group → (me : ℕ) → (gave : List Bytes) → List Heard → Type 0
 AreBrought g me gave xs =
@@ -130,6 +134,7 @@ pub record Living {R : Type 0} {G : Ghosts R} (x z : Stand G) (answered : Option
   pub up : then.is_up ≡ true
   -- the wire
   pub are : AreMoves (group (membership_of x.replica)) (membership_of x.replica).me x.hears_asks moves x.requests x.kept
+  pub members : x.hears_asks ≡ false → AllFromMembers (trace_of moves)
   pub last : List WireEvent
   pub went : z.traffic ≡ x.traffic ++ (events_of moves ++ last)
   pub again : AreAmong (handed_in last) (x.kept ++ sent_by (trace_of moves))

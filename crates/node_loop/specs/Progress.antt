@@ -1,6 +1,6 @@
 -- What is seen of the other members' progress. The timer is given the time, how the node stands, and this; so a
 -- datagram that is nobody's changes nothing of it.
-use Rattle.std.specs.Prelude.{◌≡◌, ◌≢◌, ◌⊎◌, ℕ, zero, suc, ◌+◌, ◌==◌, ◌||◌, Bool, true, false}
+use Rattle.std.specs.Prelude.{◌≡◌, ◌⊎◌, ℕ, zero, suc, ◌+◌, ◌==◌, ◌||◌, Bool, true, false}
 use Rattle.std.specs.Prelude.{List, Option, Some, None, not, min, max, replicate, slice_set}
 use Rattle.px_model.specs.Spelling.{Bytes}
 use Rattle.px_records.specs.declared.records.Records.{Ghosts}
@@ -11,7 +11,7 @@ use Rattle.px_wire.specs.declared.kind.Kind.{Kind}
 use Rattle.px_wire.specs.declared.kind.Kind.TheVariants as kinds
 use Rattle.px_replica.specs.Replicas.{membership_of, IsUnspelled}
 use Rattle.px_replica.specs.declared.state.Replica.{Replica}
-use Rattle.node_loop.specs.Turns.{Stand, Took, Passed, Same}
+use Rattle.node_loop.specs.Turns.{Stand, IsHeard, Took, Passed, Same}
 use Rattle.node_loop.specs.declared.room.Room.{Room}
 use Rattle.node_loop.specs.declared.peer_progress.PeerProgress.{PeerProgress}
 
@@ -108,8 +108,7 @@ pub record Saw {R : Type 0} {G : Ghosts R} (x y : Stand G) (s t : PeerProgress) 
   pub unseen : IsNobodys x.replica took.bytes → t ≡ s
   pub shown : (from : ℕ) (message : Message) → IsFrom x.replica from message took.bytes →
       t ≡ shown_by (head_of from (membership_of x.replica).me message) s
-  pub members : x.hears_asks ≡ false → (from : ℕ) (message : Message) →
-      IsFrom x.replica from message took.bytes → from ≢ 255
+  pub members : IsHeard x (Some took.bytes)
 
 -- a datagram was taken, or passed over, of which nothing is seen
 abbrev pub SawOne : {R : Type 0} {G : Ghosts R} → (x y : Stand G) → (s t : PeerProgress) → Type 0

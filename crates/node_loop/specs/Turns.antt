@@ -1,6 +1,6 @@
 -- One turn of a node, and several in a row.
-use Rattle.std.specs.Prelude.{◌≡◌, ◌⊎◌, ℕ, zero, suc, Bool, true, false, List, [], ◌∷◌, ◌++◌, map, Option, Some, None}
-use Rattle.std.specs.Prelude.{Result}
+use Rattle.std.specs.Prelude.{◌≡◌, ◌≢◌, ◌⊎◌, ℕ, zero, suc, Bool, true, false, List, [], ◌∷◌, ◌++◌, map}
+use Rattle.std.specs.Prelude.{Option, Some, None, Result}
 use Rattle.px_model.specs.Law.{Among}
 use Rattle.px_model.specs.Node.Input.{Ticks}
 use Rattle.px_model.specs.Spelling.{Bytes}
@@ -12,7 +12,7 @@ use Rattle.px_replica.specs.declared.fault.NodeFault.{NodeFault}
 use Rattle.px_replica.specs.declared.receiving.Received.{Received}
 use Rattle.px_replica.specs.declared.state.Replica.{Replica}
 use Rattle.px_transport.specs.Wires.{WireEvent, Gave, Handed, gives, hands}
-use Rattle.px_wire.specs.Message.{group}
+use Rattle.px_wire.specs.Message.{Message, group, DatagramBytes}
 use Rattle.px_replica.specs.Replicas.{membership_of}
 use Rattle.node_loop.specs.Again.{AreAmong}
 use Rattle.node_loop.specs.Resends.{kept_of, requests_of}
@@ -61,6 +61,17 @@ pub record Turned {R : Type 0} {G : Ghosts R} (x y : Stand G) (answered : Option
   pub kept : AreAmong y.kept (x.kept ++ handed_over out)
   pub requests : AreAmong y.requests (x.requests ++ came_in came)
   pub hears : y.hears_asks ≡ x.hears_asks
+
+-- where asks from outside aren't heard, what came, if it spells a message to the member, is of a member
+abbrev pub IsHeard : {R : Type 0} {G : Ghosts R} → Stand G → (came : Option Bytes) → Type 0
+IsHeard x None = Unit {0}
+IsHeard x (Some bytes) =
+    x.hears_asks ≡ false → (from : ℕ) (message : Message) →
+    DatagramBytes (group (membership_of x.replica)) from (membership_of x.replica).me message bytes → from ≢ 255
+
+-- a turn for what is heard
+abbrev pub HeardTurn : {R : Type 0} {G : Ghosts R} → (x y : Stand G) → (answered : Option NodeFault) → Type 0
+HeardTurn x y answered = (turn : Turned x y answered) × IsHeard x turn.came
 
 -- A turn of the clock: nothing is taken from the wire.
 pub record Ticked {R : Type 0} {G : Ghosts R} (x y : Stand G) (answered : Option NodeFault) : Type 0 where
@@ -149,12 +160,12 @@ TookThenTicked {G = G} n is_due x z =
 -- n turns without a fault, one after the other
 abbrev pub Turns : {R : Type 0} {G : Ghosts R} → (turns : ℕ) → (x y : Stand G) → Type 0
 Turns zero x y = Between x y
-Turns {G = G} (suc n) x z = (y : Stand G) × (w : Stand G) × Turns n x y × Turned y w None × Between w z
+Turns {G = G} (suc n) x z = (y : Stand G) × (w : Stand G) × Turns n x y × HeardTurn y w None × Between w z
 
 -- nothing more is done, or a last turn ends with the fault
 abbrev pub Ends : {R : Type 0} {G : Ghosts R} → (x y : Stand G) → (answered : Option NodeFault) → Type 0
 Ends x y None = Between x y
-Ends x y (Some e) = Turned x y (Some e)
+Ends x y (Some e) = HeardTurn x y (Some e)
 
 -- Turns of the node lead from one to the other, however many, and between them nothing but what is sent again and what
 -- is known; a fault is that of the last of them.

@@ -7,6 +7,8 @@ use px_replica::NodeFault;
 pub enum Ended {
     /// All turns were made: how many positions are learned without a gap, and how many are applied.
     Front { front: u32, applied: u32 },
+    /// An operator asked for the end before all turns were made: the same two numbers.
+    Stopped { front: u32, applied: u32 },
     /// The record wasn't opened, memory ran out before the first turn, or this fault ended the turns.
     Fault(NodeFault),
     /// There is no wire, and no turn was made.

@@ -4,7 +4,7 @@ use Rattle.px_transport.specs.Wires.{Gave, hands}
 use Rattle.px_transport.proofs.Traffic.{adds_then, quiet_adds, quiet_by, moves_by, moves_still}
 use Rattle.node_loop.specs.Progress.{seen_in}
 use Rattle.node_loop.specs.Resends.{kept_of, requests_of}
-use Rattle.node_loop.specs.Turns.{Turned, Served, handed_over, standing}
+use Rattle.node_loop.specs.Turns.{HeardTurn, Served, handed_over, standing}
 use Rattle.node_loop.specs.inner.Turns.{SawIf}
 use Rattle.node_loop.proofs.Given.{gave_some, handed_on, kept_on, requests_on, over_turn}
 use Rattle.node_loop.proofs.Chains.{served_none, served_between, between_passed, nobodys_still}
@@ -124,7 +124,7 @@ returns-in-Ok-clause-served g c =
     (λ es. record (standing c.receive-result.new.node es c.args.room.now) { kept = kept_of c.send_all.new.resender; requests = requests_of c.send_all.new.resender })
     None
     (moves_by old new (Gave c.in-Some.bytes.now ∷ hands (handed_over c.receive-result.new.out.items))
-    (λ es es'. Turned (standing c.args.node.now es c.args.room.now)
+    (λ es es'. HeardTurn (standing c.args.node.now es c.args.room.now)
     (record (standing c.receive-result.new.node es' c.args.room.now) { kept = kept_of c.send_all.new.resender; requests = requests_of c.send_all.new.resender })
     None)
     (adds_then old mid new (Gave c.in-Some.bytes.now ∷ []) (hands (handed_over c.receive-result.new.out.items))
@@ -132,16 +132,19 @@ returns-in-Ok-clause-served g c =
     (Some c.in-Some.bytes.now) c.poll-len.ensures.gave c.came.ensures c.deref.ensures.value (ap (option_map (λ b. b.now)) c.in-Some.is))
     (quiet_adds mid wait new (hands (handed_over c.receive-result.new.out.items)) (c.passes_over.ensures.others c.if-passes_over.false)
     (handed_on wait new c.receive-result.new.out.items c.as_slice.result.now c.as_slice.ensures.value c.send_all.ensures.handed)))
-    (λ es. record {
-      came = Some c.in-Some.bytes.now;
-      out = c.receive-result.new.out.items;
-      acts = c.in-Ok.ensures.acts;
-      went = refl;
-      kept = kept_on _ _ _ c.receive-result.new.out.items c.as_slice.result.now (c.in-Ok.ensures.kept ∙ c.passes_over.ensures.kept)
-          c.as_slice.ensures.value c.send_all.ensures.kept;
-      requests = requests_on _ _ _ _ c.in-Some.bytes.now c.passes_over.ensures.requests c.send_all.ensures.requests c.in-Ok.ensures.requests;
-      hears = refl;
-    }))
+    (λ es. (
+      record {
+        came = Some c.in-Some.bytes.now;
+        out = c.receive-result.new.out.items;
+        acts = c.in-Ok.ensures.acts;
+        went = refl;
+        kept = kept_on _ _ _ c.receive-result.new.out.items c.as_slice.result.now (c.in-Ok.ensures.kept ∙ c.passes_over.ensures.kept)
+            c.as_slice.ensures.value c.send_all.ensures.kept;
+        requests = requests_on _ _ _ _ c.in-Some.bytes.now c.passes_over.ensures.requests c.send_all.ensures.requests c.in-Ok.ensures.requests;
+        hears = refl;
+      },
+      λ h from message spelled. c.passes_over.ensures.members c.if-passes_over.false h _ from _ message spelled,
+    )))
 
 pub returns-in-Err-clause-served : goal.returns-in-Err-clause-served
 returns-in-Err-clause-served g c =
@@ -153,7 +156,7 @@ returns-in-Err-clause-served g c =
     (λ es. record (standing c.receive-result.new.node es c.args.room.now) { kept = kept_of c.send_all.new.resender; requests = requests_of c.send_all.new.resender })
     (Some c.in-Err.fault)
     (moves_by old new (Gave c.in-Some.bytes.now ∷ hands (handed_over c.receive-result.new.out.items))
-    (λ es es'. Turned (standing c.args.node.now es c.args.room.now)
+    (λ es es'. HeardTurn (standing c.args.node.now es c.args.room.now)
     (record (standing c.receive-result.new.node es' c.args.room.now) { kept = kept_of c.send_all.new.resender; requests = requests_of c.send_all.new.resender })
     (Some c.in-Err.fault))
     (adds_then old mid new (Gave c.in-Some.bytes.now ∷ []) (hands (handed_over c.receive-result.new.out.items))
@@ -161,13 +164,16 @@ returns-in-Err-clause-served g c =
     (Some c.in-Some.bytes.now) c.poll-len.ensures.gave c.came.ensures c.deref.ensures.value (ap (option_map (λ b. b.now)) c.in-Some.is))
     (quiet_adds mid wait new (hands (handed_over c.receive-result.new.out.items)) (c.passes_over.ensures.others c.if-passes_over.false)
     (handed_on wait new c.receive-result.new.out.items c.as_slice.result.now c.as_slice.ensures.value c.send_all.ensures.handed)))
-    (λ es. record {
-      came = Some c.in-Some.bytes.now;
-      out = c.receive-result.new.out.items;
-      acts = c.in-Err.ensures.acts;
-      went = refl;
-      kept = kept_on _ _ _ c.receive-result.new.out.items c.as_slice.result.now (c.in-Err.ensures.kept ∙ c.passes_over.ensures.kept)
-          c.as_slice.ensures.value c.send_all.ensures.kept;
-      requests = requests_on _ _ _ _ c.in-Some.bytes.now c.passes_over.ensures.requests c.send_all.ensures.requests c.in-Err.ensures.requests;
-      hears = refl;
-    }))
+    (λ es. (
+      record {
+        came = Some c.in-Some.bytes.now;
+        out = c.receive-result.new.out.items;
+        acts = c.in-Err.ensures.acts;
+        went = refl;
+        kept = kept_on _ _ _ c.receive-result.new.out.items c.as_slice.result.now (c.in-Err.ensures.kept ∙ c.passes_over.ensures.kept)
+            c.as_slice.ensures.value c.send_all.ensures.kept;
+        requests = requests_on _ _ _ _ c.in-Some.bytes.now c.passes_over.ensures.requests c.send_all.ensures.requests c.in-Err.ensures.requests;
+        hears = refl;
+      },
+      λ h from message spelled. c.passes_over.ensures.members c.if-passes_over.false h _ from _ message spelled,
+    )))
