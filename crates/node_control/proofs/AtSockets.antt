@@ -1,5 +1,5 @@
 -- A member's run over its wire is one at its socket.
-use Rattle.std.proofs.Common.{◌≡◌, ◌∙◌, ◌⊎◌, sym, ap, subst, refl, ℕ, false, ◌<◌, List, [], ◌++◌, Option, Some, inl, inr, arith}
+use Rattle.std.proofs.Common.{◌≡◌, ◌∙◌, ◌⊎◌, sym, ap, subst, refl, ℕ, Bool, false, ◌<◌, List, [], ◌++◌, Option, Some, inl, inr, arith}
 use Rattle.std.proofs.lemmas.List.{append-nil}
 use Rattle.px_model.specs.Node.{Record}
 use Rattle.px_model.specs.Node.Input.{Ticks}
@@ -20,14 +20,14 @@ use Rattle.px_transport.specs.Wiring.{WentSealed}
 use Rattle.px_transport.specs.declared.loopback.LoopbackWire.{LoopbackWire}
 use Rattle.px_transport.specs.declared.packet_wire.PacketWire.{PacketWire}
 use Rattle.node_loop.specs.Lives.{HostedRuns, HostedRunsAreLived, LivedOver}
-use Rattle.node_loop.specs.Living.{trace_of}
+use Rattle.node_loop.specs.Living.{trace_of, AllFromMembers}
 use Rattle.node_loop.specs.declared.ended.Ended.{Ended}
 use Rattle.node_udp.specs.Members.{peers_of, me_of, socket_of}
 use Rattle.node_udp.specs.Sockets as sockets
 use Rattle.node_udp.specs.Sockets.{SocketEvent, WentOver}
 use Rattle.node_udp.specs.declared.socket.Socket as socket
 use Rattle.node_udp.specs.declared.udp.UdpWire.{UdpWire}
-use Rattle.node_control.specs.Sockets.{Ran, RanAbove, RanAt, RanSealed, Leaves, RunsAt, RunsSealed}
+use Rattle.node_control.specs.Sockets.{Ran, RanAbove, RanAt, RanSealed, Leaves, RunsAtHearing, RunsSealedHearing}
 use Rattle.node_control.specs.inner.Looping.{WentLooped}
 
 -- a run that handed over all
@@ -89,24 +89,28 @@ Settles {R} G =
     (r : R) → G.is_honest r → G.failed r ≡ 0 → (d : Record Bytes) → G.may_leave r d → d ≡ G.stored r
 
 -- a run over a record, over some wire: what happened to the member, and how its record stands
-record RunsOver {R : Type 0} (G : Ghosts R) (m : Membership) (given back : R) (es : List WireEvent) : Type 0 where
+record RunsOver {R : Type 0} (G : Ghosts R) (m : Membership) (hears : Bool) (given back : R) (es : List WireEvent) : Type 0 where
   pub trace : List TraceEvent
   pub end : NodeState Bytes
   pub unanswered : List Bytes
   pub ran : AllRan (group m) m.me (G.stored given) es trace end unanswered
   pub leaves : Leaves G m back end unanswered
+  pub members : hears ≡ false → AllFromMembers trace
 
-runs_over : {R : Type 0} (G : Ghosts R) → Settles G → HostedRunsAreLived G → (m : Membership) (given back : R) (es : List WireEvent)
-    (ended : Ended) → G.is_honest back → G.failed given ≡ 0 → HostedRuns G m given [] es ended back → RunsOver G m given back es
-runs_over G settles law m given back es ended honest fresh (inr life) =
-    let l = law m given back [] es ended honest life in record {
+runs_over : {R : Type 0} (G : Ghosts R) → Settles G → HostedRunsAreLived G → (m : Membership) (hears : Bool) (given back : R)
+    (es : List WireEvent) (ended : Ended) → G.is_honest back → G.failed given ≡ 0 → HostedRuns G m hears given [] es ended back →
+    RunsOver G m hears given back es
+runs_over G settles law m hears given back es ended honest fresh (inr life) =
+    let over = law m given back [] es hears ended honest life in
+    let l = over.0 in record {
       trace = trace_of l.moves;
       end = l.then;
       unanswered = given_in l.last;
       ran = ran G m given back es l;
       leaves = record { stays = l.stays; stop = l.stop };
+      members = λ off. l.members (over.1 ∙ off);
     }
-runs_over G settles law m given back es ended honest fresh (inl (e, is, refused, same)) = record {
+runs_over G settles law m hears given back es ended honest fresh (inl (e, is, refused, same)) = record {
   trace = [];
   end = started (G.stored given);
   unanswered = [];
@@ -116,6 +120,7 @@ runs_over G settles law m given back es ended honest fresh (inl (e, is, refused,
     stop = λ left may.
         (Ticks, tt, λ x none. absurd none, inl (settles given (refused.was honest) fresh left (refused.stop honest left may)));
   };
+  members = λ off x m. absurd m;
 }
 
 -- the same over the wire below
@@ -137,44 +142,48 @@ above g m first below w es trace end unanswered looped me r =
     )
 
 -- at the socket
-pub runs_at : {R S C : Type 0} (G : Ghosts R) (H : socket.Ghosts S) → Settles G → HostedRunsAreLived G → (m : Membership) (given back : R)
-    (ended : Ended) (wire : UdpWire S C) → G.is_honest back → G.failed given ≡ 0 →
-    WentLooped (λ (u : UdpWire S C). WentOver (H.traffic (socket_of u)) u) m.me wire (λ es. HostedRuns G m given [] es ended back) →
-    (events : List SocketEvent) × H.traffic (socket_of wire) events × RunsAt G m given back events
-runs_at {R} {S} {C} G H settles law m given back ended wire honest fresh (w, es, is, me, looped, hosted) =
-    let r = runs_over G settles law m given back es ended honest fresh hosted in
+pub runs_at : {R S C : Type 0} (G : Ghosts R) (H : socket.Ghosts S) → Settles G → HostedRunsAreLived G → (m : Membership) (hears : Bool)
+    (given back : R) (ended : Ended) (wire : UdpWire S C) → G.is_honest back → G.failed given ≡ 0 →
+    WentLooped (λ (u : UdpWire S C). WentOver (H.traffic (socket_of u)) u) m.me wire (λ es. HostedRuns G m hears given [] es ended back) →
+    (events : List SocketEvent) × H.traffic (socket_of wire) events ×
+    RunsAtHearing G m hears given back events
+runs_at {R} {S} {C} G H settles law m hears given back ended wire honest fresh (w, es, is, me, looped, hosted) =
+    let r = runs_over G settles law m hears given back es ended honest fresh hosted in
     let o = looped.below_is in
     let own = subst (λ (fs : List WireEvent). AllRanAbove (group m) m.me (G.stored given) fs r.trace r.end r.unanswered) o.above_is
     (above (group m) m.me (G.stored given) (WentOver (H.traffic (socket_of (loopback.below_of w))) (loopback.below_of w)) w es
     r.trace r.end r.unanswered looped me r.ran) in (
       sockets.below_in o.passages,
       subst (λ (u : UdpWire S C). H.traffic (socket_of u) (sockets.below_in o.passages)) is o.below_is,
-      record {
-        trace = r.trace;
-        end = r.end;
-        unanswered = r.unanswered;
-        ran = record {
-          addresses = peers_of (loopback.below_of w);
-          me = me_of (loopback.below_of w);
-          passages = o.passages;
-          sound = o.sound;
-          below_is = refl;
-          ran = own.0;
-        };
-        whole = own.1;
-        leaves = r.leaves;
-      },
+      (
+        record {
+          trace = r.trace;
+          end = r.end;
+          unanswered = r.unanswered;
+          ran = record {
+            addresses = peers_of (loopback.below_of w);
+            me = me_of (loopback.below_of w);
+            passages = o.passages;
+            sound = o.sound;
+            below_is = refl;
+            ran = own.0;
+          };
+          whole = own.1;
+          leaves = r.leaves;
+        },
+        r.members,
+      ),
     )
 
 -- the same with a key
 pub runs_sealed : {R S C D : Type 0} (G : Ghosts R) (H : socket.Ghosts S) → Settles G → CallsAreSteps → HostedRunsAreLived G →
-    (m : Membership) (given back : R) (ended : Ended) (wire : PacketWire (UdpWire S C) D) → G.is_honest back → G.failed given ≡ 0 →
+    (m : Membership) (hears : Bool) (given back : R) (ended : Ended) (wire : PacketWire (UdpWire S C) D) → G.is_honest back → G.failed given ≡ 0 →
     WentLooped (λ (p : PacketWire (UdpWire S C) D). WentSealed (WentOver (H.traffic (socket_of (wiring.inner_of p))) (wiring.inner_of p)) p)
-    m.me wire (λ es. HostedRuns G m given [] es ended back) →
+    m.me wire (λ es. HostedRuns G m hears given [] es ended back) →
     (events : List SocketEvent) × H.traffic (socket_of (wiring.inner_of wire)) events ×
-    RunsSealed G m (wiring.keys_of wire) (wiring.sealer_of wire) given back events
-runs_sealed {R} {S} {C} {D} G H settles are_steps law m given back ended wire honest fresh (w, es, is, me, looped, hosted) =
-    let r = runs_over G settles law m given back es ended honest fresh hosted in
+    RunsSealedHearing G m hears (wiring.keys_of wire) (wiring.sealer_of wire) given back events
+runs_sealed {R} {S} {C} {D} G H settles are_steps law m hears given back ended wire honest fresh (w, es, is, me, looped, hosted) =
+    let r = runs_over G settles law m hears given back es ended honest fresh hosted in
     let p = loopback.below_of w in
     let sealed = looped.below_is in
     let o = sealed.state_is.traffic_is in
@@ -200,21 +209,26 @@ runs_sealed {R} {S} {C} {D} G H settles are_steps law m given back ended wire ho
     ) in (
       events,
       subst (λ (u : PacketWire (UdpWire S C) D). H.traffic (socket_of (wiring.inner_of u)) events) is o.below_is,
-      record {
-        trace = r.trace;
-        end = r.end;
-        unanswered = r.unanswered;
-        ran = all.0;
-        whole = all.1;
-        leaves = r.leaves;
-      },
+      (
+        record {
+          trace = r.trace;
+          end = r.end;
+          unanswered = r.unanswered;
+          ran = all.0;
+          whole = all.1;
+          leaves = r.leaves;
+        },
+        r.members,
+      ),
     )
 
 -- with the keys and the sealer of another wire, which are the same
-pub runs_sealed_by : {R : Type 0} (G : Ghosts R) (m : Membership) (given back : R) (events : List SocketEvent) (keys keys' : List (List ℕ))
-    (s s' : Sealer) → keys ≡ keys' → s ≡ s' → RunsSealed G m keys s given back events → RunsSealed G m keys' s' given back events
-runs_sealed_by G m given back events keys keys' s s' e f r =
-    subst (λ (t : Sealer). RunsSealed G m keys' t given back events) f (subst (λ (ks : List (List ℕ)). RunsSealed G m ks s given back events) e r)
+pub runs_sealed_by : {R : Type 0} (G : Ghosts R) (m : Membership) (hears : Bool) (given back : R) (events : List SocketEvent)
+    (keys keys' : List (List ℕ)) (s s' : Sealer) → keys ≡ keys' → s ≡ s' → RunsSealedHearing G m hears keys s given back events →
+    RunsSealedHearing G m hears keys' s' given back events
+runs_sealed_by G m hears given back events keys keys' s s' e f r =
+    subst (λ (t : Sealer). RunsSealedHearing G m hears keys' t given back events) f
+    (subst (λ (ks : List (List ℕ)). RunsSealedHearing G m hears ks s given back events) e r)
 
 -- ---- whose wire it is
 

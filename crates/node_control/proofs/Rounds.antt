@@ -1,6 +1,6 @@
 -- A run that is made of rounds.
-use Rattle.std.proofs.Common.{◌≡◌, ℕ, Bool, List, [], Option, None, Result, Ok, Err, refl, sym, subst, ap}
-use Rattle.std.specs.Prelude.{OnOk}
+use Rattle.std.proofs.Common.{◌≡◌, ℕ, Bool, true, false, List, [], Option, None, Result, Ok, Err, refl, sym, subst, ap, inl, inr}
+use Rattle.std.specs.Prelude.{IfOk}
 use Rattle.px_model.specs.Step.{front}
 use Rattle.px_records.specs.declared.records.Records.{Ghosts}
 use Rattle.px_replica.specs.Faults.{fault_of}
@@ -14,10 +14,9 @@ use Rattle.node_loop.specs.Turns.{Stand, Served, standing}
 use Rattle.node_loop.specs.declared.room.Room.{Room}
 use Rattle.node_loop.proofs.Chains.{same_is, served_none, served_then}
 use Rattle.node_loop.proofs.Hosting.{hosted_then, hosted_served}
-use Rattle.node_loop.specs.Lives.{Buffers, new_buffers, stands, Tells, Serves, Hosts, OnFront}
+use Rattle.node_loop.specs.Lives.{Buffers, new_buffers, stands, Tells, HostTells, Serves, Hosts, OnFront}
 use Rattle.node_loop.specs.declared.ended.Ended.{Ended}
-use Rattle.node_loop.specs.declared.ended.Ended.TheVariants.{Front, Fault, NoWire, NoControlSocket, NoPort}
-use Rattle.node_loop.proofs.Hosted.{tells}
+use Rattle.node_control.specs.inner.Runs.{IsSocketless, ended_as}
 use Rattle.node_requests.specs.declared.handler.RequestHandler.{RequestHandler}
 
 -- nothing was asked, and nothing went over the wire
@@ -81,15 +80,14 @@ turns_then o m n x y z a d e (before, none) more = (over_then o m n x y z a befo
 pub hosts : {R : Type 0} {G : Ghosts R} (x y s t : Node R G) (w v : List WireEvent) (first last : Room) (hears : Bool)
     (a : Option NodeFault) (ended : Ended) → x ≡ s → t ≡ y →
     kept_of first.resender ≡ [] → requests_of first.resender ≡ [] → first.hears_asks ≡ hears →
-    Hosted (standing x w first) (standing y v last) a → Tells (front (learned_by t)) (applied_of t) a ended →
-    Hosts s t w v ended
+    Hosted (standing x w first) (standing y v last) a → HostTells (front (learned_by t)) (applied_of t) a ended →
+    Hosts s t w v hears ended
 hosts {R} {G} x y s t w v first last hears a ended e f k q h hosted reported = record {
   answered = a;
-  hears = hears;
   buffers = left_in last;
   hosted = subst (λ (p : Stand G). Hosted p (standing t v last) a) (begins x s w first hears e k q h)
       (subst (λ (n : Node R G). Hosted (standing x w first) (standing n v last) a) (sym f) hosted);
-  reported = tells (front (learned_by t)) (applied_of t) a ended reported;
+  reported = reported;
 }
 
 pub serves : {R : Type 0} {G : Ghosts R} (x y s t : Node R G) (w v : List WireEvent) (first last : Room) (hears : Bool)
@@ -115,16 +113,34 @@ pub some_control : {A E : Type 0} (r : Result (Option A) E) (e : E) → r ≡ Er
 some_control (Ok d) e is none = cc
 some_control (Err f) e is none = cc
 
--- what holds where a call answered Ok
-pub on_ok : {P E A B : Type 0} (r : Result P E) → (A → B) → OnOk r A → OnOk r B
-on_ok (Ok p) f a = f a
-on_ok (Err e) f a = tt
+-- ---- how it ends
 
--- all turns were made where none ended with a fault
-pub on_front : {P : Type 0} (A : Type 0) (n applied : ℕ) (r : Result P NodeFault) (ended : Ended) → Tells n applied (fault_of r) ended → OnOk r A → OnFront ended A
-on_front A n applied (Ok p) (Front m k) reported a = a
-on_front A n applied (Ok p) (Fault e) reported a = tt
-on_front A n applied (Ok p) NoWire reported a = tt
-on_front A n applied (Ok p) NoControlSocket reported a = tt
-on_front A n applied (Ok p) NoPort reported a = tt
-on_front A n applied (Err e) ended reported a = subst (λ (x : Ended). OnFront x A) (sym reported) tt
+pub host_tells : (n k : ℕ) (r : Result Bool NodeFault) (ended : Ended) → ended ≡ ended_as n k r → HostTells n k (fault_of r) ended
+host_tells n k (Ok false) ended is = inl (inl is)
+host_tells n k (Ok true) ended is = inr (inl is)
+host_tells n k (Err e) ended is = is
+
+-- nobody asked for the end
+pub tells : (n k : ℕ) (r : Result Bool NodeFault) (ended : Ended) → ended ≡ ended_as n k r → IfOk r (λ b. b ≡ false) →
+    Tells n k (fault_of r) ended
+tells n k (Ok false) ended is none = inl is
+tells n k (Ok true) ended is none = absurd (let h : true ≡ false = none in cc)
+tells n k (Err e) ended is none = is
+
+-- all turns were made where it ends with them
+pub on_front : (A : Type 0) (n k : ℕ) (r : Result Bool NodeFault) (ended : Ended) → ended ≡ ended_as n k r →
+    IfOk r (λ b. b ≡ false → A) → OnFront ended A
+on_front A n k (Ok false) ended is made = subst (λ (x : Ended). OnFront x A) (sym is) (made refl)
+on_front A n k (Ok true) ended is made = subst (λ (x : Ended). OnFront x A) (sym is) tt
+on_front A n k (Err e) ended is made = subst (λ (x : Ended). OnFront x A) (sym is) tt
+
+-- where the control socket is missing
+pub socketless_tells : (n k : ℕ) (ended : Ended) → IsSocketless ended → HostTells n k None ended
+socketless_tells n k ended (inl is) = inr (inr (inl is))
+socketless_tells n k ended (inr (inl is)) = inr (inr (inr is))
+socketless_tells n k ended (inr (inr is)) = inl (inr (inr is))
+
+pub socketless_front : (A : Type 0) (ended : Ended) → IsSocketless ended → OnFront ended A
+socketless_front A ended (inl is) = subst (λ (x : Ended). OnFront x A) (sym is) tt
+socketless_front A ended (inr (inl is)) = subst (λ (x : Ended). OnFront x A) (sym is) tt
+socketless_front A ended (inr (inr is)) = subst (λ (x : Ended). OnFront x A) (sym is) tt

@@ -1,5 +1,5 @@
 -- A member's run at its socket: what happened to it, and what went over the socket meanwhile.
-use Rattle.std.specs.Prelude.{◌≡◌, ℕ, Bool, true, List, [], ◌++◌}
+use Rattle.std.specs.Prelude.{◌≡◌, ℕ, Bool, true, false, List, [], ◌++◌}
 use Rattle.std.specs.List.{AllByRecursion}
 use Rattle.px_model.specs.Node.{Record}
 use Rattle.px_model.specs.Spelling.{Bytes}
@@ -15,7 +15,7 @@ use Rattle.px_transport.specs.Sending.{Sealer}
 use Rattle.px_transport.specs.Steps as steps
 use Rattle.px_transport.specs.Steps.{Step, AreSteps}
 use Rattle.node_loop.specs.Again.{AreAmong}
-use Rattle.node_loop.specs.Living.{Move, LeavesThere, trace_of, events_of, sent_by, AreMoves}
+use Rattle.node_loop.specs.Living.{Move, LeavesThere, trace_of, events_of, sent_by, AllFromMembers, AreMoves}
 use Rattle.node_udp.specs.Sockets as sockets
 use Rattle.node_udp.specs.Sockets.{SocketEvent, Passage, IsSound}
 use Rattle.node_udp.specs.declared.address.Address.{Address}
@@ -102,3 +102,17 @@ pub record RunsSealed {R : Type 0} (G : Ghosts R) (m : Membership) (keys : List 
   pub ran : RanSealed (group m) keys s m.me (G.stored given) events trace end unanswered
   pub whole : ran.ran.ran.lost ≡ []
   pub leaves : Leaves G m back end unanswered
+
+-- ---- asks from outside
+
+-- A run without a key. Where asks from outside aren't heard, no step is for one.
+abbrev pub RunsAtHearing : {R : Type 0} → Ghosts R → Membership → (hears : Bool) → (given back : R) →
+    List SocketEvent → Type 0
+RunsAtHearing G m hears given back events =
+    (run : RunsAt G m given back events) × (hears ≡ false → AllFromMembers run.trace)
+
+-- the same with a key
+abbrev pub RunsSealedHearing : {R : Type 0} → Ghosts R → Membership → (hears : Bool) → (keys : List (List ℕ)) →
+    Sealer → (given back : R) → List SocketEvent → Type 0
+RunsSealedHearing G m hears keys s given back events =
+    (run : RunsSealed G m keys s given back events) × (hears ≡ false → AllFromMembers run.trace)

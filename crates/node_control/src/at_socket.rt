@@ -8,7 +8,7 @@ ghost use Rattle.node_loop.specs.Lives.{HostedRuns, OnFront, Runs};
 ghost use Rattle.node_loop.specs.Timing.{MakesTurns};
 ghost use Rattle.node_udp.specs.Members.{socket_of};
 ghost use Rattle.node_udp.specs.Sockets.{SocketEvent, WentOver};
-ghost use Rattle.node_control.specs.Sockets.{RunsAt, RunsSealed};
+ghost use Rattle.node_control.specs.Sockets.{RunsAtHearing, RunsSealedHearing};
 ghost use Rattle.node_control.specs.inner.Looping.{WentLooped};
 
 use crate::member::{ControlPlace, run_member};
@@ -44,11 +44,10 @@ where
     requires members { R.members records ≡ m.members }
     requires here { m.me < m.members }
     ensures hosted { W.traffic wire [] → WentLooped W.traffic m.me result.2
-        (λ es. HostedRuns R.Records m records [] es result.0 result.1) }
+        (λ es. HostedRuns R.Records m hears_asks records [] es result.0 result.1) }
     ensures turns { place.entry ≡ None → W.traffic wire [] → WentLooped W.traffic m.me result.2
         (λ es. Runs R.Records m records [] es result.0 result.1) }
-    ensures made { place.entry ≡ None →
-        OnFront result.0 (MakesTurns turns (T.timer_events timer.old) (T.timer_events timer.new)) }
+    ensures made { OnFront result.0 (MakesTurns turns (T.timer_events timer.old) (T.timer_events timer.new)) }
     ensures same { (W.identity result.2).sealing ≡ (W.identity wire).sealing }
 {
     let mut wire = LoopbackWire::new(alloc, wire, m.me());
@@ -62,7 +61,7 @@ where
 /// to itself. The wire is given back.
 ///
 /// Where nothing went over the wire before, and the record is honest in the end, what went over the socket are the
-/// datagrams of the member's steps.
+/// datagrams of the member's steps. Where asks from outside aren't heard, no step is for one.
 pub fn run_at_socket<R: Records, S: Socket, C: Clock, T: Timer, RT>(
     rt: &RT,
     alloc: Global,
@@ -81,13 +80,12 @@ where
     requires here { m.me < m.members }
     ensures ran { WentOver (S.traffic (socket_of wire)) wire [] → R.is_honest result.1 → R.failed records ≡ 0 →
         (events : List SocketEvent) × S.traffic (socket_of result.2) events ×
-        RunsAt R.Records m records result.1 events }
+        RunsAtHearing R.Records m hears_asks records result.1 events }
     ensures hosted { WentOver (S.traffic (socket_of wire)) wire [] → (events : List WireEvent) ×
-        HostedRuns R.Records m records [] events result.0 result.1 }
+        HostedRuns R.Records m hears_asks records [] events result.0 result.1 }
     ensures turns { place.entry ≡ None → WentOver (S.traffic (socket_of wire)) wire [] → (events : List WireEvent) ×
         Runs R.Records m records [] events result.0 result.1 }
-    ensures made { place.entry ≡ None →
-        OnFront result.0 (MakesTurns turns (T.timer_events timer.old) (T.timer_events timer.new)) }
+    ensures made { OnFront result.0 (MakesTurns turns (T.timer_events timer.old) (T.timer_events timer.new)) }
 {
     hosted_runs_are_lived::<R>();
     run_over(
@@ -98,7 +96,8 @@ where
 /// A member's run at a socket with a key: the same over a wire of packets. The wire is given back.
 ///
 /// Where nothing went over the wire before, and the record is honest in the end, what went over the socket are packets
-/// with the datagrams of the member's steps, opened with the wire's keys and sealed as it seals.
+/// with the datagrams of the member's steps, opened with the wire's keys and sealed as it seals. Where asks from
+/// outside aren't heard, no step is for one.
 pub fn run_sealed_at_socket<R: Records, S: Socket, C: Clock, D: Clock, T: Timer, RT>(
     rt: &RT,
     alloc: Global,
@@ -118,14 +117,13 @@ where
     ensures ran { WentSealed (WentOver (S.traffic (socket_of (inner_of wire))) (inner_of wire)) wire [] →
         R.is_honest result.1 → R.failed records ≡ 0 →
         (events : List SocketEvent) × S.traffic (socket_of (inner_of result.2)) events ×
-        RunsSealed R.Records m (keys_of wire) (sealer_of wire) records result.1 events }
+        RunsSealedHearing R.Records m hears_asks (keys_of wire) (sealer_of wire) records result.1 events }
     ensures hosted { WentSealed (WentOver (S.traffic (socket_of (inner_of wire))) (inner_of wire)) wire [] →
-        (events : List WireEvent) × HostedRuns R.Records m records [] events result.0 result.1 }
+        (events : List WireEvent) × HostedRuns R.Records m hears_asks records [] events result.0 result.1 }
     ensures turns { place.entry ≡ None →
         WentSealed (WentOver (S.traffic (socket_of (inner_of wire))) (inner_of wire)) wire [] →
         (events : List WireEvent) × Runs R.Records m records [] events result.0 result.1 }
-    ensures made { place.entry ≡ None →
-        OnFront result.0 (MakesTurns turns (T.timer_events timer.old) (T.timer_events timer.new)) }
+    ensures made { OnFront result.0 (MakesTurns turns (T.timer_events timer.old) (T.timer_events timer.new)) }
     ensures same { (keys_of result.2 ≡ keys_of wire) × (sealer_of result.2 ≡ sealer_of wire) }
 {
     calls_are_steps();

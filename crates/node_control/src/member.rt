@@ -1,12 +1,12 @@
 //! A member's run, with a control socket or without one.
 
-ghost use Rattle.std.specs.Prelude.{◌≡◌, ◌<◌, ℕ, None, Ok, IfErr};
+ghost use Rattle.std.specs.Prelude.{◌≡◌, ◌<◌, None, Ok, IfErr};
 ghost use Rattle.px_model.specs.Step.{front};
-ghost use Rattle.px_replica.specs.Faults.{fault_of};
 ghost use Rattle.pf_node.specs.Nodes.{learned_by, applied_of};
 ghost use Rattle.px_transport.specs.Wires.{Moves};
-ghost use Rattle.node_loop.specs.Lives.{HostTells, HostedRuns, Hosts, OnFront, Runs, Serves, Tells};
+ghost use Rattle.node_loop.specs.Lives.{HostedRuns, Hosts, OnFront, Runs, Serves};
 ghost use Rattle.node_loop.specs.Timing.{MakesTurns};
+ghost use Rattle.node_control.specs.inner.Runs.{IsSocketless, ended_as};
 
 use crate::control::{ControlFault, ControlSocket};
 use crate::observer::Observer;
@@ -46,7 +46,7 @@ fn open_at<RT>(
 where
     RT: Files + Net<Listener = TcpListener, Stream = TcpStream> + RandomSource,
     ensures none { place.entry ≡ None → result ≡ Ok None }
-    ensures fault { IfErr result (λ ended. (n k : ℕ) → HostTells n k None ended) }
+    ensures fault { IfErr result IsSocketless }
 {
     let Some(place) = place else {
         return Ok(None);
@@ -86,15 +86,14 @@ fn members_at<'a>(place: Option<ControlPlace<'a>>) -> &'a str {
     }
 }
 
-/// How a node's turns ended.
-fn ended_of<R: Records>(ended: Result<(), NodeFault>, node: &Node<R>) -> Ended
-    ensures { Tells (front (learned_by node.now)) (applied_of node.now) (fault_of ended) result }
+/// How a node's turns ended: whether an operator asked for that, or a fault.
+fn ended_of<R: Records>(is_stopped: Result<bool, NodeFault>, node: &Node<R>) -> Ended
+    ensures { result ≡ ended_as (front (learned_by node.now)) (applied_of node.now) is_stopped }
 {
-    match ended {
-        Ok(()) => Ended::Front {
-            front: node.front(),
-            applied: node.applied(),
-        },
+    let (front, applied) = (node.front(), node.applied());
+    match is_stopped {
+        Ok(false) => Ended::Front { front, applied },
+        Ok(true) => Ended::Stopped { front, applied },
         Err(fault) => Ended::Fault(fault),
     }
 }
@@ -112,11 +111,11 @@ fn run_node<R: Records, W: Wire, T: Timer, RT: Clock + Eprint>(
     control: &mut Option<ControlSocket>,
     turns: u64,
 ) -> (Ended, Node<R>)
-    ensures hosted { Moves (W.traffic wire.old) (W.traffic wire.new) (λ es es'. Hosts node result.1 es es' result.0) }
+    ensures hosted { Moves (W.traffic wire.old) (W.traffic wire.new)
+        (λ es es'. Hosts node result.1 es es' hears_asks result.0) }
     ensures turns { control.old ≡ None →
         Moves (W.traffic wire.old) (W.traffic wire.new) (λ es es'. Serves node result.1 es es' result.0) }
-    ensures made { control.old ≡ None →
-        OnFront result.0 (MakesTurns turns (T.timer_events timer.old) (T.timer_events timer.new)) }
+    ensures made { OnFront result.0 (MakesTurns turns (T.timer_events timer.old) (T.timer_events timer.new)) }
     ensures same { W.identity wire.new ≡ W.identity wire.old }
 {
     let Ok(counters) = observer.first_counters(alloc, members) else {
@@ -126,7 +125,7 @@ fn run_node<R: Records, W: Wire, T: Timer, RT: Clock + Eprint>(
         return (Ended::Fault(NodeFault::Memory), node);
     };
     let mut service = HttpService::new(alloc, node, counters);
-    let ended = pass_on(
+    let is_stopped = pass_on(
         rt,
         &mut service,
         wire,
@@ -137,7 +136,7 @@ fn run_node<R: Records, W: Wire, T: Timer, RT: Clock + Eprint>(
         turns,
     );
     let node = service.close();
-    (ended_of(ended, &node), node)
+    (ended_of(is_stopped, &node), node)
 }
 
 /// The same with the control socket at the place, which is closed in the end.
@@ -154,11 +153,11 @@ fn run_at<R: Records, W: Wire, T: Timer, RT>(
 ) -> (Ended, Node<R>)
 where
     RT: Clock + Eprint + Files + Net<Listener = TcpListener, Stream = TcpStream> + RandomSource,
-    ensures hosted { Moves (W.traffic wire.old) (W.traffic wire.new) (λ es es'. Hosts node result.1 es es' result.0) }
+    ensures hosted { Moves (W.traffic wire.old) (W.traffic wire.new)
+        (λ es es'. Hosts node result.1 es es' hears_asks result.0) }
     ensures turns { place.entry ≡ None →
         Moves (W.traffic wire.old) (W.traffic wire.new) (λ es es'. Serves node result.1 es es' result.0) }
-    ensures made { place.entry ≡ None →
-        OnFront result.0 (MakesTurns turns (T.timer_events timer.old) (T.timer_events timer.new)) }
+    ensures made { OnFront result.0 (MakesTurns turns (T.timer_events timer.old) (T.timer_events timer.new)) }
     ensures same { W.identity wire.new ≡ W.identity wire.old }
 {
     let mut control = match open_at(rt, alloc, place) {
@@ -187,9 +186,9 @@ where
 /// there is a place, requests come in at a control socket there, and between two rounds eight changes at most are asked;
 /// each change of the node's health is a line on standard error. Asks by datagrams are heard or not. The run ends after the
 /// given number of turns, where each datagram counts for one, and so do each tick and each wait, of a tenth of a second
-/// at most; with the first fault of the node's calls; or once an operator asked for that and has the answer. Before it
-/// ends, what waits to be proposed is worked off ([`node_loop::finish`]). When the clock ticks the timer says, which is
-/// asked in each round.
+/// at most; with the first fault of the node's calls; or once an operator asked for that and has the answer, which is
+/// `Stopped`. Before it ends, what waits to be proposed is worked off ([`node_loop::finish`]). When the clock ticks the
+/// timer says, which is asked in each round.
 pub fn run_member<R: Records, W: Wire, T: Timer, RT>(
     rt: &RT,
     alloc: Global,
@@ -207,11 +206,10 @@ where
     requires members { R.members records ≡ m.members }
     requires here { m.me < m.members }
     ensures hosted { Moves (W.traffic wire.old) (W.traffic wire.new)
-        (λ es es'. HostedRuns R.Records m records es es' result.0 result.1) }
+        (λ es es'. HostedRuns R.Records m hears_asks records es es' result.0 result.1) }
     ensures turns { place.entry ≡ None → Moves (W.traffic wire.old) (W.traffic wire.new)
         (λ es es'. Runs R.Records m records es es' result.0 result.1) }
-    ensures made { place.entry ≡ None →
-        OnFront result.0 (MakesTurns turns (T.timer_events timer.old) (T.timer_events timer.new)) }
+    ensures made { OnFront result.0 (MakesTurns turns (T.timer_events timer.old) (T.timer_events timer.new)) }
     ensures same { W.identity wire.new ≡ W.identity wire.old }
 {
     let node = match Node::open(alloc, m, records) {

@@ -1,11 +1,12 @@
 //! The loop of a node, with a control socket or without one.
 
-ghost use Rattle.std.specs.Prelude.{◌≡◌, ◌≤◌, None, false, IfOk, OnOk};
+ghost use Rattle.std.specs.Prelude.{◌≡◌, ◌≤◌, None, true, false, IfOk, OnOk};
 ghost use Rattle.px_replica.specs.Faults.{fault_of};
 ghost use Rattle.px_transport.specs.Wires.{IsQuiet, Moves};
 ghost use Rattle.node_loop.specs.Hosting.{AsksUpTo, Hosted};
 ghost use Rattle.node_loop.specs.Timing.{LooksTimes, MakesTurns};
 ghost use Rattle.node_loop.specs.Turns.{Served, standing};
+ghost use Rattle.node_control.specs.inner.Runs.{AsksAfterTurns};
 
 use crate::control::ControlSocket;
 use crate::observer::Observer;
@@ -64,6 +65,9 @@ fn pass<R: Records, W: Wire, T: Timer, RT: Clock + Eprint>(
     ensures turns { control.old ≡ None → Moves (W.traffic wire.old) (W.traffic wire.new)
         (λ es es'. Served (standing service.old.handler.node es room.old)
         (standing service.new.handler.node es' room.new) (fault_of result)) × (control.new ≡ None) }
+    ensures asked { OnOk result (Moves (W.traffic wire.old) (W.traffic wire.new)
+        (λ es es'. AsksAfterTurns 8 (standing service.old.handler.node es room.old)
+        (standing service.new.handler.node es' room.new))) }
     ensures few { IfOk result (λ turns. turns ≤ 65) }
     ensures looks { OnOk result (LooksTimes 1 (T.timer_events timer.old) (T.timer_events timer.new)) }
     ensures same { W.identity wire.new ≡ W.identity wire.old }
@@ -89,6 +93,7 @@ fn pass<R: Records, W: Wire, T: Timer, RT: Clock + Eprint>(
 
 /// Whether an operator asked for the end and has the answer.
 fn is_ending<R: Records>(service: &HttpService<R>, control: &Option<ControlSocket>) -> bool
+    ensures stopping { result ≡ true → service.now.handler.is_stopping ≡ true }
     ensures none { control.now ≡ None → result ≡ false }
 {
     match control {
@@ -97,7 +102,8 @@ fn is_ending<R: Records>(service: &HttpService<R>, control: &Option<ControlSocke
     }
 }
 
-/// Round after round, until the given number of turns is over, or an operator asked for the end and has the answer.
+/// Round after round, until the given number of turns is over, or an operator asked for the end and has the answer:
+/// whether one did.
 fn passes<R: Records, W: Wire, T: Timer, RT: Clock + Eprint>(
     rt: &RT,
     service: &mut HttpService<R>,
@@ -108,20 +114,26 @@ fn passes<R: Records, W: Wire, T: Timer, RT: Clock + Eprint>(
     timer: &mut T,
     start: Option<Instant>,
     turns: u64,
-) -> Result<(), NodeFault>
+) -> Result<bool, NodeFault>
     ensures hosted { Moves (W.traffic wire.old) (W.traffic wire.new)
         (λ es es'. Hosted (standing service.old.handler.node es room.old)
         (standing service.new.handler.node es' room.new) (fault_of result)) }
     ensures turns { control.old ≡ None → Moves (W.traffic wire.old) (W.traffic wire.new)
         (λ es es'. Served (standing service.old.handler.node es room.old)
         (standing service.new.handler.node es' room.new) (fault_of result)) × (control.new ≡ None) }
-    ensures made { control.old ≡ None → OnOk result (MakesTurns turns (T.timer_events timer.old) (T.timer_events timer.new)) }
+    ensures made { IfOk result (λ is_stopped. is_stopped ≡ false →
+        MakesTurns turns (T.timer_events timer.old) (T.timer_events timer.new)) }
+    ensures stopped { IfOk result (λ is_stopped. is_stopped ≡ true → service.new.handler.is_stopping ≡ true) }
+    ensures none { control.old ≡ None → IfOk result (λ is_stopped. is_stopped ≡ false) }
     ensures same { W.identity wire.new ≡ W.identity wire.old }
 {
     let mut left = turns;
     for _round in 0..turns {
-        if left == 0 || is_ending(service, control) {
-            return Ok(());
+        if left == 0 {
+            return Ok(false);
+        }
+        if is_ending(service, control) {
+            return Ok(true);
         }
         match pass(
             rt,
@@ -137,10 +149,10 @@ fn passes<R: Records, W: Wire, T: Timer, RT: Clock + Eprint>(
             Err(fault) => return Err(fault),
         }
     }
-    Ok(())
+    Ok(false)
 }
 
-/// All rounds, and then what waits to be proposed ([`finish`]).
+/// All rounds, and then what waits to be proposed ([`finish`]): whether an operator asked for the end.
 pub(crate) fn pass_on<R: Records, W: Wire, T: Timer, RT: Clock + Eprint>(
     rt: &RT,
     service: &mut HttpService<R>,
@@ -150,21 +162,29 @@ pub(crate) fn pass_on<R: Records, W: Wire, T: Timer, RT: Clock + Eprint>(
     control: &mut Option<ControlSocket>,
     timer: &mut T,
     turns: u64,
-) -> Result<(), NodeFault>
+) -> Result<bool, NodeFault>
     ensures hosted { Moves (W.traffic wire.old) (W.traffic wire.new)
         (λ es es'. Hosted (standing service.old.handler.node es room.old)
         (standing service.new.handler.node es' room.new) (fault_of result)) }
     ensures turns { control.old ≡ None → Moves (W.traffic wire.old) (W.traffic wire.new)
         (λ es es'. Served (standing service.old.handler.node es room.old)
         (standing service.new.handler.node es' room.new) (fault_of result)) }
-    ensures made { control.old ≡ None → OnOk result (MakesTurns turns (T.timer_events timer.old) (T.timer_events timer.new)) }
+    ensures made { IfOk result (λ is_stopped. is_stopped ≡ false →
+        MakesTurns turns (T.timer_events timer.old) (T.timer_events timer.new)) }
+    ensures stopped { IfOk result (λ is_stopped. is_stopped ≡ true → service.new.handler.is_stopping ≡ true) }
+    ensures none { control.old ≡ None → IfOk result (λ is_stopped. is_stopped ≡ false) }
     ensures same { W.identity wire.new ≡ W.identity wire.old }
 {
     let start = Instant::now(rt).ok();
     match passes(
         rt, service, wire, observer, room, control, timer, start, turns,
     ) {
-        Ok(()) => finish(&mut service.handler.node, wire, room, timer, rt, start),
+        Ok(is_stopped) => {
+            match finish(&mut service.handler.node, wire, room, timer, rt, start) {
+                Ok(()) => Ok(is_stopped),
+                Err(fault) => Err(fault),
+            }
+        }
         Err(fault) => Err(fault),
     }
 }

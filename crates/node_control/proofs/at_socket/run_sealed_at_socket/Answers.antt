@@ -10,10 +10,10 @@ pub returns-clause-ran : goal.returns-clause-ran
 returns-clause-ran g c new honest fresh =
     let same = sealing_is _ _ _ _ c.run_over.ensures.same in
     let r = runs_sealed g.R.Records g.S.Socket g.met.R.Records.settled c.calls_are_steps.ensures c.hosted_runs_are_lived.ensures c.args.m
-    c.args.records c.run_over.result.1 c.run_over.result.0 c.run_over.result.2 honest fresh (c.run_over.ensures.hosted new) in (
+    c.args.hears_asks c.args.records c.run_over.result.1 c.run_over.result.0 c.run_over.result.2 honest fresh (c.run_over.ensures.hosted new) in (
       r.0,
       r.1,
-      runs_sealed_by g.R.Records c.args.m c.args.records c.run_over.result.1 r.0 (keys_of c.run_over.result.2)
+      runs_sealed_by g.R.Records c.args.m c.args.hears_asks c.args.records c.run_over.result.1 r.0 (keys_of c.run_over.result.2)
           (keys_of c.args.wire) (sealer_of c.run_over.result.2) (sealer_of c.args.wire) same.0 same.1 r.2,
     )
 

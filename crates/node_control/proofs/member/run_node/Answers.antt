@@ -1,45 +1,44 @@
 -- no turn, or those that were made
-use Rattle.std.proofs.Common.{refl, inr}
+use Rattle.std.proofs.Common.{refl, inl, inr}
 use Rattle.px_replica.specs.Faults.{fault_of}
-use Rattle.node_loop.proofs.Still.{still}
-use Rattle.node_loop.proofs.Hosted as hosted
-use Rattle.node_control.proofs.Rounds.{hosts, on_front, serves}
+use Rattle.node_loop.proofs.Still.{still, unasked}
+use Rattle.node_control.proofs.Rounds.{hosts, host_tells, on_front, serves, tells}
 use Rattle.node_control.proofs.member.run_node.Goals as goal
 
 pub returns-in_default-clause-hosted : goal.returns-in_default-clause-hosted
 returns-in_default-clause-hosted g c es t =
-    (es, t, hosted.serves _ _ _ _ _ (still c.args.node es _ (inr (inr refl))))
+    (es, t, unasked c.args.node es c.args.hears_asks _ (inl (inr (inr refl))))
 
 pub returns-in_default-clause-turns : goal.returns-in_default-clause-turns
 returns-in_default-clause-turns g c none es t = (es, t, still c.args.node es _ (inr (inr refl)))
 
 pub returns-in_default-new-clause-hosted : goal.returns-in_default-new-clause-hosted
 returns-in_default-new-clause-hosted g c es t =
-    (es, t, hosted.serves _ _ _ _ _ (still c.args.node es _ (inr (inr refl))))
+    (es, t, unasked c.args.node es c.args.hears_asks _ (inl (inr (inr refl))))
 
 pub returns-in_default-new-clause-turns : goal.returns-in_default-new-clause-turns
 returns-in_default-new-clause-turns g c none es t = (es, t, still c.args.node es _ (inr (inr refl)))
 
 pub returns-clause-hosted : goal.returns-clause-hosted
 returns-clause-hosted g c es t =
-    let r = c.pass_on-ended.ensures.hosted es t in (
+    let r = c.pass_on-is_stopped.ensures.hosted es t in (
       r.0,
       r.1,
-      hosts _ _ _ _ es r.0 c.in-Ok-new.room c.pass_on-ended.new.room c.args.hears_asks (fault_of c.pass_on-ended.result) _
+      hosts _ _ _ _ es r.0 c.in-Ok-new.room c.pass_on-is_stopped.new.room c.args.hears_asks (fault_of c.pass_on-is_stopped.result) _
           c.new-service.ensures c.close-node.ensures c.in-Ok-new.ensures.kept c.in-Ok-new.ensures.requests c.in-Ok-new.ensures.hears
-          r.2 c.ended_of.ensures,
+          r.2 (host_tells _ _ c.pass_on-is_stopped.result _ c.ended_of.ensures),
     )
 
 pub returns-clause-turns : goal.returns-clause-turns
 returns-clause-turns g c none es t =
-    let r = c.pass_on-ended.ensures.turns none es t in (
+    let r = c.pass_on-is_stopped.ensures.turns none es t in (
       r.0,
       r.1,
-      serves _ _ _ _ es r.0 c.in-Ok-new.room c.pass_on-ended.new.room c.args.hears_asks (fault_of c.pass_on-ended.result) _
+      serves _ _ _ _ es r.0 c.in-Ok-new.room c.pass_on-is_stopped.new.room c.args.hears_asks (fault_of c.pass_on-is_stopped.result) _
           c.new-service.ensures c.close-node.ensures c.in-Ok-new.ensures.kept c.in-Ok-new.ensures.requests c.in-Ok-new.ensures.hears
-          r.2 c.ended_of.ensures,
+          r.2 (tells _ _ c.pass_on-is_stopped.result _ c.ended_of.ensures (c.pass_on-is_stopped.ensures.none none)),
     )
 
 pub returns-clause-made : goal.returns-clause-made
-returns-clause-made g c none =
-    on_front _ _ _ c.pass_on-ended.result c.ended_of.result c.ended_of.ensures (c.pass_on-ended.ensures.made none)
+returns-clause-made g c =
+    on_front _ _ _ c.pass_on-is_stopped.result c.ended_of.result c.ended_of.ensures c.pass_on-is_stopped.ensures.made

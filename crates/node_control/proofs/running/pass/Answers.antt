@@ -43,3 +43,15 @@ returns-then-not-serve-clause-turns g c none = (
       (r.0, c.wait.ensures.quiet r.0 r.1, served_then _ _ _ None r.2 (still _ _ r.0 c.round.new.room (c.serve.ensures.none none).0))),
   c.wait.ensures.none (c.serve.ensures.none none).1,
 )
+
+pub returns-else-not-serve-clause-asked : goal.returns-else-not-serve-clause-asked
+returns-else-not-serve-clause-asked g c es t =
+    let r = c.in-Ok.ensures.served es t in
+    let a = c.serve.ensures.asks in
+    (r.0, r.1, (standing c.round.new.node r.0 c.round.new.room, r.2, a.0, a.1, a.2))
+
+pub returns-then-not-serve-clause-asked : goal.returns-then-not-serve-clause-asked
+returns-then-not-serve-clause-asked g c es t =
+    let r = c.in-Ok.ensures.served es t in
+    let a = c.serve.ensures.asks in
+    (r.0, c.wait.ensures.quiet r.0 r.1, (standing c.round.new.node r.0 c.round.new.room, r.2, a.0, a.1, a.2))

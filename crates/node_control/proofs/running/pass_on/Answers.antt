@@ -1,7 +1,7 @@
 -- all rounds, and the last ones
 use Rattle.node_loop.specs.Turns.{standing}
 use Rattle.node_loop.proofs.Looking.{makes_then}
-use Rattle.node_control.proofs.Rounds.{hosted_over, on_ok, over_then, served_over}
+use Rattle.node_control.proofs.Rounds.{hosted_over, over_then, served_over}
 use Rattle.node_control.proofs.running.pass_on.Goals as goal
 
 pub returns-in-Ok-clause-hosted : goal.returns-in-Ok-clause-hosted
@@ -23,6 +23,5 @@ pub returns-in-Err-clause-turns : goal.returns-in-Err-clause-turns
 returns-in-Err-clause-turns g c none = (c.in-Err.ensures.turns none).0
 
 pub returns-in-Ok-clause-made : goal.returns-in-Ok-clause-made
-returns-in-Ok-clause-made g c none =
-    on_ok c.finish.result (λ more. makes_then c.args.turns more.0 (g.T.Timer.timer_events c.args.timer.now) (g.T.Timer.timer_events c.passes.new.timer)
-    (g.T.Timer.timer_events c.finish.new.timer) (c.in-Ok.ensures.made none) more.1) c.finish.ensures.looks
+returns-in-Ok-clause-made g c = λ none. makes_then c.args.turns _ (g.T.Timer.timer_events c.args.timer.now) (g.T.Timer.timer_events c.passes.new.timer)
+    (g.T.Timer.timer_events c.finish.new.timer) (c.in-Ok.ensures.made none) c.in-Ok-finish.ensures.looks.1
