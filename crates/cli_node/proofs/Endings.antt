@@ -8,7 +8,7 @@ use Rattle.px_replica.specs.declared.fault.NodeFault.TheVariants as fault
 use Rattle.node_loop.specs.declared.ended.Ended.{Ended}
 use Rattle.node_loop.specs.declared.ended.Ended.TheVariants as ended
 use Rattle.cli_node.specs.declared.outcome.Outcome.{Outcome}
-use Rattle.cli_node.specs.declared.outcome.Outcome.TheVariants.{Front, Asked, Key, Refused, RefusedLine, NoAnswer}
+use Rattle.cli_node.specs.declared.outcome.Outcome.TheVariants.{Front, Stopped, Asked, Key, Refused, RefusedLine, NoAnswer}
 use Rattle.cli_node.specs.declared.outcome.Outcome.TheVariants.{Sound, Made, Memory, Unread}
 use Rattle.cli_node.specs.inner.Outcomes.{outcome_of, ending_of, ended_outcome, first_of, checked, is_refused}
 use Rattle.cli_node.specs.inner.Outcomes.{ComesOpenOr, IsWireless}
@@ -61,6 +61,9 @@ n95 = of_number 95 (λ b. omega (arith, b)) (λ b. omega (arith, b))
 fronts : (n a : ℕ) (file new : Bool) → IsStoreless file new (Front n a)
 fronts n a file new = record { missing = λ e. absurd (cc); there = λ e. absurd (cc) }
 
+stopped : (n a : ℕ) (file new : Bool) → IsStoreless file new (Stopped n a)
+stopped n a file new = record { missing = λ e. absurd (cc); there = λ e. absurd (cc) }
+
 of_fault : (e : NodeFault) (file new : Bool) → IsStoreless file new (outcome_of e)
 of_fault fault.Memory file new = by_memory file new
 of_fault fault.TooLong file new = n41 file new
@@ -74,6 +77,7 @@ of_fault fault.Failed file new = n80 file new
 of_ended : (without : Outcome) (how : Ended) → ((file new : Bool) → IsStoreless file new without) → (file new : Bool) →
     IsStoreless file new (ended_outcome without how)
 of_ended without (ended.Front n a) h file new = fronts n a file new
+of_ended without (ended.Stopped n a) h file new = stopped n a file new
 of_ended without (ended.Fault e) h file new = of_fault e file new
 of_ended without ended.NoWire h file new = h file new
 of_ended without ended.NoControlSocket h file new = n84 file new
@@ -85,7 +89,7 @@ wireless o (inr e) = as_is o (Refused 82) e n82
 
 pub of_run : {R : Type 0} (G : Ghosts R) (m : Membership) (given back : R) (o : Outcome) → ComesOpenOr G m given o back →
     (file new : Bool) → IsStoreless file new o
-of_run G m given back o (inl (events, how, without, runs, is, none)) =
+of_run G m given back o (inl (events, hears, how, without, runs, is, none)) =
     as_is o (ended_outcome without how) is (of_ended without how (wireless without none))
 of_run G m given back o (inr (none, same)) = wireless o none
 
@@ -105,6 +109,7 @@ of_ending o n h file new =
 
 first : (file new : Bool) (o p : Outcome) → IsStoreless file new o → IsStoreless file new p → IsStoreless file new (first_of o p)
 first file new (Front n a) p h k = h
+first file new (Stopped n a) p h k = h
 first file new (Asked n k) p h l = h
 first file new (Key k) p h l = h
 first file new (Refused c) p h k = h

@@ -1,15 +1,15 @@
 -- A run at a socket with keys.
-use Rattle.std.proofs.Common.{◌≡◌, ℕ, List, subst}
+use Rattle.std.proofs.Common.{◌≡◌, ℕ, Bool, List, subst}
 use Rattle.px_records.specs.declared.records.Records.{Ghosts}
 use Rattle.px_transport.specs.Sending.{Sealer}
 use Rattle.px_wire.specs.declared.membership.Membership.{Membership}
 use Rattle.node_udp.specs.Sockets.{SocketEvent}
-use Rattle.node_control.specs.Sockets.{RunsSealed}
+use Rattle.node_control.specs.Sockets.{RunsSealedHearing}
 
 -- the wire's keys and its sealer are these
-pub as_sealed : {R : Type 0} (G : Ghosts R) (m : Membership) (given back : R) (events : List SocketEvent)
-    (ks ks' : List (List ℕ)) (s s' : Sealer) → ks ≡ ks' → s ≡ s' → RunsSealed G m ks s given back events →
-    RunsSealed G m ks' s' given back events
-as_sealed G m given back events ks ks' s s' e f r =
-    subst (λ (x : Sealer). RunsSealed G m ks' x given back events) f
-    (subst (λ (x : List (List ℕ)). RunsSealed G m x s given back events) e r)
+pub as_sealed : {R : Type 0} (G : Ghosts R) (m : Membership) (hears : Bool) (given back : R) (events : List SocketEvent)
+    (ks ks' : List (List ℕ)) (s s' : Sealer) → ks ≡ ks' → s ≡ s' → RunsSealedHearing G m hears ks s given back events →
+    RunsSealedHearing G m hears ks' s' given back events
+as_sealed G m hears given back events ks ks' s s' e f r =
+    subst (λ (x : Sealer). RunsSealedHearing G m hears ks' x given back events) f
+    (subst (λ (x : List (List ℕ)). RunsSealedHearing G m hears x s given back events) e r)

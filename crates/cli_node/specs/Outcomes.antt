@@ -6,12 +6,13 @@ use Rattle.cli_io.specs.declared.status.Status.{Status}
 use Rattle.cli_io.specs.declared.status.Status.TheVariants as status
 use Rattle.cli_io.specs.Written.{line}
 use Rattle.cli_node.specs.declared.outcome.Outcome.{Outcome}
-use Rattle.cli_node.specs.declared.outcome.Outcome.TheVariants.{Front, Asked, Key, Refused, RefusedLine, NoAnswer}
-use Rattle.cli_node.specs.declared.outcome.Outcome.TheVariants.{Sound, Made, Memory, Unread}
+use Rattle.cli_node.specs.declared.outcome.Outcome.TheVariants.{Front, Stopped, Asked, Key, Refused, RefusedLine}
+use Rattle.cli_node.specs.declared.outcome.Outcome.TheVariants.{NoAnswer, Sound, Made, Memory, Unread}
 
 -- what a run writes of its outcome, a line; nothing of a key that is in a file, and where the words were not read
 abbrev pub line_of : Outcome → List ℕ
 line_of (Front front applied) = line (codes "front " ++ decimal front ++ codes " applied " ++ decimal applied)
+line_of (Stopped front applied) = line (codes "front " ++ decimal front ++ codes " applied " ++ decimal applied)
 line_of (Asked node number) = line (codes "asked " ++ decimal node ++ codes "." ++ decimal number)
 line_of (Key key) = key_text key
 line_of (Refused code) = line (codes "refused " ++ decimal code)
@@ -25,6 +26,7 @@ line_of Unread = []
 -- how a run with this outcome ends
 abbrev pub status_of : Outcome → Status
 status_of (Front front applied) = status.Done
+status_of (Stopped front applied) = status.Done
 status_of (Asked node number) = status.Done
 status_of (Key key) = status.Done
 status_of (Refused code) = status.Refused

@@ -29,7 +29,7 @@ pub(crate) fn say_end(rt: &HostRuntime, words: NodeWords<'_, '_, '_>, outcome: O
                 words.me
             );
         }
-        Outcome::Front { front, applied } => {
+        Outcome::Front { front, applied } | Outcome::Stopped { front, applied } => {
             if !words.is_quiet {
                 let _said = eprintln!(rt;
                     "pfx: info: node {} ends with {front} learned and {applied} applied",

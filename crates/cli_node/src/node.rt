@@ -1,7 +1,7 @@
 //! The subcommand `node`: a node over UDP.
 
 ghost use Rattle.std.specs.Prelude.{◌≡◌, ◌≢◌, ◌<◌, ◌≤◌, ◌⊎◌, ◌↔◌, Err, false, length, IfSome, OnErr, IsSome, IsTrue};
-ghost use Rattle.std.specs.Prelude.{ℕ, Bool, [], Some, None, IfOk, option_map, option_and_then, is_some, not, ◌&&◌};
+ghost use Rattle.std.specs.Prelude.{ℕ, Bool, [], Some, None, IfOk, option_map, option_and_then, is_some};
 ghost use Rattle.toml.specs.Data.{as_str, get_member};
 ghost use Rattle.px_transport.specs.Wiring.{keys_of, sealer_of};
 ghost use Rattle.node_loop.specs.Lives.{OnFront};
@@ -9,7 +9,7 @@ ghost use Rattle.node_loop.specs.Timing.{MakesTurns};
 ghost use Rattle.cli_files.specs.Files.{settings_of};
 ghost use Rattle.cli_files.specs.Settings.{number_of};
 ghost use Rattle.cli_node.specs.declared.outcome.Outcome.TheVariants.{Memory, Refused};
-ghost use Rattle.cli_node.specs.inner.Running.{IsAlone, IsUnrun, RunsHere, keys_with, sealer_with};
+ghost use Rattle.cli_node.specs.inner.Running.{IsAlone, IsUnrun, RunsHere, hears_asks, keys_with, sealer_with};
 ghost use Rattle.cli_node.specs.inner.Outcomes.{ComesTo, ComesOpen, ComesOpenOr, IsWireless};
 ghost use Rattle.cli_node.specs.inner.Stores.{IsStoreless};
 ghost use Rattle.cli_node.specs.inner.Places.{is_count, has_place, turns_or_all, chosen};
@@ -145,7 +145,7 @@ impl<'m, 'w, 'a> NodeWords<'m, 'w, 'a> {
 
     /// Whether commands are heard by datagrams: where these carry no tag of a key, and there is no control socket.
     fn hears_asks(self) -> bool
-        ensures { result ≡ (not (is_some self.entry.key) && not (is_some self.entry.control)) }
+        ensures { result ≡ hears_asks self.entry.key self.entry.control }
     {
         self.key.is_none() && self.control.is_none()
     }
@@ -284,7 +284,7 @@ fn run_plain<R: Records, T: Timer>(
     ensures hosted { ComesOpen R.Records m records result.0 result.1 }
     ensures turns { place.entry ≡ None → ComesTo R.Records m records result.0 result.1 }
     ensures ran { IsAlone R.Records m records result.0 result.1 ⊎
-        RunsHere R.Records m None records result.0 result.1 (λ how. place.entry ≡ None →
+        RunsHere R.Records m None (hears_asks words.entry.key words.entry.control) records result.0 result.1 (λ how.
         OnFront how (MakesTurns words.entry.turns (T.timer_events timer.old) (T.timer_events timer.new))) }
 {
     let wire = match wire {
@@ -329,8 +329,8 @@ fn run_with_key<R: Records, T: Timer>(
     ensures hosted { ComesOpen R.Records m records result.0 result.1 }
     ensures turns { place.entry ≡ None → ComesTo R.Records m records result.0 result.1 }
     ensures ran { IsAlone R.Records m records result.0 result.1 ⊎
-        RunsHere R.Records m (Some sealing) records result.0 result.1 (λ how. place.entry ≡ None →
-        OnFront how (MakesTurns words.entry.turns (T.timer_events timer.old) (T.timer_events timer.new))) }
+        RunsHere R.Records m (Some sealing) (hears_asks words.entry.key words.entry.control) records result.0 result.1
+        (λ how. OnFront how (MakesTurns words.entry.turns (T.timer_events timer.old) (T.timer_events timer.new))) }
 {
     let wire = match sealed(rt, alloc, m, wire, sealing) {
         Ok(wire) => wire,
@@ -374,7 +374,7 @@ fn run_at<R: Records, T: Timer>(
     ensures hosted { ComesOpen R.Records m records result.0 result.1 }
     ensures turns { place.entry ≡ None → ComesTo R.Records m records result.0 result.1 }
     ensures ran { IsAlone R.Records m records result.0 result.1 ⊎
-        RunsHere R.Records m sealing records result.0 result.1 (λ how. place.entry ≡ None →
+        RunsHere R.Records m sealing (hears_asks words.entry.key words.entry.control) records result.0 result.1 (λ how.
         OnFront how (MakesTurns words.entry.turns (T.timer_events timer.old) (T.timer_events timer.new))) }
 {
     match sealing {
@@ -399,7 +399,7 @@ fn run_node<R: Records, T: Timer>(
     ensures hosted { ComesOpen R.Records m records result.0 result.1 }
     ensures turns { ComesTo R.Records m records result.0 result.1 }
     ensures ran { IsAlone R.Records m records result.0 result.1 ⊎
-        RunsHere R.Records m sealing records result.0 result.1 (λ how.
+        RunsHere R.Records m sealing (hears_asks words.entry.key words.entry.control) records result.0 result.1 (λ how.
         OnFront how (MakesTurns words.entry.turns (T.timer_events timer.old) (T.timer_events timer.new))) }
 {
     let wire = bind(rt, alloc, words);
@@ -455,7 +455,8 @@ fn run_with_control<R: Records, T: Timer>(
     requires failed { R.failed records ≡ 0 }
     ensures hosted { ComesOpenOr R.Records m records result.0 result.1 }
     ensures ran { IsUnrun R.Records m records result.0 result.1 ⊎
-        RunsHere R.Records m sealing records result.0 result.1 (λ how. Unit {0}) }
+        RunsHere R.Records m sealing (hears_asks words.entry.key words.entry.control) records result.0 result.1 (λ how.
+        OnFront how (MakesTurns words.entry.turns (T.timer_events timer.old) (T.timer_events timer.new))) }
 {
     let wire = match bind(rt, alloc, words) {
         Ok(wire) => wire,
@@ -504,7 +505,7 @@ fn run_member_in<R: Records, T: Timer>(
     ensures hosted { ComesOpenOr R.Records m records result.0 result.1 }
     ensures turns { words.entry.control ≡ None → ComesTo R.Records m records result.0 result.1 }
     ensures ran { IsUnrun R.Records m records result.0 result.1 ⊎
-        RunsHere R.Records m sealing records result.0 result.1 (λ how. words.entry.control ≡ None →
+        RunsHere R.Records m sealing (hears_asks words.entry.key words.entry.control) records result.0 result.1 (λ how.
         OnFront how (MakesTurns words.entry.turns (T.timer_events timer.old) (T.timer_events timer.new))) }
 {
     match words.control {
@@ -545,6 +546,7 @@ fn run_sealed(
     alloc: Global,
     words: NodeWords<'_, '_, '_>,
     m: Membership,
+    found: Found,
     records: SqlRecords<FileStore<File>>,
     keys: Option<Keys>,
 ) -> Outcome
@@ -555,7 +557,7 @@ fn run_sealed(
     ensures ending { result ≢ Refused 80 }
     ensures store { (file new : Bool) → IsStoreless file new result }
 {
-    match sealing_for(rt, alloc, words, m, keys, false) {
+    match sealing_for(rt, alloc, words, m, keys, found) {
         Ok(sealing) => run_on(rt, alloc, words, m, records, sealing),
         Err(outcome) => {
             let _closed = records.release().close();
@@ -579,7 +581,7 @@ fn run_new(
     ensures ending { result ≢ Refused 80 }
     ensures store { IsStoreless words.entry.is_from_file words.entry.is_new result }
 {
-    let sealing = match sealing_for(rt, alloc, words, m, keys, true) {
+    let sealing = match sealing_for(rt, alloc, words, m, keys, found) {
         Ok(sealing) => sealing,
         Err(outcome) => return outcome,
     };
@@ -612,7 +614,7 @@ pub(crate) fn node_outcome(rt: &HostRuntime, alloc: Global, words: NodeWords<'_,
         return run_new(rt, alloc, words, m, found, keys);
     }
     match record_at(rt, alloc, words, m, found) {
-        Ok(records) => run_sealed(rt, alloc, words, m, records, keys),
+        Ok(records) => run_sealed(rt, alloc, words, m, found, records, keys),
         Err(outcome) => outcome,
     }
 }

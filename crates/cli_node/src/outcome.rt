@@ -18,6 +18,8 @@ use std::io::Write;
 pub(crate) enum Outcome {
     /// All turns were made: how many positions are learned without a gap, and how many are applied.
     Front { front: u32, applied: u32 },
+    /// The same two numbers of a node that an operator ended before its turns were made.
+    Stopped { front: u32, applied: u32 },
     /// The node took the command in, as this request of its own.
     Asked { node: u8, number: u64 },
     /// A new key.
@@ -83,6 +85,7 @@ fn line_of(alloc: Global, outcome: Outcome) -> Result<String, AllocError>
 {
     match outcome {
         Outcome::Front { front, applied } => front_line(alloc, front, applied),
+        Outcome::Stopped { front, applied } => front_line(alloc, front, applied),
         Outcome::Asked { node, number } => asked_line(alloc, node, number),
         Outcome::Key(key) => key_text(alloc, &key),
         Outcome::Refused(code) => format!(in alloc; "refused {code}\n"),
@@ -101,6 +104,7 @@ fn status_of(outcome: Outcome) -> Status
 {
     match outcome {
         Outcome::Front { .. } => Status::Done,
+        Outcome::Stopped { .. } => Status::Done,
         Outcome::Asked { .. } => Status::Done,
         Outcome::Key(_) => Status::Done,
         Outcome::Refused(_) => Status::Refused,
@@ -165,6 +169,7 @@ pub(crate) fn ended_outcome(ended: Ended, without: Outcome) -> Outcome
 {
     match ended {
         Ended::Front { front, applied } => Outcome::Front { front, applied },
+        Ended::Stopped { front, applied } => Outcome::Stopped { front, applied },
         Ended::Fault(fault) => fault_outcome(fault),
         Ended::NoWire => without,
         Ended::NoControlSocket => Outcome::Refused(84),

@@ -1,11 +1,13 @@
 //! How a node's packets are sealed: its keys, and this start of it.
 
-ghost use Rattle.std.specs.Prelude.{◌≡◌, ◌⊎◌, ◌<◌, Ok, Err, Some, true, OnErr, IfOk, option_map, is_some};
+ghost use Rattle.std.specs.Prelude.{◌≡◌, ◌⊎◌, ◌||◌, ◌<◌, Ok, Err, Some, true, OnErr, IfOk, option_map, is_some};
 ghost use Rattle.cli_node.specs.declared.outcome.Outcome.TheVariants.{Memory, Refused, Sound};
+ghost use Rattle.cli_node.specs.inner.Stores.{is_made};
 
 use crate::key::Keys;
 use crate::node::NodeWords;
 use crate::outcome::Outcome;
+use crate::store::{Found, is_made};
 use cli_files::{RaiseFault, raise_start, starts_in, starts_path};
 use cli_io::Shown;
 use node_loop::Membership;
@@ -52,15 +54,22 @@ fn sealing_of(
     }
 }
 
-/// How a node's packets are sealed with these keys in this start of it, written into the file beside its store first.
-/// The file is made with a store that is new, and where that is asked for.
+/// Whether a missing file of starts is made: with a store that is made, and where that is asked for.
+fn may_make_starts(words: NodeWords<'_, '_, '_>, found: Found) -> bool
+    ensures { result ≡ (is_made words.entry.is_from_file words.entry.is_new found || words.entry.makes_starts) }
+{
+    is_made(words.is_from_file, words.is_new, found) || words.makes_starts
+}
+
+/// How a node's packets are sealed with these keys in this start of it, written into the file beside its store first,
+/// where this was found.
 fn sealing_with(
     rt: &HostRuntime,
     alloc: Global,
     words: NodeWords<'_, '_, '_>,
     m: Membership,
     keys: Keys,
-    is_new: bool,
+    found: Found,
 ) -> Result<Option<Sealing>, Outcome>
     requires here { m.me < m.members }
     ensures refused { OnErr result ((result ≡ Err Memory) ⊎ (result ≡ Err (Refused 95))) }
@@ -70,19 +79,20 @@ fn sealing_with(
     let Ok(path) = starts_path(alloc, words.store) else {
         return Err(Outcome::Memory);
     };
-    let may_be_made = is_new || words.makes_starts;
+    let may_be_made = may_make_starts(words, found);
     let raised = raise_start(rt, alloc, path.as_str(), m.members(), m.me(), may_be_made);
     sealing_of(rt, path.as_str(), keys, raised)
 }
 
-/// How the node's packets are sealed, where it has keys: 95 where its file of starts can't be used.
+/// How the node's packets are sealed, where it has keys, and this was found where its store is: 95 where its file of
+/// starts can't be used.
 pub(crate) fn sealing_for(
     rt: &HostRuntime,
     alloc: Global,
     words: NodeWords<'_, '_, '_>,
     m: Membership,
     keys: Option<Keys>,
-    is_new: bool,
+    found: Found,
 ) -> Result<Option<Sealing>, Outcome>
     requires here { m.me < m.members }
     ensures refused { OnErr result ((result ≡ Err Memory) ⊎ (result ≡ Err (Refused 95))) }
@@ -90,7 +100,7 @@ pub(crate) fn sealing_for(
     ensures keyed { IfOk result (λ s. is_some s ≡ is_some keys) }
 {
     match keys {
-        Some(keys) => sealing_with(rt, alloc, words, m, keys, is_new),
+        Some(keys) => sealing_with(rt, alloc, words, m, keys, found),
         None => Ok(None),
     }
 }

@@ -13,7 +13,7 @@ use Rattle.node_loop.specs.declared.ended.Ended.TheVariants as ended
 use Rattle.node_udp.specs.declared.answer.AskAnswer.{AskAnswer}
 use Rattle.node_udp.specs.declared.answer.AskAnswer.TheVariants as answer
 use Rattle.cli_node.specs.declared.outcome.Outcome.{Outcome}
-use Rattle.cli_node.specs.declared.outcome.Outcome.TheVariants.{Front, Asked, Refused, NoAnswer}
+use Rattle.cli_node.specs.declared.outcome.Outcome.TheVariants.{Front, Stopped, Asked, Refused, NoAnswer}
 use Rattle.cli_node.specs.declared.outcome.Outcome.TheVariants.{Memory, Sound}
 
 -- whether it is this refusal
@@ -49,6 +49,7 @@ checked place keys store starts addresses =
 -- what a member's run is shown as, where its wire may be missing
 abbrev pub ended_outcome : (without : Outcome) → Ended → Outcome
 ended_outcome without (ended.Front front applied) = Front front applied
+ended_outcome without (ended.Stopped front applied) = Stopped front applied
 ended_outcome without (ended.Fault fault) = outcome_of fault
 ended_outcome without ended.NoWire = without
 ended_outcome without ended.NoControlSocket = Refused 84
@@ -68,7 +69,8 @@ ComesTo G m given outcome back =
 -- the same with a control socket: commands are asked of the member between its turns
 abbrev pub ComesOpen : {R : Type 0} → Ghosts R → Membership → (given : R) → Outcome → (back : R) → Type 0
 ComesOpen G m given outcome back =
-    (events : List WireEvent) × (how : Ended) × (without : Outcome) × HostedRuns G m given [] events how back
+    (events : List WireEvent) × (hears : Bool) × (how : Ended) × (without : Outcome)
+    × HostedRuns G m hears given [] events how back
     × (outcome ≡ ended_outcome without how) × IsWireless without
 
 -- the same where the record may stay closed

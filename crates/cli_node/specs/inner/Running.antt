@@ -1,5 +1,5 @@
 -- How a member's run went at its socket.
-use Rattle.std.specs.Prelude.{◌≡◌, ◌⊎◌, ℕ, List, [], Option, Some, None, option_map}
+use Rattle.std.specs.Prelude.{◌≡◌, ◌⊎◌, ℕ, Bool, not, ◌&&◌, List, [], Option, Some, None, option_map, is_some}
 use Rattle.px_packet.specs.Hmac.{key_block}
 use Rattle.px_packet.specs.Packets.{packet_key}
 use Rattle.px_packet.specs.Keyed.{and_key}
@@ -9,7 +9,7 @@ use Rattle.px_wire.specs.declared.membership.Membership.{Membership}
 use Rattle.node_loop.specs.Lives.{Runs}
 use Rattle.node_loop.specs.declared.ended.Ended.{Ended}
 use Rattle.node_udp.specs.Sockets.{SocketEvent}
-use Rattle.node_control.specs.Sockets.{RunsAt, RunsSealed}
+use Rattle.node_control.specs.Sockets.{RunsAtHearing, RunsSealedHearing}
 use Rattle.cli_node.specs.declared.outcome.Outcome.{Outcome}
 use Rattle.cli_node.specs.declared.outcome.Outcome.TheVariants.{Memory}
 use Rattle.cli_node.specs.declared.sealing.Sealing.{Sealing}
@@ -29,18 +29,23 @@ sealer_with m s = record {
   key = key_block (packet_key s.keys.key);
 }
 
+-- whether asks are heard by datagrams: where these carry no tag of a key, and there is no control socket
+abbrev pub hears_asks : {K C : Type 0} → (key : Option K) → (control : Option C) → Bool
+hears_asks key control = not (is_some key) && not (is_some control)
+
 -- what went over its socket: packets where there are keys, sealed and opened with them, and else the bare datagrams
-abbrev pub RunsWith : {R : Type 0} → Ghosts R → Membership → Option Sealing → (given back : R) → List SocketEvent →
-    Type 0
-RunsWith G m None given back events = RunsAt G m given back events
-RunsWith G m (Some s) given back events = RunsSealed G m (keys_with s) (sealer_with m s) given back events
+abbrev pub RunsWith : {R : Type 0} → Ghosts R → Membership → Option Sealing → (hears : Bool) → (given back : R) →
+    List SocketEvent → Type 0
+RunsWith G m None hears given back events = RunsAtHearing G m hears given back events
+RunsWith G m (Some s) hears given back events =
+    RunsSealedHearing G m hears (keys_with s) (sealer_with m s) given back events
 
 -- it ran at its socket, and this holds of how it ended
-abbrev pub RunsHere : {R : Type 0} → Ghosts R → Membership → Option Sealing → (given : R) → Outcome → (back : R) →
-    (made : Ended → Type 0) → Type 0
-RunsHere G m sealing given outcome back made =
+abbrev pub RunsHere : {R : Type 0} → Ghosts R → Membership → Option Sealing → (hears : Bool) → (given : R) → Outcome →
+    (back : R) → (made : Ended → Type 0) → Type 0
+RunsHere G m sealing hears given outcome back made =
     (how : Ended) × (outcome ≡ ended_outcome Memory how) × made how
-    × (G.is_honest back → (events : List SocketEvent) × RunsWith G m sealing given back events)
+    × (G.is_honest back → (events : List SocketEvent) × RunsWith G m sealing hears given back events)
 
 -- there is no wire, or no memory: its record is opened alone
 abbrev pub IsAlone : {R : Type 0} → Ghosts R → Membership → (given : R) → Outcome → (back : R) → Type 0

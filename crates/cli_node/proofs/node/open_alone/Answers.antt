@@ -4,14 +4,16 @@ use Rattle.node_loop.proofs.Hosted.{runs}
 use Rattle.cli_node.proofs.node.open_alone.Goals as goal
 
 pub returns-clause-hosted : goal.returns-clause-hosted
-returns-clause-hosted g c = (
-  [],
-  c.open_member-ended.result.0,
-  c.args.outcome,
-  runs _ _ _ _ _ _ _ (c.open_member-ended.ensures []),
-  c.ended_outcome.ensures,
-  c.requires.wireless,
-)
+returns-clause-hosted g c =
+    let r = runs _ _ _ _ _ _ _ (c.open_member-ended.ensures []) in (
+      [],
+      r.0,
+      c.open_member-ended.result.0,
+      c.args.outcome,
+      r.1,
+      c.ended_outcome.ensures,
+      c.requires.wireless,
+    )
 
 pub returns-clause-turns : goal.returns-clause-turns
 returns-clause-turns g c = (

@@ -6,7 +6,7 @@ use Rattle.cli_node.proofs.node.run_plain.Goals as goal
 pub returns-clause-hosted : goal.returns-clause-hosted
 returns-clause-hosted g c =
     let r = c.run_at_socket-ended.ensures.hosted (wire_is _ _ _ c.in-Ok.is c.requires.new) in
-    (r.0, _, _, r.1, c.ended_outcome.ensures, inl refl)
+    (r.0, _, _, _, r.1, c.ended_outcome.ensures, inl refl)
 
 pub returns-clause-turns : goal.returns-clause-turns
 returns-clause-turns g c none =

@@ -7,7 +7,7 @@ use Rattle.cli_node.proofs.node.run_with_key.Goals as goal
 pub returns-clause-hosted : goal.returns-clause-hosted
 returns-clause-hosted g c =
     let r = c.run_sealed_at_socket-ended.ensures.hosted (wire_is _ _ _ c.in-Ok.is c.sealed.ensures.new) in
-    (r.0, _, _, r.1, c.ended_outcome.ensures, inl refl)
+    (r.0, _, _, _, r.1, c.ended_outcome.ensures, inl refl)
 
 pub returns-clause-turns : goal.returns-clause-turns
 returns-clause-turns g c none =
@@ -22,7 +22,7 @@ returns-clause-ran g c = inr (
   λ honest.
       let r = c.run_sealed_at_socket-ended.ensures.ran (wire_is _ _ _ c.in-Ok.is c.sealed.ensures.new) honest c.requires.failed in (
         r.0,
-        as_sealed _ _ _ _ _ _ _ _ _ (wire_is _ _ _ c.in-Ok.is c.sealed.ensures.keys)
+        as_sealed _ _ _ _ _ _ _ _ _ _ (wire_is _ _ _ c.in-Ok.is c.sealed.ensures.keys)
             (wire_is _ _ _ c.in-Ok.is c.sealed.ensures.sealer) r.2,
       ),
 )
