@@ -255,8 +255,8 @@ fn synced(alloc: Global, reply: Reply) -> Result<Reply, AllocError> {
 /// Asks, and waits for the given number of seconds in all: for a node that isn't so far yet, and for what comes of a
 /// command that was accepted, whose position is asked for again where no answer comes; it is `waiting` where none came
 /// in time. No command is asked twice that may have been accepted. With 0 seconds it is asked once, and the answer is
-/// waited for 10 seconds at most. Verdicts of many packets are asked for in as many requests as the node wants; they are
-/// of one position, or there is no answer.
+/// waited for 10 seconds at most. Verdicts of many packets are asked for in as many requests as the node wants; they
+/// are of one position, or there is no answer.
 pub(crate) fn ask_at<RT: Net + Clock>(
     rt: &RT,
     alloc: Global,

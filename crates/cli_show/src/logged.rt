@@ -37,8 +37,8 @@ fn end_of(applied: u32, first: u32, count: Option<u32>) -> u32
     }
 }
 
-/// The lines of the log from a position on, and that many at most; without a position the last ones, 20 if it isn't said
-/// how many.
+/// The lines of the log from a position on, and that many at most; without a position the last ones, 20 if it isn't
+/// said how many.
 pub(crate) fn show_log<R: Records>(
     alloc: Global,
     node: &Node<R>,

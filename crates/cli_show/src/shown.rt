@@ -9,8 +9,8 @@ pub enum Wanted<'a> {
     Listing(&'a Action),
     /// The verdicts for packets.
     Packets(&'a [&'a str]),
-    /// Lines of the log: from a position on, and that many at most. Without a position the last ones, 20 if it isn't said
-    /// how many.
+    /// Lines of the log: from a position on, and that many at most. Without a position the last ones, 20 if it isn't
+    /// said how many.
     Log {
         from: Option<u32>,
         count: Option<u32>,

@@ -17,8 +17,8 @@ use pf_grammar::{ParseFault, Place, parse};
 use pf_rules::{Name, Path, Profile, TableEntry, TableName};
 use std::alloc::{AllocError, Global};
 
-/// How many entries, with their signs, were added to a command's table and removed from it; 0 and 0 for loads and for flushes of
-/// rules or of all tables.
+/// How many entries, with their signs, were added to a command's table and removed from it; 0 and 0 for loads and for
+/// flushes of rules or of all tables.
 #[derive(Clone, Copy, PartialEq, Eq)]
 pub struct Applied {
     /// How many entries the table has that it didn't have.

@@ -22,8 +22,8 @@ fn has_room(table: &Table, edit: Edit) -> bool
     }
 }
 
-/// Edits an entry of a table in place. False, and nothing is changed, where that can't be done, or the table is const or
-/// may be full.
+/// Edits an entry of a table in place. False, and nothing is changed, where that can't be done, or the table is const
+/// or may be full.
 fn edit_table(table: &mut Table, entry: &TableEntry, edit: Edit) -> Result<bool, AllocError>
     ensures { MatchResult result (λ done. IsTableIf done (edited_table edit entry.now table.old) table.old table.new)
         (λ e. table.new ≡ table.old) }

@@ -65,8 +65,8 @@ pub(crate) fn headings_with(
     Ok(headings)
 }
 
-/// The anchor rules of a written one behind that many others and that many unnamed blocks, one for each combination of what
-/// it lists (pf.conf(5), lists), or the lowest cause that refuses it. A growth that is refused is the error.
+/// The anchor rules of a written one behind that many others and that many unnamed blocks, one for each combination of
+/// what it lists (pf.conf(5), lists), or the lowest cause that refuses it. A growth that is refused is the error.
 #[tactic(auto, unfolding(crate::specs::Anchors::headings), using(crate::proofs::Counting::as_many_headings))]
 pub fn judge_anchor(
     alloc: Global,

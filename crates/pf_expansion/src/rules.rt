@@ -107,8 +107,8 @@ pub(crate) fn rules_with(
     Ok(rules)
 }
 
-/// The rules of a written rule behind that many others, one for each combination of what it lists (pf.conf(5), lists), or
-/// the lowest cause that refuses it. A growth that is refused is the error.
+/// The rules of a written rule behind that many others, one for each combination of what it lists (pf.conf(5), lists),
+/// or the lowest cause that refuses it. A growth that is refused is the error.
 #[tactic(auto, unfolding(crate::specs::Expansion::expanded), using(crate::proofs::Counting::as_many))]
 pub fn judge_rule(
     alloc: Global,

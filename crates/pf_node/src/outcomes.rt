@@ -8,8 +8,8 @@ use std::collections::VecDeque;
 /// What came of the command at a position, when it was applied.
 #[derive(Clone, Copy, PartialEq, Eq)]
 pub enum Outcome {
-    /// It was done: how many entries, with their signs, were added to its table and removed from it, 0 and 0 where it isn't on
-    /// one table.
+    /// It was done: how many entries, with their signs, were added to its table and removed from it, 0 and 0 where it
+    /// isn't on one table.
     Done(usize, usize),
     /// It was refused, and changed nothing: the number of the refusal, and the line of a refused text, else 0.
     Refused(u8, u64),

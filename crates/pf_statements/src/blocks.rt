@@ -62,8 +62,8 @@ fn end_anchor(heading: WrittenHeading, parser: &Parser<'_, '_>) -> Result<Writte
     }))
 }
 
-/// A filter rule, or an anchor rule with its block, where that many blocks are open. `TooMany` where there are more than
-/// a statement may have open braces.
+/// A filter rule, or an anchor rule with its block, where that many blocks are open. `TooMany` where there are more
+/// than a statement may have open braces.
 #[cycle(block)]
 pub(crate) fn read_item<'t: 's, 's>(
     alloc: Global,

@@ -53,7 +53,8 @@ fn is_accepted(members: u8, promised: u64, proposal: &Proposal<Entry>) -> bool
 }
 
 impl Meta {
-    /// Whether the round is below 2^48, the number at most that, and the floor 0 or a ballot of one of that many members.
+    /// Whether the round is below 2^48, the number at most that, and the floor 0 or a ballot of one of that many
+    /// members.
     pub fn fits(&self, members: u8) -> bool
         ensures { IsTrue result ↔ MetaFits members (meta_of self.now) }
     {
@@ -62,8 +63,8 @@ impl Meta {
 }
 
 impl Slot {
-    /// Whether what is promised is 0 or a ballot of one of that many members, and what is accepted has a ballot of theirs
-    /// that isn't above it, and an entry that fits. The entry's command isn't looked at.
+    /// Whether what is promised is 0 or a ballot of one of that many members, and what is accepted has a ballot of
+    /// theirs that isn't above it, and an entry that fits. The entry's command isn't looked at.
     pub fn fits(&self, members: u8) -> bool
         ensures exact { IsTrue result ↔ SlotFits AnyCommand members (slot_of self.now) }
         ensures spelled { (test : Bytes → Bool) → IsTrue result →

@@ -138,7 +138,8 @@ impl Reassembly {
         }
     }
 
-    /// Which parts of a datagram have come, where that is to be reported at this time: 20 ms after a part, 5 ms after one
+    /// Which parts of a datagram have come, where that is to be reported at this time: 20 ms after a part, 5 ms after
+    /// one
     /// where the datagram's last has come, and while none comes six times, after 50 ms and then each time after 50 ms
     /// more. There may be another.
     pub fn report(&mut self, now: u64) -> Option<PiecesHeld>

@@ -6,8 +6,8 @@ use crate::said::say;
 use px_records::Records;
 use std::alloc::Global;
 
-/// Does one step after the other with a record of three members; what each reports is appended, a comma between. Whether
-/// there was memory for that.
+/// Does one step after the other with a record of three members; what each reports is appended, a comma between.
+/// Whether there was memory for that.
 pub(crate) fn follow<R: Records>(
     alloc: Global,
     records: &mut R,

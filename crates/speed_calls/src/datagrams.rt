@@ -51,7 +51,8 @@ fn copied(bytes: &mut [u8], room: &mut [u8], times: u32) -> u64 {
     sum
 }
 
-/// The sum of the positions of a vote of that many bytes that is decoded that many times, or copied, where `decodes` is 0.
+/// The sum of the positions of a vote of that many bytes that is decoded that many times, or copied, where `decodes`
+/// is 0.
 pub(crate) fn sum_of(
     alloc: Global,
     decodes: u32,

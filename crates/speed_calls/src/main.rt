@@ -3,12 +3,12 @@
 //! - `table FAMILY BUILDS LOOKUPS` makes a table of IPv4 (4) or IPv6 (6) so often, and looks that many addresses up:
 //!   `found` and how many it holds.
 //! - `packets TIMES TEXT ..` reads each text as a packet that many times: `found` and how often it was one.
-//! - `events LEARNED EVENTS` takes that many events through a member that has learned that many entries: `front` and the
-//!   first position that isn't learned then.
+//! - `events LEARNED EVENTS` takes that many events through a member that has learned that many entries: `front` and
+//!   the first position that isn't learned then.
 //! - `datagram DECODES BYTES TIMES` decodes (1) or copies (0) a vote with an entry of that many bytes that many times:
 //!   `sum` and that of what was read.
-//! - `tag ANEW BYTES TIMES` makes the tags of that many datagrams of that many bytes, the key made ready for each (1) or
-//!   once (0): `sum` and that of their first bytes.
+//! - `tag ANEW BYTES TIMES` makes the tags of that many datagrams of that many bytes, the key made ready for each (1)
+//!   or once (0): `sum` and that of their first bytes.
 //!
 //! With no words each line of the standard input has them, tabs between. The status is 2 for other words, and 1 where
 //! memory runs out or the answer can't be written.

@@ -32,8 +32,8 @@ fn tagged_anew(bytes: &mut [u8], times: u32) -> u64 {
     sum
 }
 
-/// The sum of the tags' first bytes, of that many datagrams of that many bytes. The key is made ready once where `anew` is
-/// 0.
+/// The sum of the tags' first bytes, of that many datagrams of that many bytes. The key is made ready once where
+/// `anew` is 0.
 pub(crate) fn sum_of(alloc: Global, anew: u32, size: u32, times: u32) -> Result<u64, AllocError> {
     let mut bytes = vec![in alloc; b' '; size.min(BYTES_MAX) as usize]?;
     if anew == 0 {
