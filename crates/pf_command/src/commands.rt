@@ -76,16 +76,16 @@ fn load_text(
 #[tactic(auto, using(crate::proofs::Applying::add_applies))]
 fn add(
     config: &mut Config,
-    path: &[Name],
+    path: &Path,
     name: &TableName,
     list: &[TableEntry],
 ) -> Result<Applied, ApplyFault>
     ensures { Applies result config.old config.new
         (counted config.old path.now name.now (change.add config.old path.now name.now list.now)) }
 {
-    let before = entry_count(config, path, name);
+    let before = entry_count(config, path.names(), name);
     let changed = config.add(path, name, list);
-    let added = entry_count(config, path, name).saturating_sub(before);
+    let added = entry_count(config, path.names(), name).saturating_sub(before);
     answered(changed, Applied { added, removed: 0 })
 }
 
@@ -93,16 +93,16 @@ fn add(
 #[tactic(auto, using(crate::proofs::Applying::delete_applies))]
 fn delete(
     config: &mut Config,
-    path: &[Name],
+    path: &Path,
     name: &TableName,
     list: &[TableEntry],
 ) -> Result<Applied, ApplyFault>
     ensures { Applies result config.old config.new
         (counted config.old path.now name.now (change.delete config.old path.now name.now list.now)) }
 {
-    let before = entry_count(config, path, name);
+    let before = entry_count(config, path.names(), name);
     let changed = config.delete(path, name, list);
-    let removed = before.saturating_sub(entry_count(config, path, name));
+    let removed = before.saturating_sub(entry_count(config, path.names(), name));
     answered(changed, Applied { added: 0, removed })
 }
 
@@ -111,24 +111,24 @@ fn delete(
 fn replace(
     alloc: Global,
     config: &mut Config,
-    path: &[Name],
+    path: &Path,
     name: &TableName,
     list: &[TableEntry],
 ) -> Result<Applied, ApplyFault>
     ensures { Applies result config.old config.new
         (counted config.old path.now name.now (change.replace config.old path.now name.now list.now)) }
 {
-    let counts = replaced(alloc, config, path, name, list)?;
+    let counts = replaced(alloc, config, path.names(), name, list)?;
     answered(config.replace(path, name, list), counts)
 }
 
 /// Empties a table.
 #[tactic(auto, using(crate::proofs::Applying::flush_applies))]
-fn flush_table(config: &mut Config, path: &[Name], name: &TableName) -> Result<Applied, ApplyFault>
+fn flush_table(config: &mut Config, path: &Path, name: &TableName) -> Result<Applied, ApplyFault>
     ensures { Applies result config.old config.new
         (counted config.old path.now name.now (change.flush_table config.old path.now name.now)) }
 {
-    let removed = entry_count(config, path, name);
+    let removed = entry_count(config, path.names(), name);
     answered(
         config.flush_table(path, name),
         Applied { added: 0, removed },
@@ -188,15 +188,15 @@ fn apply_case(
         }
         CommandView::FlushRules { path } => {
             let path = path_owned(alloc, path)?;
-            answered(config.flush_rules(path.names()), NOTHING)
+            answered(config.flush_rules(&path), NOTHING)
         }
         CommandView::FlushTables { path } => {
             let path = path_owned(alloc, path)?;
-            answered(config.flush_tables(path.names()), NOTHING)
+            answered(config.flush_tables(&path), NOTHING)
         }
         CommandView::FlushAll { path } => {
             let path = path_owned(alloc, path)?;
-            answered(config.flush_all(path.names()), NOTHING)
+            answered(config.flush_all(&path), NOTHING)
         }
         CommandView::Add {
             path,
@@ -206,7 +206,7 @@ fn apply_case(
             let path = path_owned(alloc, path)?;
             let table = table_owned(alloc, table)?;
             let list = entries_owned(alloc, addresses)?;
-            add(config, path.names(), &table, &list)
+            add(config, &path, &table, &list)
         }
         CommandView::Delete {
             path,
@@ -216,7 +216,7 @@ fn apply_case(
             let path = path_owned(alloc, path)?;
             let table = table_owned(alloc, table)?;
             let list = entries_owned(alloc, addresses)?;
-            delete(config, path.names(), &table, &list)
+            delete(config, &path, &table, &list)
         }
         CommandView::Replace {
             path,
@@ -226,12 +226,12 @@ fn apply_case(
             let path = path_owned(alloc, path)?;
             let table = table_owned(alloc, table)?;
             let list = entries_owned(alloc, addresses)?;
-            replace(alloc, config, path.names(), &table, &list)
+            replace(alloc, config, &path, &table, &list)
         }
         CommandView::FlushTable { path, table } => {
             let path = path_owned(alloc, path)?;
             let table = table_owned(alloc, table)?;
-            flush_table(config, path.names(), &table)
+            flush_table(config, &path, &table)
         }
     }
 }

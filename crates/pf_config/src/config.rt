@@ -170,10 +170,10 @@ impl Config {
 
     /// Removes all tables of a path.
     #[tactic(auto, using(crate::proofs::Few::tables_few), unfolding(crate::specs::Changes::flush_tables))]
-    pub fn flush_tables(&mut self, path: &[Name]) -> Result<(), ConfigFault>
+    pub fn flush_tables(&mut self, path: &Path) -> Result<(), ConfigFault>
         ensures { Changes result self.old self.new (Ok (flush_tables self.old path.now)) }
     {
-        let next = with_tables(self.alloc, &self.main, path, Tables::new(self.alloc)?)?;
+        let next = with_tables(self.alloc, &self.main, path.names(), Tables::new(self.alloc)?)?;
         self.put(next);
         Ok(())
     }
@@ -269,11 +269,11 @@ impl Config {
 
     /// Removes the rules of a path, its unnamed blocks, and the tables that no rule refers to any more.
     #[tactic(auto, using(crate::proofs::Few::rules_few), unfolding(crate::specs::Changes::flush_rules))]
-    pub fn flush_rules(&mut self, path: &[Name]) -> Result<(), ConfigFault>
+    pub fn flush_rules(&mut self, path: &Path) -> Result<(), ConfigFault>
         ensures { Changes result self.old self.new (Ok (flush_rules self.old path.now)) }
     {
         let items = Rc::new(self.alloc, Vec::new(self.alloc))?;
-        let left = placed(self.alloc, self.main.copied(self.alloc)?, path, items)?;
+        let left = placed(self.alloc, self.main.copied(self.alloc)?, path.names(), items)?;
         let next = tidied(self.alloc, left)?;
         self.put(next);
         Ok(())
@@ -281,13 +281,13 @@ impl Config {
 
     /// Removes what `flush_rules` does, and then all tables of the path.
     #[tactic(auto, using(crate::proofs::Few::rules_few, crate::proofs::Few::tables_few), unfolding(crate::specs::Changes::flush_rules, crate::specs::Changes::flush_tables))]
-    pub fn flush_all(&mut self, path: &[Name]) -> Result<(), ConfigFault>
+    pub fn flush_all(&mut self, path: &Path) -> Result<(), ConfigFault>
         ensures { Changes result self.old self.new (Ok (flush_all self.old path.now)) }
     {
         let items = Rc::new(self.alloc, Vec::new(self.alloc))?;
-        let left = placed(self.alloc, self.main.copied(self.alloc)?, path, items)?;
+        let left = placed(self.alloc, self.main.copied(self.alloc)?, path.names(), items)?;
         let tidy = tidied(self.alloc, left)?;
-        let next = with_tables(self.alloc, &tidy, path, Tables::new(self.alloc)?)?;
+        let next = with_tables(self.alloc, &tidy, path.names(), Tables::new(self.alloc)?)?;
         self.put(next);
         Ok(())
     }
@@ -296,69 +296,69 @@ impl Config {
     #[tactic(auto, unfolding(crate::specs::Changes::add))]
     pub fn add(
         &mut self,
-        path: &[Name],
+        path: &Path,
         name: &TableName,
         list: &[TableEntry],
     ) -> Result<(), ConfigFault>
         ensures { Changes result self.old self.new (add self.old path.now name.now list.now) }
     {
-        if self.edit_one(path, name, list, Edit::Insert)? {
+        if self.edit_one(path.names(), name, list, Edit::Insert)? {
             return Ok(());
         }
-        let table = added(self.alloc, self.table(path, name.as_str()), list)?;
-        self.set_table(path, name, &table)
+        let table = added(self.alloc, self.table(path.names(), name.as_str()), list)?;
+        self.set_table(path.names(), name, &table)
     }
 
     /// Makes the list the contents of a table, which is created if it is missing.
     #[tactic(auto, unfolding(crate::specs::Changes::replace))]
     pub fn replace(
         &mut self,
-        path: &[Name],
+        path: &Path,
         name: &TableName,
         list: &[TableEntry],
     ) -> Result<(), ConfigFault>
         ensures { Changes result self.old self.new (replace self.old path.now name.now list.now) }
     {
-        let table = replaced(self.alloc, self.table(path, name.as_str()), list)?;
-        self.set_table(path, name, &table)
+        let table = replaced(self.alloc, self.table(path.names(), name.as_str()), list)?;
+        self.set_table(path.names(), name, &table)
     }
 
     /// Takes the listed entries out of a table.
     #[tactic(auto, unfolding(crate::specs::Changes::delete))]
     pub fn delete(
         &mut self,
-        path: &[Name],
+        path: &Path,
         name: &TableName,
         list: &[TableEntry],
     ) -> Result<(), ConfigFault>
         ensures { Changes result self.old self.new (delete self.old path.now name.now list.now) }
     {
-        if self.edit_one(path, name, list, Edit::Remove)? {
+        if self.edit_one(path.names(), name, list, Edit::Remove)? {
             return Ok(());
         }
-        let Some(old) = self.table(path, name.as_str()) else {
+        let Some(old) = self.table(path.names(), name.as_str()) else {
             return Err(ConfigFault::NoTable);
         };
         if old.is_const() {
             return Err(ConfigFault::ConstTable);
         }
         let table = old.without_entries(self.alloc, list)?;
-        self.set_table(path, name, &table)
+        self.set_table(path.names(), name, &table)
     }
 
     /// Takes all entries out of a table.
     #[tactic(auto, unfolding(crate::specs::Changes::flush_table))]
-    pub fn flush_table(&mut self, path: &[Name], name: &TableName) -> Result<(), ConfigFault>
+    pub fn flush_table(&mut self, path: &Path, name: &TableName) -> Result<(), ConfigFault>
         ensures { Changes result self.old self.new (flush_table self.old path.now name.now) }
     {
-        let Some(old) = self.table(path, name.as_str()) else {
+        let Some(old) = self.table(path.names(), name.as_str()) else {
             return Err(ConfigFault::NoTable);
         };
         if old.is_const() {
             return Err(ConfigFault::ConstTable);
         }
         let table = Table::new(self.alloc, old.persist(), false)?;
-        self.set_table(path, name, &table)
+        self.set_table(path.names(), name, &table)
     }
 
     /// Puts a new map in the place of the old one.

@@ -12,7 +12,7 @@ use pf_addr::Addr;
 use pf_command::{Applied, ApplyFault};
 use pf_config::{Config, ConfigFault};
 use pf_entry::CommandView;
-use pf_rules::Name;
+use pf_rules::Path;
 use pf_tables::Table;
 use std::alloc::Global;
 
@@ -24,7 +24,7 @@ pub fn holds(table: &Table, addr: Addr) -> bool
 }
 
 /// [`Config::flush_rules`]: the rules go, and the tables that no rule refers to any more.
-pub fn flush_rules(config: &mut Config, path: &[Name]) -> Result<(), ConfigFault>
+pub fn flush_rules(config: &mut Config, path: &Path) -> Result<(), ConfigFault>
     ensures { Changes result config.old config.new (Ok (flush_rules config.old path.now)) }
 {
     config.flush_rules(path)
