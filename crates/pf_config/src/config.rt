@@ -173,7 +173,12 @@ impl Config {
     pub fn flush_tables(&mut self, path: &Path) -> Result<(), ConfigFault>
         ensures { Changes result self.old self.new (Ok (flush_tables self.old path.now)) }
     {
-        let next = with_tables(self.alloc, &self.main, path.names(), Tables::new(self.alloc)?)?;
+        let next = with_tables(
+            self.alloc,
+            &self.main,
+            path.names(),
+            Tables::new(self.alloc)?,
+        )?;
         self.put(next);
         Ok(())
     }
@@ -273,7 +278,12 @@ impl Config {
         ensures { Changes result self.old self.new (Ok (flush_rules self.old path.now)) }
     {
         let items = Rc::new(self.alloc, Vec::new(self.alloc))?;
-        let left = placed(self.alloc, self.main.copied(self.alloc)?, path.names(), items)?;
+        let left = placed(
+            self.alloc,
+            self.main.copied(self.alloc)?,
+            path.names(),
+            items,
+        )?;
         let next = tidied(self.alloc, left)?;
         self.put(next);
         Ok(())
@@ -285,7 +295,12 @@ impl Config {
         ensures { Changes result self.old self.new (Ok (flush_all self.old path.now)) }
     {
         let items = Rc::new(self.alloc, Vec::new(self.alloc))?;
-        let left = placed(self.alloc, self.main.copied(self.alloc)?, path.names(), items)?;
+        let left = placed(
+            self.alloc,
+            self.main.copied(self.alloc)?,
+            path.names(),
+            items,
+        )?;
         let tidy = tidied(self.alloc, left)?;
         let next = with_tables(self.alloc, &tidy, path.names(), Tables::new(self.alloc)?)?;
         self.put(next);
