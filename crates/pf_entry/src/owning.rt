@@ -43,6 +43,7 @@ fn names_owned(alloc: Global, names: &Names) -> Result<Vec<Name>, AllocError>
 }
 
 /// The path of a view's names, with memory of its own. Fails for lack of memory alone.
+#[tactic(auto, using(crate::proofs::Kept::path_fits))]
 pub fn path_owned(alloc: Global, names: &Names) -> Result<Path, AllocError>
     ensures { IfOk result (λ path. path ≡ names_of names.now) }
 {
