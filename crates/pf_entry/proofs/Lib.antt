@@ -5,3 +5,4 @@ pub mod Entries
 pub mod Whole
 pub mod Valid
 pub mod Short
+pub mod Kept

@@ -28,10 +28,10 @@ command_of (views.Load p profile text) = load (names_of p) profile text.now
 command_of (views.FlushRules p) = flush_rules (names_of p)
 command_of (views.FlushTables p) = flush_tables (names_of p)
 command_of (views.FlushAll p) = flush_all (names_of p)
-command_of (views.Add p table list) = add (names_of p) table.now (addresses_of list)
-command_of (views.Delete p table list) = delete (names_of p) table.now (addresses_of list)
-command_of (views.Replace p table list) = replace (names_of p) table.now (addresses_of list)
-command_of (views.FlushTable p table) = flush_table (names_of p) table.now
+command_of (views.Add p table list) = add (names_of p) table.bytes.now (addresses_of list.items)
+command_of (views.Delete p table list) = delete (names_of p) table.bytes.now (addresses_of list.items)
+command_of (views.Replace p table list) = replace (names_of p) table.bytes.now (addresses_of list)
+command_of (views.FlushTable p table) = flush_table (names_of p) table.bytes.now
 
 -- the entry that a view of bytes shows
 abbrev pub entry_of : EntryView → Entry

@@ -44,4 +44,4 @@ pub use fault::{BadEntry, EncodeFault};
 pub use limits::{ADDRESSES, CLIENT, ENTRY_BYTES};
 pub use owning::{addresses_owned, path_owned, table_owned};
 pub use pf_rules::{Name, Path, Profile, TableEntry, TableName};
-pub use view::{Addresses, CommandView, EntryView, Names};
+pub use view::{Addresses, CommandView, EntryView, Names, SomeAddressesView, TableNameView};

@@ -1,12 +1,12 @@
 //! The entry that a view shows, with memory of its own.
 
 ghost use Rattle.std.specs.Prelude.{◌≡◌, ◌≤◌, length, true, IfOk};
-ghost use Rattle.pf_entry.specs.Entry.{is_name, is_table, are_names, path_of, rest_fits, Fits};
+ghost use Rattle.pf_entry.specs.Entry.{is_name, are_names};
 ghost use Rattle.pf_entry.specs.Seen.{names_of, addresses_of, command_of, entry_of};
 ghost use Rattle.pf_entry.specs.Owned.{addresses_value, command_value, entry_value};
 
 use crate::command::{Command, Entry, SomeAddresses};
-use crate::view::{Addresses, CommandView, EntryView, Names};
+use crate::view::{Addresses, CommandView, EntryView, Names, SomeAddressesView, TableNameView};
 use pf_rules::{Name, Path, TableEntry, TableName};
 use std::alloc::{AllocError, Global};
 
@@ -21,11 +21,10 @@ fn name_owned(alloc: Global, bytes: &[u8]) -> Result<Name, AllocError>
 }
 
 /// The table's name, with memory of its own. Fails for lack of memory alone.
-pub fn table_owned(alloc: Global, bytes: &[u8]) -> Result<TableName, AllocError>
-    requires { is_table bytes.now ≡ true }
-    ensures { IfOk result (λ name. name ≡ bytes.now) }
+pub fn table_owned(alloc: Global, table: &TableNameView) -> Result<TableName, AllocError>
+    ensures { IfOk result (λ name. name ≡ table.now.bytes.now) }
 {
-    match TableName::new(alloc, bytes)? {
+    match TableName::new(alloc, table.bytes)? {
         Some(name) => Ok(name),
         None => unreachable!(),
     }
@@ -44,8 +43,8 @@ fn names_owned(alloc: Global, names: &Names) -> Result<Vec<Name>, AllocError>
 }
 
 /// The path of a view's names, with memory of its own. Fails for lack of memory alone.
+#[tactic(auto, using(crate::proofs::Kept::path_fits))]
 pub fn path_owned(alloc: Global, names: &Names) -> Result<Path, AllocError>
-    requires { are_names (names_of names.now) ≡ true }
     ensures { IfOk result (λ path. path ≡ names_of names.now) }
 {
     let owned = names_owned(alloc, names)?;
@@ -66,9 +65,14 @@ pub fn addresses_owned(alloc: Global, list: &Addresses) -> Result<Vec<TableEntry
     Ok(owned)
 }
 
+fn some_owned(alloc: Global, list: &SomeAddressesView) -> Result<SomeAddresses, AllocError>
+    ensures { IfOk result (λ s. addresses_value s.items.items ≡ addresses_of list.now.items) }
+{
+    let items = addresses_owned(alloc, &list.items)?;
+    Ok(SomeAddresses { items })
+}
+
 fn command_owned(alloc: Global, command: &CommandView) -> Result<Command, AllocError>
-    requires names { are_names (path_of (command_of command.now)) ≡ true }
-    requires rest { rest_fits (command_of command.now) ≡ true }
     ensures { IfOk result (λ c. command_value c ≡ command_of command.now) }
 {
     match command {
@@ -101,11 +105,11 @@ fn command_owned(alloc: Global, command: &CommandView) -> Result<Command, AllocE
         } => {
             let path = path_owned(alloc, path)?;
             let table = table_owned(alloc, table)?;
-            let items = addresses_owned(alloc, addresses)?;
+            let addresses = some_owned(alloc, addresses)?;
             Ok(Command::Add {
                 path,
                 table,
-                addresses: SomeAddresses { items },
+                addresses,
             })
         }
         CommandView::Delete {
@@ -115,11 +119,11 @@ fn command_owned(alloc: Global, command: &CommandView) -> Result<Command, AllocE
         } => {
             let path = path_owned(alloc, path)?;
             let table = table_owned(alloc, table)?;
-            let items = addresses_owned(alloc, addresses)?;
+            let addresses = some_owned(alloc, addresses)?;
             Ok(Command::Delete {
                 path,
                 table,
-                addresses: SomeAddresses { items },
+                addresses,
             })
         }
         CommandView::Replace {
@@ -145,9 +149,8 @@ fn command_owned(alloc: Global, command: &CommandView) -> Result<Command, AllocE
 }
 
 impl EntryView<'_> {
-    /// The entry that the view shows, as `decode` gives it: it has a spelling.
+    /// The entry that the view shows, with memory of its own. Fails for lack of memory alone.
     pub fn to_entry(&self, alloc: Global) -> Result<Entry, AllocError>
-        requires { Fits (entry_of self.now) }
         ensures { IfOk result (λ e. entry_value e ≡ entry_of self.now) }
     {
         let command = command_owned(alloc, &self.command)?;

@@ -1,6 +1,6 @@
 //! Reading an entry from its bytes, without memory.
 
-ghost use Rattle.std.specs.Prelude.{◌≡◌, option_map};
+ghost use Rattle.std.specs.Prelude.{◌≡◌, ◌≤◌, ◌<◌, IfSome, IsTrue, option_map};
 ghost use Rattle.std.specs.Int.{w16, w32, w64};
 ghost use Rattle.pf_entry.specs.Entry.{is_name, is_origin};
 ghost use Rattle.pf_rules.specs.Names.{begins_below};
@@ -9,9 +9,10 @@ ghost use Rattle.pf_entry.specs.Reading.{sign_at, base_at, address_at, addresses
 ghost use Rattle.pf_entry.specs.Reading.{add_at, delete_at, replace_at, flush_table_at, rest_at, command_at, asked_at};
 ghost use Rattle.pf_entry.specs.Reading.{entry_at, reading};
 ghost use Rattle.pf_entry.specs.Seen.{address_of, names_of, addresses_of, command_of, entry_of};
+ghost use Rattle.pf_entry.specs.declared.limits.TheConstants.{ADDRESSES, NAMES, NUMBERS};
 
 use crate::limits::{ADDRESSES, CLIENT, ENTRY_BYTES, HALF, LAST_MEMBER, NAMES, NUMBERS};
-use crate::view::{Addresses, CommandView, EntryView, Names};
+use crate::view::{Addresses, CommandView, EntryView, Names, SomeAddressesView, TableNameView};
 use pf_addr::{Addr, Prefix};
 use pf_rules::{Profile, TableEntry, is_anchor_text, is_table_name};
 
@@ -105,12 +106,12 @@ pub(crate) fn name_at(bytes: &[u8]) -> Option<(&[u8], &[u8])>
 }
 
 #[tactic(auto, unfolding(crate::specs::Reading::table_at))]
-fn table_at(bytes: &[u8]) -> Option<(&[u8], &[u8])>
-    ensures { option_map (λ x. (x.0.now, x.1.now)) result ≡ table_at bytes.now }
+fn table_at(bytes: &[u8]) -> Option<(TableNameView<'_>, &[u8])>
+    ensures { option_map (λ x. (x.0.bytes.now, x.1.now)) result ≡ table_at bytes.now }
 {
     let (name, rest) = counted_at(bytes)?;
     if is_table_name(Profile::One, name) {
-        Some((name, rest))
+        Some((TableNameView { bytes: name }, rest))
     } else {
         None
     }
@@ -160,6 +161,7 @@ pub(crate) fn address_at(bytes: &[u8]) -> Option<(TableEntry, &[u8])>
 
 /// Passes over that many names.
 fn names_at(count: u8, bytes: &[u8]) -> Option<(Names<'_>, &[u8])>
+    requires { count ≤ NAMES }
     ensures { option_map (λ x. (names_of x.0, x.1.now)) result ≡ names_at count bytes.now }
 {
     let mut rest = bytes;
@@ -172,7 +174,9 @@ fn names_at(count: u8, bytes: &[u8]) -> Option<(Names<'_>, &[u8])>
 
 /// Passes over that many addresses.
 fn addresses_at(count: u16, bytes: &[u8]) -> Option<(Addresses<'_>, &[u8])>
-    ensures { option_map (λ x. (addresses_of x.0, x.1.now)) result ≡ addresses_at count bytes.now }
+    requires { count ≤ ADDRESSES }
+    ensures count { IfSome result (λ x. x.0.count ≡ count) }
+    ensures addresses { option_map (λ x. (addresses_of x.0, x.1.now)) result ≡ addresses_at count bytes.now }
 {
     let mut rest = bytes;
     for _ in 0..count {
@@ -197,7 +201,8 @@ fn path_at(bytes: &[u8]) -> Option<(Names<'_>, &[u8])>
 
 #[tactic(auto, unfolding(crate::specs::Reading::list_at))]
 fn list_at(least: u16, bytes: &[u8]) -> Option<(Addresses<'_>, &[u8])>
-    ensures { option_map (λ x. (addresses_of x.0, x.1.now)) result ≡ list_at least bytes.now }
+    ensures least { IfSome result (λ x. least ≤ x.0.count) }
+    ensures list { option_map (λ x. (addresses_of x.0, x.1.now)) result ≡ list_at least bytes.now }
 {
     let (count, rest) = u16_at(bytes)?;
     if count < least || usize::from(count) > ADDRESSES {
@@ -228,8 +233,9 @@ fn load_at<'a>(
 
 /// A table and its addresses.
 #[tactic(auto, unfolding(crate::specs::Reading::change_at))]
-fn change_at(least: u16, bytes: &[u8]) -> Option<(&[u8], Addresses<'_>, &[u8])>
-    ensures { option_map (λ x. (x.0.now, addresses_of x.1, x.2.now)) result ≡ change_at least bytes.now }
+fn change_at(least: u16, bytes: &[u8]) -> Option<(TableNameView<'_>, Addresses<'_>, &[u8])>
+    ensures least { IfSome result (λ x. least ≤ x.1.count) }
+    ensures change { option_map (λ x. (x.0.bytes.now, addresses_of x.1, x.2.now)) result ≡ change_at least bytes.now }
 {
     let (table, rest) = table_at(bytes)?;
     let (addresses, rest) = list_at(least, rest)?;
@@ -245,7 +251,7 @@ fn add_at<'a>(path: Names<'a>, bytes: &'a [u8]) -> Option<(CommandView<'a>, &'a 
         CommandView::Add {
             path,
             table,
-            addresses,
+            addresses: SomeAddressesView { items: addresses },
         },
         rest,
     ))
@@ -260,7 +266,7 @@ fn delete_at<'a>(path: Names<'a>, bytes: &'a [u8]) -> Option<(CommandView<'a>, &
         CommandView::Delete {
             path,
             table,
-            addresses,
+            addresses: SomeAddressesView { items: addresses },
         },
         rest,
     ))
@@ -326,7 +332,9 @@ fn command_at(format: u8, bytes: &[u8]) -> Option<(CommandView<'_>, &[u8])>
 /// Who asked, and the number there.
 #[tactic(auto, unfolding(crate::specs::Reading::asked_at))]
 fn asked_at(bytes: &[u8]) -> Option<((u8, u64), &[u8])>
-    ensures { option_map (λ x. (x.0, x.1.now)) result ≡ asked_at bytes.now }
+    ensures origin { IfSome result (λ x. IsTrue (is_origin x.0.0)) }
+    ensures number { IfSome result (λ x. x.0.1 < NUMBERS) }
+    ensures asked { option_map (λ x. (x.0, x.1.now)) result ≡ asked_at bytes.now }
 {
     let (origin, rest) = byte_at(bytes)?;
     let (number, rest) = u64_at(rest)?;

@@ -1,24 +1,45 @@
 //! Entries that borrow from the bytes that spell them.
 
-ghost use Rattle.std.specs.Prelude.{IsTrue, is_some};
+ghost use Rattle.std.specs.Prelude.{◌≤◌, ◌<◌, ◌^◌, IsTrue, is_some};
+ghost use Rattle.pf_entry.specs.Entry.{is_origin, is_table};
 ghost use Rattle.pf_entry.specs.Reading.{names_at, addresses_at};
+ghost use Rattle.pf_entry.specs.declared.limits.TheConstants.{ADDRESSES, NAMES};
 
 use pf_rules::Profile;
 
-/// Names that begin some bytes, each with its length. As an iterator it gives them in order.
+/// The names of a path, eight at most, that begin some bytes, each with its length. As an iterator it gives them in
+/// order.
 #[derive(Clone, Copy)]
 pub struct Names<'a> {
     pub(crate) count: u8,
     pub(crate) bytes: &'a [u8],
+    ghost few: { count ≤ NAMES },
     ghost spelled: { IsTrue (is_some (names_at count bytes.now)) },
 }
 
-/// Addresses that begin some bytes. As an iterator it gives them in order.
+/// A table's name, lent.
+#[derive(Clone, Copy)]
+pub struct TableNameView<'a> {
+    /// The name.
+    pub bytes: &'a [u8],
+    pub ghost valid: { IsTrue (is_table bytes.now) },
+}
+
+/// Addresses that begin some bytes, 4,096 at most. As an iterator it gives them in order.
 #[derive(Clone, Copy)]
 pub struct Addresses<'a> {
     pub(crate) count: u16,
     pub(crate) bytes: &'a [u8],
+    ghost few: { count ≤ ADDRESSES },
     ghost spelled: { IsTrue (is_some (addresses_at count bytes.now)) },
+}
+
+/// One address or more, lent.
+#[derive(Clone, Copy)]
+pub struct SomeAddressesView<'a> {
+    /// The addresses, in their order.
+    pub items: Addresses<'a>,
+    ghost some: { 0 < items.count },
 }
 
 /// A command with its path. Names, addresses and text are in the bytes that were read.
@@ -53,25 +74,25 @@ pub enum CommandView<'a> {
         /// The anchor's path.
         path: Names<'a>,
         /// The table's name.
-        table: &'a [u8],
+        table: TableNameView<'a>,
         /// The addresses, in their order.
-        addresses: Addresses<'a>,
+        addresses: SomeAddressesView<'a>,
     },
     /// Addresses go from a table.
     Delete {
         /// The anchor's path.
         path: Names<'a>,
         /// The table's name.
-        table: &'a [u8],
+        table: TableNameView<'a>,
         /// The addresses, in their order.
-        addresses: Addresses<'a>,
+        addresses: SomeAddressesView<'a>,
     },
     /// A table has these addresses alone.
     Replace {
         /// The anchor's path.
         path: Names<'a>,
         /// The table's name.
-        table: &'a [u8],
+        table: TableNameView<'a>,
         /// The addresses, in their order.
         addresses: Addresses<'a>,
     },
@@ -80,11 +101,11 @@ pub enum CommandView<'a> {
         /// The anchor's path.
         path: Names<'a>,
         /// The table's name.
-        table: &'a [u8],
+        table: TableNameView<'a>,
     },
 }
 
-/// A command, who asked for it, and its number there.
+/// A command, who asked for it (a member, or 255), and its number there, below 2^48.
 #[derive(Clone, Copy)]
 pub struct EntryView<'a> {
     /// Who was asked: a member, 0 to 14, or 255.
@@ -93,4 +114,6 @@ pub struct EntryView<'a> {
     pub number: u64,
     /// The command, lent.
     pub command: CommandView<'a>,
+    pub ghost asked: { IsTrue (is_origin origin) },
+    pub ghost numbered: { number < 2 ^ 48 },
 }

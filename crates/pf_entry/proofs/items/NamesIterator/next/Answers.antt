@@ -15,7 +15,7 @@ returns-in_err-name-clause-steps c =
     rw c.from_residual.ensures (e, e)
 
 pub invariant_of-self : goal.invariant_of-self
-invariant_of-self c = record { spelled = next_spelled name_at c.args.self.now.count c.args.self.now.bytes.now c.in_ok-name.name.now c.in_ok-name.rest.now c.if-self-eq0.false c.args.self.now.spelled c.in_ok-name.ensures }
+invariant_of-self c = record { few = omega (arith, c.args.self.now.few); spelled = next_spelled name_at c.args.self.now.count c.args.self.now.bytes.now c.in_ok-name.name.now c.in_ok-name.rest.now c.if-self-eq0.false c.args.self.now.spelled c.in_ok-name.ensures }
 
 pub returns-clause-steps : goal.returns-clause-steps
 returns-clause-steps c = next_is name_at c.args.self.now.count c.args.self.now.bytes.now c.in_ok-name.name.now c.in_ok-name.rest.now c.if-self-eq0.false c.args.self.now.spelled c.in_ok-name.ensures
