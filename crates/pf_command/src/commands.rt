@@ -1,9 +1,8 @@
 //! A command changes a configuration.
 
-ghost use Rattle.std.specs.Prelude.{◌≡◌, IfOk, true};
+ghost use Rattle.std.specs.Prelude.{◌≡◌, IfOk};
 ghost use Rattle.pf_config.specs.Changes as change;
 ghost use Rattle.pf_grammar.specs.Reading.{reading};
-ghost use Rattle.pf_entry.specs.Entry.{are_names, path_of, rest_fits};
 ghost use Rattle.pf_entry.specs.Seen.{addresses_of, command_of};
 ghost use Rattle.pf_command.specs.Effect.{effect, entries_of, place_at, loaded, counted, after_command};
 ghost use Rattle.pf_command.specs.Answers.{Applies, Leaves};
@@ -145,18 +144,14 @@ fn entries_owned(alloc: Global, list: &Addresses) -> Result<Vec<TableEntry>, All
 
 /// Changes the configuration by a command, and answers how many entries were added to its table and removed from it.
 ///
-/// The command is as [`pf_entry::decode`] lends it. A load reads its text by its profile, for the main ruleset where
-/// the path is empty and else for an anchor. A command that is refused, or for which a growth is refused, changes
-/// nothing.
+/// A load reads its text by its profile, for the main ruleset where the path is empty and else for an anchor. A command
+/// that is refused, or for which a growth is refused, changes nothing.
 #[tactic(auto, using(crate::proofs::Applying::leaves_next))]
 pub fn apply(
     alloc: Global,
     config: &mut Config,
     command: &CommandView,
 ) -> Result<Applied, ApplyFault>
-    // The path and the table have names that commands may have, and the addresses are few enough.
-    requires names { are_names (path_of (command_of command.now)) ≡ true }
-    requires rest { rest_fits (command_of command.now) ≡ true }
     // The counts and the configuration are the effect's, or the refusal is.
     ensures effect { Applies result config.old config.new (effect config.old (command_of command.now)) }
     // The configuration is the one after the command, a refused one too.
@@ -173,8 +168,6 @@ fn apply_case(
     config: &mut Config,
     command: &CommandView,
 ) -> Result<Applied, ApplyFault>
-    requires names { are_names (path_of (command_of command.now)) ≡ true }
-    requires rest { rest_fits (command_of command.now) ≡ true }
     ensures { Applies result config.old config.new (effect config.old (command_of command.now)) }
 {
     match command {
@@ -205,7 +198,7 @@ fn apply_case(
         } => {
             let path = path_owned(alloc, path)?;
             let table = table_owned(alloc, table)?;
-            let list = entries_owned(alloc, addresses)?;
+            let list = entries_owned(alloc, &addresses.items)?;
             add(config, &path, &table, &list)
         }
         CommandView::Delete {
@@ -215,7 +208,7 @@ fn apply_case(
         } => {
             let path = path_owned(alloc, path)?;
             let table = table_owned(alloc, table)?;
-            let list = entries_owned(alloc, addresses)?;
+            let list = entries_owned(alloc, &addresses.items)?;
             delete(config, &path, &table, &list)
         }
         CommandView::Replace {

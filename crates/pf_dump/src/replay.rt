@@ -1,7 +1,6 @@
 //! A script is done on an empty configuration.
 
 ghost use Rattle.std.specs.Prelude.{◌≡◌, true, Some, IfOk, IfSome, OnOk, map, option_map};
-ghost use Rattle.pf_entry.specs.Entry.{are_names, path_of, rest_fits};
 ghost use Rattle.pf_entry.specs.Owned.{command_value};
 ghost use Rattle.pf_entry.specs.Seen.{command_of};
 ghost use Rattle.pf_command.specs.Effect.{after_command};
@@ -30,8 +29,6 @@ pub(crate) struct Stand<'a> {
 
 /// Does a command, which may be refused and then changes nothing.
 fn apply_view(alloc: Global, config: &mut Config, command: &CommandView) -> Result<(), AllocError>
-    requires names { are_names (path_of (command_of command.now)) ≡ true }
-    requires rest { rest_fits (command_of command.now) ≡ true }
     ensures { OnOk result (config.new ≡ after_command config.old (command_of command.now)) }
 {
     match apply(alloc, config, command) {

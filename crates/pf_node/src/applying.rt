@@ -1,8 +1,7 @@
 //! What is learned is applied in order.
 
-ghost use Rattle.std.specs.Prelude.{◌≡◌, ◌≤◌, ◌*◌, Some, IfOk, OnOk, OnErr, length, true};
+ghost use Rattle.std.specs.Prelude.{◌≡◌, ◌≤◌, ◌*◌, Some, IfOk, OnOk, OnErr, length};
 ghost use Rattle.pf_command.specs.Effect.{after_command, effect};
-ghost use Rattle.pf_entry.specs.Entry.{are_names, path_of, rest_fits};
 ghost use Rattle.pf_entry.specs.Reading.{reading};
 ghost use Rattle.pf_entry.specs.Seen.{command_of};
 ghost use Rattle.px_model.specs.Entries.{entry_of};
@@ -31,8 +30,6 @@ fn apply_command(
     config: &mut Config,
     command: &CommandView,
 ) -> Result<Outcome, AllocError>
-    requires names { are_names (path_of (command_of command.now)) ≡ true }
-    requires rest { rest_fits (command_of command.now) ≡ true }
     ensures ok { OnOk result (config.new ≡ after_command config.old (command_of command.now)) }
     ensures outcome { IfOk result (λ o. o ≡ outcome_of (effect config.old (command_of command.now))) }
     ensures err { OnErr result (config.new ≡ config.old) }

@@ -1,7 +1,6 @@
 //! What a line of pfctl's words does.
 
-ghost use Rattle.std.specs.Prelude.{◌≡◌, ◌++◌, OnOk, map, true, false, string_bytes};
-ghost use Rattle.pf_entry.specs.Entry.{are_names, path_of, rest_fits};
+ghost use Rattle.std.specs.Prelude.{◌≡◌, ◌++◌, OnOk, map, false, string_bytes};
 ghost use Rattle.pf_entry.specs.Owned.{command_value};
 ghost use Rattle.pf_entry.specs.Seen.{command_of};
 ghost use Rattle.pf_command.specs.Effect.{effect, after_command};
@@ -63,8 +62,6 @@ fn run_view(
     counts: bool,
     out: &mut String,
 ) -> Result<(), AllocError>
-    requires names { are_names (path_of (command_of command.now)) ≡ true }
-    requires rest { rest_fits (command_of command.now) ≡ true }
     ensures { OnOk result (Does (prints (after_command config.old (command_of command.now))
         (change_line counts (effect config.old (command_of command.now))))
         config.new (string_bytes out.old) (string_bytes out.new)) }

@@ -30,8 +30,8 @@ fn an_entry_vector(_rt: HostRuntime) -> Result<(), Fail> {
         return Err("another command".into());
     };
     expect(path.count() == 0, "another path")?;
-    expect(table == b"bad".as_slice(), "another table")?;
-    expect_one(addresses)
+    expect(table.bytes == b"bad".as_slice(), "another table")?;
+    expect_one(addresses.items)
 }
 
 const OTHER_FORMAT: &[u8] = b"\x02\0\0\0\0\0\0\0\0\0\x01\0\0\0\0\x05pass\n";

@@ -1,9 +1,8 @@
 //! Tables, and changes of a configuration.
 
-ghost use Rattle.std.specs.Prelude.{◌≡◌, Ok, true};
+ghost use Rattle.std.specs.Prelude.{◌≡◌, Ok};
 ghost use Rattle.pf_tables.specs.Tables.{in_table};
 ghost use Rattle.pf_config.specs.Changes.{Changes, flush_rules};
-ghost use Rattle.pf_entry.specs.Entry.{are_names, path_of, rest_fits};
 ghost use Rattle.pf_entry.specs.Seen.{command_of};
 ghost use Rattle.pf_command.specs.Answers.{Leaves};
 ghost use Rattle.pf_command.specs.Effect.{after_command};
@@ -36,8 +35,6 @@ pub fn apply(
     config: &mut Config,
     command: &CommandView,
 ) -> Result<Applied, ApplyFault>
-    requires names { are_names (path_of (command_of command.now)) ≡ true }
-    requires rest { rest_fits (command_of command.now) ≡ true }
     ensures { Leaves result config.old config.new (after_command config.old (command_of command.now)) }
 {
     pf_command::apply(alloc, config, command)
