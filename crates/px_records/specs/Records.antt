@@ -1,5 +1,5 @@
 -- What whoever keeps a record shows of it, and what the calls do to that. Sections are those of "Paxos Made Simple".
-use Rattle.std.specs.Prelude.{◌≡◌, ◌⊎◌, ◌≤◌, ℕ, zero, suc, Option, None, Some, IsSome, Result, Err}
+use Rattle.std.specs.Prelude.{◌≡◌, ◌⊎◌, ◌↔◌, ◌≤◌, ℕ, zero, suc, Option, None, Some, IsSome, Result, Err}
 use Rattle.std.specs.Prelude.{option_map}
 use Rattle.px_records.specs.declared.records.StoreFault.{StoreFault}
 use Rattle.px_records.specs.declared.records.StoreFault.TheVariants.{Failed, BadStore}
@@ -45,14 +45,14 @@ Rises (NewPromise p b) d = (d.slots p).promised ≤ b
 Rises (NewAccepted p b e) d = Unit {0}
 Rises (NewLearned p e) d = Unit {0}
 
--- A call that reads: while no call has failed the record stays and good rows stay good, and a stop leaves nothing that
--- it didn't leave before.
+-- A call that reads: while no call has failed the record stays, a row is good afterwards just where it was good before,
+-- and a stop leaves nothing that it didn't leave before.
 pub record IsRead {R : Type 0} (honest : R → Type 0) (stored : R → Record Bytes)
     (may_leave : R → Record Bytes → Type 0) (failed : R → ℕ) (good : R → Place →
     Type 0) (old new : R) : Type 0 where
   pub was : honest new → honest old
   pub stays : honest new → failed new ≡ 0 → stored new ≡ stored old
-  pub rows : honest new → failed new ≡ 0 → (x : Place) → good old x → good new x
+  pub rows : honest new → failed new ≡ 0 → (x : Place) → good old x ↔ good new x
   pub leaves : honest new → (d : Record Bytes) → may_leave new d → may_leave old d
 
 -- What a stop may leave after a commit: what it could leave before, or the record with the change.

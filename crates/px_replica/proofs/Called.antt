@@ -1,20 +1,15 @@
 -- Calls, from one form to another.
-use Rattle.std.proofs.Common.{◌≡◌, ◌≢◌, ◌∙◌, ◌↔◌, ◌<◌, ◌≤◌, ℕ, suc, List, [], Option, Some, None, IsSome, Result, Ok, Err, refl, sym, ap, subst, inl, inr, arith}
-use Rattle.std.specs.Prelude.{IfSome}
-use Rattle.px_model.specs.Node.{Record, Entry}
+use Rattle.std.proofs.Common.{◌≡◌, ◌∙◌, ◌↔◌, ◌<◌, ◌≤◌, ℕ, suc, List, [], Option, Result, Err, refl, sym, ap, subst, inl, inr, arith}
 use Rattle.px_model.specs.Node.Input.{Asks}
-use Rattle.px_model.specs.Fits.{Passes, EntryFits}
 use Rattle.px_model.specs.Spelling.{Bytes}
 use Rattle.px_model.specs.Step.{front}
 use Rattle.px_records.specs.Records.{IsRead, IsStoresFault}
-use Rattle.px_records.specs.Records.Place.{EntryAt, LastEntry}
 use Rattle.px_records.specs.declared.records.Records.{Ghosts}
 use Rattle.px_records.specs.declared.records.StoreFault.{StoreFault}
 use Rattle.px_records.specs.declared.records.StoreFault.TheVariants as store
 use Rattle.px_wire.specs.Message.{group}
-use Rattle.px_wire.specs.Sent.{is_command}
-use Rattle.px_replica.specs.Calls.{Call, Receives, IsBadEntry, HasBadEntry, OpenRefused}
-use Rattle.px_replica.specs.Faults.{fault_of, IsOfStore, IsOpenFault, SomeFails}
+use Rattle.px_replica.specs.Calls.{Call, Receives, HasBadEntry, OpenRefused}
+use Rattle.px_replica.specs.Faults.{IsOfStore, IsOpenFault, SomeFails}
 use Rattle.px_replica.specs.inner.Faults.{fault_of_store}
 use Rattle.px_replica.specs.Replicas.{learned_by, membership_of, state_in}
 use Rattle.px_replica.specs.Seen.{IsSound}
@@ -41,6 +36,7 @@ ask_call s t command old new answered c = record {
   fails = c.fails;
   counts = c.counts;
   bad = c.bad;
+  reported = c.reported;
   why = c.why;
   sound = c.sound;
   below = c.below;
@@ -48,24 +44,6 @@ ask_call s t command old new answered c = record {
   few = λ none. omega arith;
   membership = c.membership;
 }
-
--- ---- what is read before
-
-module _ {R : Type 0} (G : Ghosts R) (r s : R) (n : ℕ) (honest : G.is_honest s) (none : G.failed s ≡ 0)
-    (read : IsRead G.is_honest G.stored G.may_leave G.failed G.is_good r s) where
-  -- a row that is bad later was bad before
-  bad_entry_before : (p : ℕ) → IsBadEntry G s n p → IsBadEntry G r n p
-  bad_entry_before p (inl bad) = inl (λ good. bad (read.rows honest none (EntryAt p) good))
-  bad_entry_before p (inr bad) =
-      inr (λ fits. bad (subst (λ (d : Record Bytes). IfSome (d.learned p) (λ (e : Entry Bytes). EntryFits (Passes is_command) n e))
-      (sym (read.stays honest none)) fits))
-
-  pub bad_before : HasBadEntry G s n → HasBadEntry G r n
-  bad_before (inl bad) = inl (λ good. bad (read.rows honest none LastEntry good))
-  bad_before (inr found) = inr (found.0, bad_entry_before found.0 found.1)
-
-  pub bad_at_before : (p : ℕ) → IsBadEntry G s n p → HasBadEntry G r n
-  bad_at_before p bad = inr (p, bad_entry_before p bad)
 
 -- ---- openings
 

@@ -54,6 +54,7 @@ pub mod Spellings
 pub mod Planned
 pub mod Copied
 pub mod Steps
+pub mod BadRows
 pub mod Heard
 pub mod Called
 pub mod Telling

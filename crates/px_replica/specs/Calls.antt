@@ -11,6 +11,7 @@ use Rattle.px_model.specs.Seen.{reads_of}
 use Rattle.px_model.specs.declared.message.Reads.{Reads}
 use Rattle.px_model.specs.declared.message.Reads.TheVariants as reads
 use Rattle.px_records.specs.declared.records.Records.{Ghosts}
+use Rattle.px_records.specs.Records.{IsEnd}
 use Rattle.px_records.specs.Records.Place.{SlotAt, EntryAt, LastSlot, LastEntry}
 use Rattle.px_core.specs.declared.limits.TheConstants.{MEMBERS}
 use Rattle.px_wire.specs.declared.fault.WireFault.{WireFault}
@@ -19,7 +20,7 @@ use Rattle.px_wire.specs.Message.{group, DatagramBytes}
 use Rattle.px_wire.specs.Members.{as_sent, Passing}
 use Rattle.px_wire.specs.Sent.{is_command}
 use Rattle.px_replica.specs.Faults.{fault_of, IsRefusedBy, IsOfStore, IsOfTheStore, IsReceiveFault, IsOpenFault}
-use Rattle.px_replica.specs.Faults.{SomeFails}
+use Rattle.px_replica.specs.Faults.{IsOfBadRow, SomeFails}
 use Rattle.px_replica.specs.Made.{answer, Makes, LeavesOne}
 use Rattle.px_replica.specs.Replicas.{records_of, learned_by, membership_of, has_failed, state_in, IsUnspelled}
 use Rattle.px_replica.specs.Seen.{IsSound}
@@ -41,9 +42,11 @@ abbrev pub IsBadEntry : {R : Type 0} → Ghosts R → R → (members position : 
 IsBadEntry G r n p =
     (G.is_good r (EntryAt p) → ⊥) ⊎ (IfSome ((G.stored r).learned p) (λ e. EntryFits (Passes is_command) n e) → ⊥)
 
--- among the rows of what was learned is a bad one
+-- of the rows of what was learned the last one is bad, or one up to there
 abbrev pub HasBadEntry : {R : Type 0} → Ghosts R → R → (members : ℕ) → Type 0
-HasBadEntry G r n = (G.is_good r LastEntry → ⊥) ⊎ ((p : ℕ) × IsBadEntry G r n p)
+HasBadEntry G r n =
+    (G.is_good r LastEntry → ⊥) ⊎
+    ((end : ℕ) × IsEnd (G.stored r).learned end × ((p : ℕ) × (p < end) × IsBadEntry G r n p))
 
 -- among the rows that are read is a bad one
 abbrev pub AreBad : {R : Type 0} → Ghosts R → R → (members : ℕ) → Reads → Type 0
@@ -77,11 +80,14 @@ pub record Call {R : Type 0} {G : Ghosts R} (s t : Replica R G) (x : Input Bytes
   -- 80 comes from a failed member and from no other, and nothing changes then
   pub failed : (answered ≡ Some fault.Failed) ↔ (has_failed s ≡ true)
   pub still : has_failed s ≡ true → t ≡ s
-  -- 70 and 72 make it a failed one: 70 comes where a call on the record failed and nowhere else, 72 only for a bad row
+  -- 70 and 72 make it a failed one: 70 comes where a call on the record failed and nowhere else, 72 only where a bad row
+  -- was read; where a row that the input reads is bad, the answer is one of these, or out of memory
   pub fails : has_failed s ≡ false → ((has_failed t ≡ true) ↔ IsOfTheStore answered)
   pub counts : has_failed s ≡ false → ((answered ≡ Some fault.Store) ↔ (0 < G.failed (records_of t)))
   pub bad : G.is_honest (records_of t) → answered ≡ Some fault.BadStore →
       AreBad G (records_of s) (membership_of s).members (reads_of x)
+  pub reported : has_failed s ≡ false → G.is_honest (records_of t) →
+      AreBad G (records_of s) (membership_of s).members (reads_of x) → IsOfBadRow answered
   pub why : G.is_honest (records_of t) → IsSound (membership_of s).members (G.stored (records_of s)) →
       IsOfTheStore answered → SomeFails G.may_fail
   -- a record of which every row can be told stays one

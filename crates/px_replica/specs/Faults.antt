@@ -63,3 +63,8 @@ IsOpenFault fault.TooLong = ⊥
 IsOpenFault fault.Full = ⊥
 IsOpenFault fault.BallotsSpent = ⊥
 IsOpenFault fault.PositionsSpent = ⊥
+
+-- what can be answered where a row that is read is bad: 72; or 70 or out of memory, where it wasn't reached
+abbrev pub IsOfBadRow : Option NodeFault → Type 0
+IsOfBadRow None = ⊥
+IsOfBadRow (Some e) = IsOpenFault e

@@ -1,6 +1,6 @@
 -- What a replica stands for.
 use Rattle.std.specs.Prelude.{ℕ, Bool}
-use Rattle.px_model.specs.Node.{Volatile, Log}
+use Rattle.px_model.specs.Node.{Log}
 use Rattle.px_model.specs.World.{NodeState}
 use Rattle.px_model.specs.Spelling.{Bytes}
 use Rattle.px_records.specs.declared.records.Records.{Ghosts}

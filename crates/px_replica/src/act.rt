@@ -13,7 +13,7 @@ ghost use Rattle.px_records.specs.Records.{Rises};
 ghost use Rattle.px_wire.specs.Message.{group};
 ghost use Rattle.px_wire.specs.Sent.{is_command};
 ghost use Rattle.px_replica.specs.Calls.{AreBad};
-ghost use Rattle.px_replica.specs.Faults.{IsRefusedBy};
+ghost use Rattle.px_replica.specs.Faults.{fault_of, IsOfBadRow, IsOpenFault, IsRefusedBy};
 ghost use Rattle.px_replica.specs.inner.Faults.{fault_of_store, fault_of_core, IsFromBelow, IsStoreFault};
 ghost use Rattle.px_replica.specs.Faults.{SomeFails};
 ghost use Rattle.px_replica.specs.Made.{answer, running, Makes, LeavesOne};
@@ -34,6 +34,7 @@ use std::alloc::Global;
 pub(crate) fn store_fault(fault: StoreFault) -> NodeFault
     ensures value { result ≡ fault_of_store fault }
     ensures own { IsFromBelow result }
+    ensures read { IsOpenFault result }
 {
     match fault {
         StoreFault::Memory => NodeFault::Memory,
@@ -137,6 +138,9 @@ pub(crate) fn act<R: Records>(
         IsStoreFault result → SomeFails R.may_fail }
     ensures bad { R.is_honest records.new → result ≡ Err NodeFault.BadStore →
         AreBad R.Records records.old (group_of member.old).members (reads_of (input_of event.now)) }
+    ensures reported { R.is_honest records.new →
+        AreBad R.Records records.old (group_of member.old).members (reads_of (input_of event.now)) →
+        IsOfBadRow (fault_of result) }
     ensures sound { R.is_honest records.new → IsSound (group_of member.old).members (R.stored records.old) →
         OnOk result (IsSound (group_of member.old).members (R.stored records.new)) }
     ensures same { R.members records.new ≡ R.members records.old }

@@ -1,6 +1,6 @@
 //! What a step reads of the record.
 
-ghost use Rattle.std.specs.Prelude.{◌≡◌, ◌≤◌, ◌<◌, ◌^◌, ◌↔◌, ℕ, Err, IfOk, IsTrue, true};
+ghost use Rattle.std.specs.Prelude.{◌≡◌, ◌≤◌, ◌<◌, ◌^◌, ◌↔◌, ℕ, Err, IfOk, OnOk, IsTrue, true};
 ghost use Rattle.pf_entry.specs.Entry.{is_origin};
 ghost use Rattle.px_model.specs.Bounds.{AnyCommand};
 ghost use Rattle.px_model.specs.Entries.{entry_of};
@@ -73,6 +73,7 @@ fn slot_at<R: Records>(records: &mut R, members: u8, position: u32) -> Result<Sl
         IsStoresFault result → SomeFails R.may_fail }
     ensures bad { R.is_honest records.new → result ≡ Err StoreFault.BadStore →
         IsBadSlot R.Records records.old members position }
+    ensures good { R.is_honest records.new → OnOk result (IsBadSlot R.Records records.old members position → ⊥) }
     ensures same { R.members records.new ≡ R.members records.old }
 {
     let slot = records.read_slot(position)?;
@@ -91,6 +92,7 @@ fn top_of<R: Records>(records: &mut R) -> Result<u32, StoreFault>
     ensures why { R.is_honest records.new → IsStoresFault result → SomeFails R.may_fail }
     ensures bad { R.is_honest records.new → result ≡ Err StoreFault.BadStore →
         R.is_good records.old LastSlot → ⊥ }
+    ensures good { R.is_honest records.new → OnOk result (R.is_good records.old LastSlot) }
     ensures same { R.members records.new ≡ R.members records.old }
 {
     records.read_top()
@@ -114,6 +116,7 @@ fn look_beside<R: Records>(
         IsStoresFault result → SomeFails R.may_fail }
     ensures bad { R.is_honest records.new → result ≡ Err StoreFault.BadStore →
         AreBad R.Records records.old members reads }
+    ensures good { R.is_honest records.new → OnOk result (AreBad R.Records records.old members reads → ⊥) }
     ensures same { R.members records.new ≡ R.members records.old }
 {
     match reads {
@@ -152,6 +155,7 @@ pub(crate) fn look<R: Records>(
         IsStoresFault result → SomeFails R.may_fail }
     ensures bad { R.is_honest records.new → result ≡ Err StoreFault.BadStore →
         AreBad R.Records records.old members reads }
+    ensures good { R.is_honest records.new → OnOk result (AreBad R.Records records.old members reads → ⊥) }
     ensures same { R.members records.new ≡ R.members records.old }
 {
     let meta = records.read_meta()?;

@@ -9,7 +9,7 @@ ghost use Rattle.px_model.specs.Spelling.{Bytes};
 ghost use Rattle.px_model.specs.Step.{nothing_volatile, positions};
 ghost use Rattle.px_model.specs.World.{started};
 ghost use Rattle.px_model.specs.Entries.{entry_of};
-ghost use Rattle.px_records.specs.Records.{IsRead, IsStoresFault};
+ghost use Rattle.px_records.specs.Records.{IsRead, IsEnd, IsStoresFault};
 ghost use Rattle.px_records.specs.Records.Place.{LastEntry};
 ghost use Rattle.px_wire.specs.Sent.{is_command};
 ghost use Rattle.px_replica.specs.inner.Copied.{IsCopied};
@@ -47,6 +47,7 @@ fn learned_at<R: Records>(
         IsStoresFault result → SomeFails R.may_fail }
     ensures bad { R.is_honest records.new → result ≡ Err StoreFault.BadStore →
         IsBadEntry R.Records records.old members position }
+    ensures good { R.is_honest records.new → OnOk result (IsBadEntry R.Records records.old members position → ⊥) }
     ensures same { R.members records.new ≡ R.members records.old }
 {
     match records.read_learned(position)? {
@@ -79,6 +80,8 @@ fn remember_at<R: Records>(
         IsStoresFault result → SomeFails R.may_fail }
     ensures bad { R.is_honest records.new → result ≡ Err StoreFault.BadStore →
         IsBadEntry R.Records records.old (group_of member.old).members position }
+    ensures good { R.is_honest records.new →
+        OnOk result (IsBadEntry R.Records records.old (group_of member.old).members position → ⊥) }
     ensures same { R.members records.new ≡ R.members records.old }
     ensures volatile { volatile_of member.new ≡ volatile_of member.old }
     ensures group { group_of member.new ≡ group_of member.old }
@@ -111,7 +114,9 @@ fn remember_below<R: Records>(
     ensures why { R.is_honest records.new → IsSound (group_of member.old).members (R.stored records.old) →
         IsStoresFault result → SomeFails R.may_fail }
     ensures bad { R.is_honest records.new → result ≡ Err StoreFault.BadStore →
-        HasBadEntry R.Records records.old (group_of member.old).members }
+        (p : ℕ) × (p < end) × IsBadEntry R.Records records.old (group_of member.old).members p }
+    ensures good { R.is_honest records.new → OnOk result ((p : ℕ) → p < end →
+        IsBadEntry R.Records records.old (group_of member.old).members p → ⊥) }
     ensures same { R.members records.new ≡ R.members records.old }
     ensures volatile { volatile_of member.new ≡ volatile_of member.old }
     ensures group { group_of member.new ≡ group_of member.old }
@@ -135,6 +140,8 @@ fn learned_end<R: Records>(records: &mut R) -> Result<u32, StoreFault>
     ensures why { (n : ℕ) → R.is_honest records.new → IsSound n (R.stored records.old) →
         IsStoresFault result → SomeFails R.may_fail }
     ensures bad { R.is_honest records.new → result ≡ Err StoreFault.BadStore → R.is_good records.old LastEntry → ⊥ }
+    ensures good { R.is_honest records.new → OnOk result (R.is_good records.old LastEntry) }
+    ensures last { R.is_honest records.new → IfOk result (λ end. IsEnd (R.stored records.new).learned end) }
     ensures same { R.members records.new ≡ R.members records.old }
 {
     records.read_learned_end()
@@ -154,6 +161,8 @@ fn read_kept<R: Records>(records: &mut R, member: &mut Member) -> Result<u64, St
         IsStoresFault result → SomeFails R.may_fail }
     ensures bad { R.is_honest records.new → result ≡ Err StoreFault.BadStore →
         HasBadEntry R.Records records.old (group_of member.old).members }
+    ensures good { R.is_honest records.new →
+        OnOk result (HasBadEntry R.Records records.old (group_of member.old).members → ⊥) }
     ensures same { R.members records.new ≡ R.members records.old }
     ensures volatile { volatile_of member.new ≡ volatile_of member.old }
     ensures group { group_of member.new ≡ group_of member.old }
@@ -176,7 +185,8 @@ impl<R: Records> Replica<R> {
     /// The member that a restart makes of its record: it has what the record has as learned, and nothing else.
     ///
     /// A refusal gives the record back: `Store`, `BadStore` for a row that no commit writes or an entry that has no
-    /// spelling, or `Memory`; but for `Store` the record is then as it was.
+    /// spelling, or `Memory`; but for `Store` the record is then as it was. A record of which a row that is read is such
+    /// a one isn't opened.
     pub fn open(alloc: Global, m: Membership, records: R) -> Result<Replica<R>, (NodeFault, R)>
         requires members { R.members records ≡ m.members }
         requires here { m.me < m.members }
@@ -188,6 +198,7 @@ impl<R: Records> Replica<R> {
         ensures was { IfOk result (λ r. R.is_honest (records_of r) → R.is_honest records) }
         ensures stop { IfOk result (λ r. R.is_honest (records_of r) → (left : Record Bytes) →
             R.may_leave (records_of r) left → R.may_leave records left) }
+        ensures good { IfOk result (λ r. R.is_honest (records_of r) → HasBadEntry R.Records records m.members → ⊥) }
         ensures refused { IfErr result (λ e. OpenRefused R.Records m.members records e.0 e.1) }
     {
         let mut records = records;

@@ -1,7 +1,6 @@
 -- the entry that was read is the bad row
 use Rattle.std.proofs.Common.{ℕ, subst, ap, ◌∙◌}
 use Rattle.px_replica.specs.Calls.{IsBadEntry}
-use Rattle.px_replica.specs.Members.{group_of}
 use Rattle.px_wire.specs.declared.membership.Membership.{Membership}
 use Rattle.px_replica.proofs.Steps.{bad_row}
 use Rattle.px_replica.proofs.opening.remember_at.Goals as goal

@@ -1,5 +1,5 @@
 -- what is learned is the record's, before and after
-use Rattle.std.proofs.Common.{◌∙◌, sym, refl, Err, inl, inr}
+use Rattle.std.proofs.Common.{◌∙◌, sym, refl}
 use Rattle.std.proofs.lemmas.Bool.{false_from_ne_true}
 use Rattle.px_wire.specs.Message.{group}
 use Rattle.px_replica.specs.Replicas.{membership_of, state_in, has_failed}

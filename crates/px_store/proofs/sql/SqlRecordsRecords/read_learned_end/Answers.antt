@@ -22,13 +22,13 @@ pub returns-in_err-_entry-clause-read : goal.returns-in_err-_entry-clause-read
 returns-in_err-_entry-clause-read g c =
     let none : c.end_at.new.self.failures ≡ 0 = search rules in
     let h = only_then {a = view_of g.S.Store c.args.self.now} {b = view_of g.S.Store c.end_at.new.self} {c = view_of g.S.Store c.entry_at.new.self} none c.end_at.ensures.reads c.entry_at.ensures.reads in
-    record { was = h.was; stays = λ x n. (h.keeps x n).same; rows = λ x n. (h.keeps x n).rows; leaves = h.leaves }
+    record { was = h.was; stays = λ x n. (h.keeps x n).same; rows = λ x n p. ((h.keeps x n).rows p, (h.keeps x n).back p); leaves = h.leaves }
 
 pub returns-clause-read : goal.returns-clause-read
 returns-clause-read g c =
     let none : c.end_at.new.self.failures ≡ 0 = search rules in
     let h = only_then {a = view_of g.S.Store c.args.self.now} {b = view_of g.S.Store c.end_at.new.self} {c = view_of g.S.Store c.entry_at.new.self} none c.end_at.ensures.reads c.entry_at.ensures.reads in
-    record { was = h.was; stays = λ x n. (h.keeps x n).same; rows = λ x n. (h.keeps x n).rows; leaves = h.leaves }
+    record { was = h.was; stays = λ x n. (h.keeps x n).same; rows = λ x n p. ((h.keeps x n).rows p, (h.keeps x n).back p); leaves = h.leaves }
 
 pub returns-clause-ok : goal.returns-clause-ok
 returns-clause-ok g c = λ honest.
