@@ -10,14 +10,14 @@ use crate::scripting::{ScriptRequest, ask_script};
 use crate::telling::tell_left;
 use crate::words::command;
 use clap::ArgMatches;
-use cli_io::{InputFault, Status, misused, out_of_memory, read_all};
+use cli_io::{InputFault, Status, UNREADABLE, misused, out_of_memory, read_all};
 use std::alloc::{AllocError, Global};
 use std::convert::AsStr;
 use std::fs;
 use std::io::{Read, Write};
 
 /// The text that an option names: of the input for `-`, else of a file; none without it. A file that can't be read is
-/// 40.
+/// 90.
 fn text_for<R: Read>(
     rt: &HostRuntime,
     alloc: Global,
@@ -29,9 +29,12 @@ fn text_for<R: Read>(
         Some("-") => read_all(alloc, reader),
         Some(path) => {
             let Ok(mut file) = fs::open(rt, path) else {
-                return Err(refused(40));
+                return Err(refused(UNREADABLE));
             };
-            read_all(alloc, &mut file)
+            match read_all(alloc, &mut file) {
+                Err(InputFault::Failed | InputFault::TooLong) => return Err(refused(UNREADABLE)),
+                read => read,
+            }
         }
     };
     match read {

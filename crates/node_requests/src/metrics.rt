@@ -162,7 +162,7 @@ fn push_node(alloc: Global, out: &mut String, f: &Figures) -> Result<(), AllocEr
             ("pfx_round", "Round of the last prepare.", f.round),
             (
                 "pfx_waiting",
-                "Commands that wait to be proposed.",
+                "Commands asked here and not learned yet.",
                 f.waiting as u64,
             ),
         ],
@@ -332,12 +332,12 @@ fn push_loop(alloc: Global, out: &mut String, t: &Counters) -> Result<(), AllocE
             ),
             (
                 "pfx_dropped_total",
-                "Datagrams with a wrong tag, or asks.",
+                "Datagrams dropped: a wrong tag, an ask, or a part of one.",
                 t.dropped,
             ),
             (
                 "pfx_ignored_total",
-                "Datagrams that spell nothing.",
+                "Datagrams that aren't for this member.",
                 t.ignored,
             ),
             ("pfx_turns_total", "Turns of the node.", t.turns),
