@@ -56,7 +56,7 @@ node_metrics f = metrics_of (codes "gauge")
     ((codes "pfx_front", codes "Least position not learned.", f.front)
     ∷ (codes "pfx_applied", codes "Positions applied.", f.applied)
     ∷ (codes "pfx_round", codes "Round of the last prepare.", f.round)
-    ∷ (codes "pfx_waiting", codes "Commands that wait to be proposed.", f.waiting) ∷ [])
+    ∷ (codes "pfx_waiting", codes "Commands asked here and not learned yet.", f.waiting) ∷ [])
 
 -- how its store is, and how many members there are
 abbrev pub state_metrics : Figures → List ℕ
@@ -119,8 +119,8 @@ out_metrics peers =
 abbrev pub loop_metrics : Counters → List ℕ
 loop_metrics t = metrics_of (codes "counter")
     ((codes "pfx_unsent_total", codes "Datagrams the system did not take.", t.unsent)
-    ∷ (codes "pfx_dropped_total", codes "Datagrams with a wrong tag, or asks.", t.dropped)
-    ∷ (codes "pfx_ignored_total", codes "Datagrams that spell nothing.", t.ignored)
+    ∷ (codes "pfx_dropped_total", codes "Datagrams dropped: a wrong tag, an ask, or a part of one.", t.dropped)
+    ∷ (codes "pfx_ignored_total", codes "Datagrams that aren't for this member.", t.ignored)
     ∷ (codes "pfx_turns_total", codes "Turns of the node.", t.turns)
     ∷ (codes "pfx_ticks_total", codes "Ticks of its clock.", t.ticks) ∷ [])
 
