@@ -3,8 +3,8 @@
 //! # Organization
 //!
 //! - [`SqlRecords::adopt`] takes a store with the record of its rows: what it holds is read (`finding`) and judged,
-//!   brought to format 3 (`making`, `adopt`) and read again (`opening`); [`SqlRecords::release`] gives its connection
-//!   back (`taking`).
+//!   brought to format 3 (`making`, `adopt`) and read again (`opening`); [`SqlRecords::reopen`] takes one that isn't
+//!   new, which must have its tables; [`SqlRecords::release`] gives its connection back (`taking`).
 //! - [`SqlRecords`] keeps [`Records`](px_records::Records) (`sql`): reads by a position (`looking`), writes of one row
 //!   each (`writing`), over one call that puts a row and one that asks for rows (`calls`). What rows say is in
 //!   `reading`.
@@ -53,6 +53,8 @@
 //!   whole, which show the record and which a member may take again. sqlite's contracts say nothing of the schema
 //!   that an opening finds after a stop: it finds the four tables or answers 73, where it finds any. That they
 //!   stand then is tested by rows_stores, which stops at each file call and counts the tables.
+//! - Whether a store is new isn't in the store: one that has lost all its tables looks as one that never had any. So
+//!   the caller says it, by `adopt` or `reopen`; a node that forgets what it promised could vote twice.
 //! - A keeper of which a stop leaves nothing at all would meet every clause on stops. So `Records` has two laws:
 //!   while no call has failed a stop leaves no more than what is stored (`settled`), and no less (`stays`).
 //! - **`read_top` reads the last position with a ballot, `read_learned_end` the last learned one**, from the end of the

@@ -15,6 +15,7 @@ use crate::fault::AdoptFault;
 use crate::formats::Format;
 use crate::keeper::SqlRecords;
 use crate::opening::read_again;
+use crate::tables::has_none;
 use px_records::Records;
 use sqlite::{Alter, Connection};
 use std::alloc::Global;
@@ -84,6 +85,48 @@ impl<S: Alter> SqlRecords<S> {
             }),
             Err(fault) => Err((fault, conn)),
         }
+    }
+
+    /// The record in a store that isn't new: as [`adopt`](SqlRecords::adopt), but a store without tables is refused with
+    /// 73, and isn't written to. Such a store has lost its tables, and with them what its node promised and accepted; or
+    /// a stop came before its first start had made them, and its node has promised nothing.
+    pub fn reopen(
+        alloc: Global,
+        conn: Connection<S>,
+        identity: Identity,
+    ) -> Result<SqlRecords<S>, (AdoptFault, Connection<S>)>
+        ensures begins { IfOk result (λ r. ⟦<SqlRecords<S> as Records>⟧.failed r ≡ 0) }
+        ensures members { IfOk result (λ r. ⟦<SqlRecords<S> as Records>⟧.members r ≡ identity.members) }
+        ensures clean { IfOk result (λ r. HasCleanDisk (state S.Store (connection_of r)) →
+            HasCleanDisk (state S.Store conn)) }
+        ensures refused { IfErr result (λ e. HasCleanDisk (state S.Store e.1) → HasCleanDisk (state S.Store conn)) }
+        ensures known { IfOk result (λ r. (f : Format) × Began f (state S.Store conn)) }
+        ensures lost { (state S.Store conn).now.schema ≡ no_schema → (state S.Store conn).in_transaction ≡ false →
+            result ≡ Err (AdoptFault.StoreVersion, conn) }
+        ensures unknown { (IsKnown (state S.Store conn).now.schema → ⊥) → (state S.Store conn).in_transaction ≡ false →
+            result ≡ Err (AdoptFault.StoreVersion, conn) }
+        ensures as_it_was { IfErr result (λ e. HasCleanDisk (state S.Store e.1) →
+            IsVerdict e.0 → IsSame (state S.Store conn) (state S.Store e.1)) }
+        ensures rows { IfOk result (λ r. HasCleanDisk (state S.Store (connection_of r)) → (f : Format) →
+            Began f (state S.Store conn) → IsOpened S.Store r (record_at f (state S.Store conn).now.trees)) }
+        ensures adopted { IfOk result (λ r. HasCleanDisk (state S.Store (connection_of r)) → (f : Format) →
+            Began f (state S.Store conn) → refusal f identity (state S.Store conn).now.trees ≡ None) }
+        ensures judged { IfErr result (λ e. HasCleanDisk (state S.Store e.1) → (f : Format) →
+            Began f (state S.Store conn) →
+            IsVerdict e.0 → refusal f identity (state S.Store conn).now.trees ≡ Some e.0) }
+        ensures found { IfOk result (λ r. HasCleanDisk (state S.Store (connection_of r)) →
+            IsOwn identity (state S.Store conn).now.trees →
+            IsOpened S.Store r (record_at Format.Three (state S.Store conn).now.trees)) }
+        ensures unfound { IfErr result (λ e. HasCleanDisk (state S.Store e.1) →
+            IsOwn identity (state S.Store conn).now.trees → IsVerdict e.0 → e.0 ≡ AdoptFault.StoreVersion) }
+        ensures stop { HasCleanDisk (state S.Store (connection_after result)) → (f : Format) →
+            Began f (state S.Store conn) → LeavesOr (IsBrought f identity (state S.Store conn).now.trees)
+            (state S.Store conn) (state S.Store (connection_after result)) }
+    {
+        if conn.is_autocommit() && has_none(conn.schema()) {
+            return Err((AdoptFault::StoreVersion, conn));
+        }
+        SqlRecords::adopt(alloc, conn, identity)
     }
 
     /// Gives the connection back, to be closed or taken again. It takes no memory, and may be called after a failure.
