@@ -53,22 +53,8 @@ fn checked(
     )
 }
 
-/// Whether a store has no table yet, so that a node that is started makes them.
-fn has_no_table(
-    rt: &HostRuntime,
-    path: &str,
-    conn: &mut Connection<FileStore<File>>,
-) -> Result<bool, Outcome>
-    ensures { OnErr result ((result ≡ Err Memory) ⊎ (result ≡ Err (Refused 70))) }
-{
-    match conn.query_row("SELECT count(*) FROM sqlite_schema", &[]) {
-        Ok(row) => Ok(row.get::<u32>(0) == Ok(0)),
-        Err(error) => Err(failed_outcome(rt, path, error)),
-    }
-}
-
-/// The format that a store says, 0 where that is none of a node's; none of a store that says nothing yet, in which a
-/// node that is started writes it.
+/// The format that a store says, 0 where that is none of a node's, or it has no such table; none of a store that says
+/// nothing yet, in which a node that is started writes it.
 fn format_of(
     rt: &HostRuntime,
     path: &str,
@@ -80,11 +66,7 @@ fn format_of(
         Ok(row) => Ok(Some(row.get::<u32>(0).unwrap_or(0))),
         Err(Error::QueryReturnedNoRows) => Ok(None),
         Err(Error::SqlInputError(CompileError::OutOfMemory)) => Err(Outcome::Memory),
-        Err(Error::SqlInputError(_)) => match has_no_table(rt, path, conn) {
-            Ok(true) => Ok(None),
-            Ok(false) => Ok(Some(0)),
-            Err(outcome) => Err(outcome),
-        },
+        Err(Error::SqlInputError(_)) => Ok(Some(0)),
         Err(error) => Err(failed_outcome(rt, path, error)),
     }
 }
@@ -100,7 +82,7 @@ fn adopted(
 ) -> Outcome
     ensures { (file new : Bool) → IsStoreless file new result }
 {
-    match SqlRecords::adopt(alloc, conn, identity_of(m)) {
+    match SqlRecords::reopen(alloc, conn, identity_of(m)) {
         Ok(_records) => Outcome::Sound,
         Err((fault, conn)) => {
             let mut conn = conn;

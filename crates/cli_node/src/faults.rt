@@ -59,6 +59,14 @@ pub(crate) fn owner_of<S: Alter>(
     Ok((row.get::<u32>(0)?, row.get::<u32>(1)?, row.get::<u32>(2)?))
 }
 
+/// Whether a store has no tables.
+fn is_bare<S: Alter>(conn: &mut Connection<S>) -> bool {
+    match conn.query_row("SELECT count(*) FROM sqlite_schema", &[]) {
+        Ok(row) => row.get::<u32>(0) == Ok(0),
+        Err(_) => false,
+    }
+}
+
 /// Says why a store isn't taken.
 pub(crate) fn say_judged<S: Alter>(
     rt: &HostRuntime,
@@ -79,6 +87,13 @@ pub(crate) fn say_judged<S: Alter>(
             );
             return;
         }
+    }
+    if fault == AdoptFault::StoreVersion && is_bare(conn) {
+        let _said = eprintln!(rt;
+            "pfx: error: store {path} has no tables: its record is lost; if a kill ended the first start before they \
+             were made, and the node never ran, remove it"
+        );
+        return;
     }
     let _said = eprintln!(rt; "pfx: error: store {path}: {fault}");
 }

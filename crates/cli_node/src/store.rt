@@ -209,7 +209,7 @@ fn open_store(
 }
 
 /// The record of a member in the store that its words name, where that was found: 93, 94, 70, 73, 72 and 71, in this
-/// order.
+/// order. A store that this start doesn't make has its tables.
 pub(crate) fn record_at(
     rt: &HostRuntime,
     alloc: Global,
@@ -226,7 +226,12 @@ pub(crate) fn record_at(
         Ok(conn) => conn,
         Err(outcome) => return Err(outcome),
     };
-    match SqlRecords::adopt(alloc, conn, identity_of(m)) {
+    let taken = if is_made(words.is_from_file, words.is_new, found) {
+        SqlRecords::adopt(alloc, conn, identity_of(m))
+    } else {
+        SqlRecords::reopen(alloc, conn, identity_of(m))
+    };
+    match taken {
         Ok(records) => Ok(records),
         Err((fault, conn)) => {
             let mut conn = conn;

@@ -58,7 +58,7 @@ fn adopted<S: Alter + Drop>(
     ensures rows { IfOk result (λ r. ⟦<SqlRecords<S> as Records>⟧.is_honest r → Began Three (state S.Store conn) →
         ⟦<SqlRecords<S> as Records>⟧.stored r ≡ record_at Three (state S.Store conn).now.trees) }
 {
-    match SqlRecords::adopt(alloc, conn, identity) {
+    match SqlRecords::reopen(alloc, conn, identity) {
         Ok(records) => Ok(records),
         Err((fault, _)) => Err(closed_of(fault)),
     }
