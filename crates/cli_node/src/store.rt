@@ -1,6 +1,8 @@
 //! A node's store: opened where it is, and made where it may be.
 
 ghost use Rattle.std.specs.Prelude.{◌≡◌, ◌≢◌, ◌⊎◌, Err, IfOk, IfErr, OnErr, true, false};
+ghost use Rattle.sqlite.specs.Held.{state};
+ghost use Rattle.px_store.specs.Tables.{no_schema};
 ghost use Rattle.cli_node.specs.declared.outcome.Outcome.TheVariants.{Memory, Refused};
 ghost use Rattle.cli_node.specs.declared.store.TheConstants.{NO_STORE, FILE_IS_THERE};
 ghost use Rattle.cli_node.specs.inner.Outcomes.{adopt_outcome};
@@ -208,8 +210,26 @@ fn open_store(
     }
 }
 
+/// The record in a database: a store that was there before the start has its tables.
+fn taken<S: Alter>(
+    alloc: Global,
+    conn: Connection<S>,
+    identity: Identity,
+    found: Found,
+) -> Result<SqlRecords<S>, (AdoptFault, Connection<S>)>
+    ensures members { IfOk result (λ r. ⟦<SqlRecords<S> as Records>⟧.members r ≡ identity.members) }
+    ensures begins { IfOk result (λ r. ⟦<SqlRecords<S> as Records>⟧.failed r ≡ 0) }
+    ensures lost { found ≡ Found.Store → (state S.Store conn).now.schema ≡ no_schema →
+        (state S.Store conn).in_transaction ≡ false → result ≡ Err (AdoptFault.StoreVersion, conn) }
+{
+    match found {
+        Found::Store => SqlRecords::reopen(alloc, conn, identity),
+        Found::Nothing | Found::Empty | Found::Other => SqlRecords::adopt(alloc, conn, identity),
+    }
+}
+
 /// The record of a member in the store that its words name, where that was found: 93, 94, 70, 73, 72 and 71, in this
-/// order. A store that this start doesn't make has its tables.
+/// order.
 pub(crate) fn record_at(
     rt: &HostRuntime,
     alloc: Global,
@@ -226,12 +246,7 @@ pub(crate) fn record_at(
         Ok(conn) => conn,
         Err(outcome) => return Err(outcome),
     };
-    let taken = if is_made(words.is_from_file, words.is_new, found) {
-        SqlRecords::adopt(alloc, conn, identity_of(m))
-    } else {
-        SqlRecords::reopen(alloc, conn, identity_of(m))
-    };
-    match taken {
+    match taken(alloc, conn, identity_of(m), found) {
         Ok(records) => Ok(records),
         Err((fault, conn)) => {
             let mut conn = conn;
