@@ -2,6 +2,7 @@
 
 ghost use Rattle.std.specs.Prelude.{◌≡◌, true, IfOk, IfSome};
 ghost use Rattle.pf_dump.specs.Scripts.{Gives};
+ghost use Rattle.pf_dump.specs.Done.{IsDoneTo};
 
 use crate::replay::replayed;
 use crate::same::is_same;
@@ -9,10 +10,12 @@ use crate::script::script_of;
 use pf_config::Config;
 use std::alloc::{AllocError, Global};
 
-/// Whether a script of `ctl`'s form, done on an empty configuration, gives this one: the same skipped interfaces, rules
-/// and tables at the same paths. False also where one of its lines is no change, or a ruleset in it has no end.
+/// Whether a script of `ctl`'s form, done on an empty configuration, gives this one: each of its lines is a change, a
+/// ruleset in it has an end, and it leaves the same skipped interfaces, rules and tables at the same paths.
 pub fn gives(alloc: Global, script: &[u8], config: &Config) -> Result<bool, AllocError>
-    ensures { IfOk result (λ b. b ≡ true → Gives script.now config.now) }
+    ensures gives { IfOk result (λ b. b ≡ true → Gives script.now config.now) }
+    ensures done { IfOk result (λ b. b ≡ true → IsDoneTo script.now config.now) }
+    ensures back { IfOk result (λ b. IsDoneTo script.now config.now → b ≡ true) }
 {
     match replayed(alloc, script)? {
         Some(made) => is_same(alloc, &made, config),
@@ -23,7 +26,8 @@ pub fn gives(alloc: Global, script: &[u8], config: &Config) -> Result<bool, Allo
 /// A script that gives the configuration: one load a path, and before it the entries of its tables where its text would
 /// be too long with them. None where a path's rules are too long for an entry as they are shown.
 pub fn dump(alloc: Global, config: &Config) -> Result<Option<Vec<u8>>, AllocError>
-    ensures { IfOk result (λ o. IfSome o (λ s. Gives s.items config.now)) }
+    ensures gives { IfOk result (λ o. IfSome o (λ s. Gives s.items config.now)) }
+    ensures done { IfOk result (λ o. IfSome o (λ s. IsDoneTo s.items config.now)) }
 {
     let script = script_of(alloc, config)?;
     if gives(alloc, &script, config)? {
