@@ -1,10 +1,12 @@
--- A run at a socket with keys.
-use Rattle.std.proofs.Common.{◌≡◌, ℕ, Bool, List, subst}
+-- A run at a socket, with keys or without.
+use Rattle.std.proofs.Common.{◌≡◌, ℕ, Bool, List, Option, subst}
 use Rattle.px_records.specs.declared.records.Records.{Ghosts}
 use Rattle.px_transport.specs.Sending.{Sealer}
 use Rattle.px_wire.specs.declared.membership.Membership.{Membership}
 use Rattle.node_udp.specs.Sockets.{SocketEvent}
 use Rattle.node_control.specs.Sockets.{RunsSealedHearing}
+use Rattle.cli_node.specs.declared.sealing.Sealing.{Sealing}
+use Rattle.cli_node.specs.inner.Running.{RunsWith}
 
 -- the wire's keys and its sealer are these
 pub as_sealed : {R : Type 0} (G : Ghosts R) (m : Membership) (hears : Bool) (given back : R) (events : List SocketEvent)
@@ -13,3 +15,8 @@ pub as_sealed : {R : Type 0} (G : Ghosts R) (m : Membership) (hears : Bool) (giv
 as_sealed G m hears given back events ks ks' s s' e f r =
     subst (λ (x : Sealer). RunsSealedHearing G m hears ks' x given back events) f
     (subst (λ (x : List (List ℕ)). RunsSealedHearing G m hears x s given back events) e r)
+
+-- asks are heard where this says so
+pub hearing_is : {R : Type 0} (G : Ghosts R) (m : Membership) (s : Option Sealing) (given back : R) (events : List SocketEvent)
+    (hears hears' : Bool) → hears ≡ hears' → RunsWith G m s hears given back events → RunsWith G m s hears' given back events
+hearing_is G m s given back events hears hears' e r = subst (λ (x : Bool). RunsWith G m s x given back events) e r

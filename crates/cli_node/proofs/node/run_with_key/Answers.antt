@@ -1,7 +1,7 @@
 -- a run at the socket
-use Rattle.std.proofs.Common.{refl, inl, inr}
+use Rattle.std.proofs.Common.{Some, refl, inl, inr}
 use Rattle.cli_node.proofs.Refusing.{wire_is}
-use Rattle.cli_node.proofs.Sealed.{as_sealed}
+use Rattle.cli_node.proofs.Sealed.{as_sealed, hearing_is}
 use Rattle.cli_node.proofs.node.run_with_key.Goals as goal
 
 pub returns-clause-hosted : goal.returns-clause-hosted
@@ -22,7 +22,8 @@ returns-clause-ran g c = inr (
   λ honest.
       let r = c.run_sealed_at_socket-ended.ensures.ran (wire_is _ _ _ c.in-Ok.is c.sealed.ensures.new) honest c.requires.failed in (
         r.0,
-        as_sealed _ _ _ _ _ _ _ _ _ _ (wire_is _ _ _ c.in-Ok.is c.sealed.ensures.keys)
-            (wire_is _ _ _ c.in-Ok.is c.sealed.ensures.sealer) r.2,
+        hearing_is g.R.Records c.args.m (Some c.args.sealing) c.args.records c.run_sealed_at_socket-ended.result.1 r.0 _ _ c.hears_asks.ensures
+            (as_sealed _ _ _ _ _ _ _ _ _ _ (wire_is _ _ _ c.in-Ok.is c.sealed.ensures.keys)
+            (wire_is _ _ _ c.in-Ok.is c.sealed.ensures.sealer) r.2),
       ),
 )
