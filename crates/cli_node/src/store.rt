@@ -211,7 +211,7 @@ fn open_store(
 }
 
 /// The record in a database: a store that was there before the start has its tables.
-fn taken<S: Alter>(
+fn record_in<S: Alter>(
     alloc: Global,
     conn: Connection<S>,
     identity: Identity,
@@ -246,7 +246,7 @@ pub(crate) fn record_at(
         Ok(conn) => conn,
         Err(outcome) => return Err(outcome),
     };
-    match taken(alloc, conn, identity_of(m), found) {
+    match record_in(alloc, conn, identity_of(m), found) {
         Ok(records) => Ok(records),
         Err((fault, conn)) => {
             let mut conn = conn;

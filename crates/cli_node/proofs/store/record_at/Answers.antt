@@ -4,7 +4,7 @@ use Rattle.cli_node.specs.inner.Stores.{IsStoreless}
 use Rattle.cli_node.proofs.Stores.{by_fault}
 use Rattle.cli_node.proofs.store.record_at.Goals as goal
 
-pub returns-in-Err-taken-clause-refused : goal.returns-in-Err-taken-clause-refused
-returns-in-Err-taken-clause-refused c =
+pub returns-in-Err-record_in-clause-refused : goal.returns-in-Err-record_in-clause-refused
+returns-in-Err-record_in-clause-refused c =
     subst (λ (o : Outcome). IsStoreless c.args.words.is_from_file c.args.words.is_new o) (sym c.untaken.ensures)
-    (by_fault c.args.words.is_from_file c.args.words.is_new c.in-Err-taken.fault)
+    (by_fault c.args.words.is_from_file c.args.words.is_new c.in-Err-record_in.fault)
