@@ -1,14 +1,15 @@
 //! A script is done on an empty configuration.
 
-ghost use Rattle.std.specs.Prelude.{◌≡◌, true, Some, IfOk, IfSome, OnOk, map, option_map};
-ghost use Rattle.pf_entry.specs.Owned.{command_value};
+ghost use Rattle.std.specs.Prelude.{◌≡◌, true, not, Some, IfOk, IfSome, OnOk, map, option_map};
+ghost use Rattle.pf_entry.specs.Owned.{command_value, is_over};
 ghost use Rattle.pf_entry.specs.Seen.{command_of};
 ghost use Rattle.pf_command.specs.Effect.{after_command};
-ghost use Rattle.pf_scripts.specs.Ctl.{pfctl, pfctl_line, at_words, stepped};
+ghost use Rattle.pf_scripts.specs.Ctl.{words_read, pfctl, pfctl_line, at_words, stepped};
 ghost use Rattle.pf_scripts.specs.Seen.{line_of};
 ghost use Rattle.pf_scripts.specs.inner.Seen.{waiting_of};
 ghost use Rattle.pf_dump.specs.Scripts.{configured};
-ghost use Rattle.pf_dump.specs.inner.Seen.{StepsTo};
+ghost use Rattle.pf_dump.specs.Done.{change_done, pfctl_done, words_done, line_done, script_done};
+ghost use Rattle.pf_dump.specs.inner.Seen.{StepsTo, IsDone, IsPlace};
 
 use pf_arguments::{Command, CommandView, EncodeFault, Entry, decode, encode};
 use pf_command::{ApplyFault, apply};
@@ -38,9 +39,12 @@ fn apply_view(alloc: Global, config: &mut Config, command: &CommandView) -> Resu
     }
 }
 
-/// Does a change by way of an entry's bytes; false where no entry says it.
+/// Does a change by way of an entry's bytes; false where no entry has room for it.
+#[tactic(auto, using(crate::proofs::Done::is_short))]
 fn apply_change(alloc: Global, config: &mut Config, command: Command) -> Result<bool, AllocError>
-    ensures { IfOk result (λ b. b ≡ true → config.new ≡ after_command config.old (command_value command)) }
+    ensures made { IfOk result (λ b. b ≡ true → config.new ≡ after_command config.old (command_value command)) }
+    ensures short { IfOk result (λ b. b ≡ not (is_over (record {
+        origin = 0; number = 0; command = command_value command }))) }
 {
     let entry = Entry {
         origin: 0,
@@ -57,7 +61,7 @@ fn apply_change(alloc: Global, config: &mut Config, command: Command) -> Result<
             apply_view(alloc, config, &view.command)?;
             Ok(true)
         }
-        Err(_) => Ok(false),
+        Err(_) => unreachable!(),
     }
 }
 
@@ -68,8 +72,10 @@ fn run_words(
     words: &[&str],
     text: &[u8],
 ) -> Result<bool, AllocError>
-    ensures { IfOk result (λ b. b ≡ true →
+    ensures configuration { IfOk result (λ b. b ≡ true →
         config.new ≡ (pfctl config.old (map (λ w. w.now) words.now) text.now).configuration) }
+    ensures done { IfOk result (λ b. IsDone
+        (change_done config.old (words_read config.old (map (λ w. w.now) words.now) text.now)) b config.new) }
 {
     match read_words(alloc, config, words, text)? {
         WordsRead::Change(command) => apply_change(alloc, config, command),
@@ -84,8 +90,10 @@ fn run_pfctl<'a>(
     config: &mut Config,
     words: Vec<&'a str>,
 ) -> Result<Stand<'a>, AllocError>
-    ensures { IfOk result (λ s. s.goes_on ≡ true →
+    ensures leads { IfOk result (λ s. s.goes_on ≡ true →
         StepsTo (pfctl_line config.old (map (λ x. x.now) words.entry.items)) config.new s.waiting) }
+    ensures done { IfOk result (λ s. IsPlace
+        (pfctl_done config.old (map (λ x. x.now) words.entry.items)) s.goes_on config.new s.waiting) }
 {
     if takes_text(alloc, &words)? {
         return Ok(Stand {
@@ -109,8 +117,10 @@ fn run_line<'a>(
     config: &mut Config,
     words: Vec<&'a str>,
 ) -> Result<Stand<'a>, AllocError>
-    ensures { IfOk result (λ s. s.goes_on ≡ true →
+    ensures leads { IfOk result (λ s. s.goes_on ≡ true →
         StepsTo (at_words config.old (Some (map (λ x. x.now) words.entry.items))) config.new s.waiting) }
+    ensures done { IfOk result (λ s. IsPlace
+        (words_done config.old (Some (map (λ x. x.now) words.entry.items))) s.goes_on config.new s.waiting) }
 {
     match words.as_slice() {
         [first, ..] => {
@@ -136,8 +146,11 @@ fn step<'a>(
     waiting: Option<Waiting<'a>>,
     line: Line<'a>,
 ) -> Result<Stand<'a>, AllocError>
-    ensures { IfOk result (λ s. s.goes_on ≡ true →
+    ensures leads { IfOk result (λ s. s.goes_on ≡ true →
         StepsTo (stepped config.old (option_map waiting_of waiting.entry) (line_of line.entry)) config.new
+        s.waiting) }
+    ensures done { IfOk result (λ s. IsPlace
+        (line_done config.old (option_map waiting_of waiting.entry) (line_of line.entry)) s.goes_on config.new
         s.waiting) }
 {
     match waiting {
@@ -171,9 +184,10 @@ fn step<'a>(
 
 /// The configuration that a script makes of an empty one; none where one of its lines is no change, or a ruleset has no
 /// end.
-#[tactic(auto, unfolding(crate::specs::Scripts::configured))]
+#[tactic(auto, unfolding(crate::specs::Scripts::configured, crate::specs::Done::script_done))]
 pub(crate) fn replayed(alloc: Global, script: &[u8]) -> Result<Option<Config>, AllocError>
-    ensures { IfOk result (λ o. IfSome o (λ c. c ≡ configured script.now)) }
+    ensures configured { IfOk result (λ o. IfSome o (λ c. c ≡ configured script.now)) }
+    ensures done { IfOk result (λ o. o ≡ script_done script.now) }
 {
     let mut config = Config::new(alloc)?;
     let mut waiting = None;
