@@ -1,5 +1,5 @@
 -- What the lines of a script do.
-use Rattle.std.proofs.Common.{◌≡◌, ◌≢◌, ◌∙◌, sym, ap, subst, refl, ℕ, zero, suc, ◌<◌, ◌≤◌, ◌+◌, ◌×◌, Bool, true, false, cond, ◌&&◌, ◌||◌, nat_lt, nat_le, nat_eq, List, [], ◌∷◌, ◌++◌, Option, Some, None, Result, Ok, Err, length, slice_get, arith, IsTrue, unwrap_or}
+use Rattle.std.proofs.Common.{◌≡◌, ◌≢◌, ◌∙◌, sym, ap, subst, refl, ℕ, zero, suc, ◌<◌, ◌≤◌, ◌+◌, Bool, true, false, cond, ◌&&◌, ◌||◌, nat_lt, nat_le, nat_eq, List, [], ◌∷◌, ◌++◌, Option, Some, None, Result, Ok, Err, length, slice_get, arith, IsTrue, unwrap_or}
 use Rattle.std.specs.List.{flat_map, list_any}
 use Rattle.std.proofs.lemmas.Bool.{lt-ltb, le-ltb, le-leb, lt-leb, cond-true, cond-false}
 use Rattle.std.proofs.lemmas.List.{append-nil, append_assoc}
@@ -41,7 +41,8 @@ use Rattle.pf_lab.specs.declared.bench.Bench.{Bench}
 use Rattle.pf_lab.specs.declared.state.Lab.{Lab}
 use Rattle.pf_lab.proofs.Outcomes.{unknown_stays}
 use Rattle.std.proofs.Common.{codes, Vec, Global}
-use Rattle.std.specs.Prelude.{Bor, IfSome}
+use Rattle.std.specs.Prelude.{IfSome}
+use Rattle.std.specs.Borrow.{Bor}
 use Rattle.std.specs.Option.{option_copied}
 use Rattle.clap.specs.Words.{Text}
 use Rattle.px_model.specs.Step.{front}
