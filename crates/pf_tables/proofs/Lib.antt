@@ -4,6 +4,7 @@ pub mod Longest
 pub mod Deciding
 pub mod Parting
 pub mod Keyed
+pub mod Filtering
 pub mod OneEdit
 pub mod Words
 pub mod Meeting

@@ -39,7 +39,11 @@ fn in_part(part: &Part, addr: Addr) -> Option<&TableEntry>
         return None;
     }
     let prefix = Prefix::containing(addr, part.len);
-    match part.keys.binary_search(&bits_of(prefix.base())) {
+    let key = bits_of(prefix.base());
+    if !part.filter.may_contain(key) {
+        return None;
+    }
+    match part.keys.binary_search(&key) {
         Ok(at) => nth(&part.entries, at),
         Err(_) => None,
     }

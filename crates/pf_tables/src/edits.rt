@@ -35,7 +35,13 @@ fn put(part: &mut Part, entry: &TableEntry) -> Result<(), AllocError>
 {
     match part.keys.binary_search(&bits_of(entry.prefix.base())) {
         Ok(_) => Ok(()),
-        Err(at) => insert_at(&mut part.entries, &mut part.keys, at, entry),
+        Err(at) => insert_at(
+            &mut part.entries,
+            &mut part.keys,
+            &mut part.filter,
+            at,
+            entry,
+        ),
     }
 }
 

@@ -3,7 +3,8 @@
 //! # Organization
 //!
 //! - [`Table`] is a set of signed prefixes with two flags. It keeps its entries apart by family and length, each part
-//!   in order of address, so that a look-up searches each used length by halves, the longest first.
+//!   in order of address, so that a look-up searches each used length by halves, the longest first. It skips a length
+//!   where a Bloom filter shows that no entry has the address's first bits.
 //! - Its changes make a new table, so running out of memory changes nothing; copies share the entries. An [`Edit`] of
 //!   one entry is made in place, where no copy shares them.
 //! - [`Interval`]: numbers of 32 bits from a first one on.
@@ -18,6 +19,7 @@
 //! - Both find the few of many that may hold an address, without a rule at hand; a configuration is made of them.
 #![tactic(auto)]
 
+mod bloom;
 mod classes;
 mod column;
 mod contents;

@@ -6,6 +6,7 @@ ghost use Rattle.pf_addr.specs.Blocks.{IsBlock};
 ghost use Rattle.pf_tables.specs.Tables.{is_of, is_v6, bool_eq};
 ghost use Rattle.pf_tables.specs.Parts.{joined, IsOrdered, AreBlocks, AreParts};
 
+use crate::bloom::BloomFilter;
 use crate::keys::keys_of;
 use crate::part::Part;
 use pf_addr::Addr;
@@ -61,11 +62,13 @@ fn part_with(alloc: Global, v6: bool, len: u8, entries: &[TableEntry]) -> Result
 {
     let own = Vec::from_slice(alloc, entries)?;
     let keys = keys_of(alloc, &own)?;
+    let filter = BloomFilter::of(alloc, &keys)?;
     Ok(Part {
         v6,
         len,
         entries: own,
         keys,
+        filter,
     })
 }
 
