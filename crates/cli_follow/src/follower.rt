@@ -292,7 +292,8 @@ impl Follower {
         answer: Result<Reply, AskFault>,
     ) -> Result<Due, AllocError>
         requires guarded { (wanted_of self.old).is_guarded ≡ true }
-        ensures due { IfOk result (λ d. (asks : ℕ) → after_status (wanted_of self.old) (follower_of asks self.old) answer
+        ensures due { IfOk result (λ d. (asks : ℕ) →
+            after_status (wanted_of self.old) (follower_of asks self.old) answer
             ≡ due_in (wanted_of self.new) (follower_of asks self.new) d) }
         ensures wanted { wanted_of self.new ≡ wanted_of self.old }
         ensures status { IfOk result (λ d. d ≡ Due.Status → ⊥) }
@@ -315,7 +316,8 @@ impl Follower {
         writer: &mut W,
         errors: &mut E,
     ) -> Result<(), WriteFault>
-        ensures whole { OnOk result ((asks : ℕ) → Written (written_to (wanted_of self.old).file (follower_of asks self.old))
+        ensures whole { OnOk result ((asks : ℕ) →
+            Written (written_to (wanted_of self.old).file (follower_of asks self.old))
             (follower_of asks self.new) (W.contents writer.old) (W.contents writer.new)) }
         ensures front { OnErr result ((asks : ℕ) → AppendsFront (W.contents writer.old) (W.contents writer.new)
             (written_to (wanted_of self.old).file (follower_of asks self.old)).out) }

@@ -27,8 +27,9 @@ const BELOW: &str =
 written whole. With --nft: the sets of the position, all rules in place of those before, and the end of the sets and
 chains of the position written before. In front stands the members' guard: what members send each other from and to
 their addresses and ports passes whatever the rules say, with later fragments, and for IPv6 neighbour discovery and
-packet too big. A control socket where nobody answers is asked again. Refusals are said on standard error: 87 and 88 as for
-check --nft, what was written before stands; 89 the file of interfaces, 40 words that don't go together, and it ends.";
+packet too big. A control socket where nobody answers is asked again. Refusals are said on standard error: 87 and 88
+as for check --nft, what was written before stands; 89 the file of interfaces, 40 words that don't go together, and it
+ends.";
 
 /// `follow --control PATH [--nft --interfaces FILE [--no-member-guard]] [--pf DIR] [--turns T]`
 fn follow_command<'a>(alloc: Global) -> Result<Command<'a>, AllocError>

@@ -67,9 +67,10 @@ const NODE_BELOW: &str =
     "In the end it writes front F applied A: how many positions are learned without a gap, and applied. A refusal is
 refused CODE: 40 words, 83 no key in its file, or others may read it, 70 the store failed, 71 it is of another cluster
 or member, 72 a bad row, 73 another format, 82 its address is taken, or that of --metrics is none of this machine
-alone, 84 its control socket is taken, 90 its file of settings can't be read, 92 (with the line) that file is wrong, 93 its
-store isn't there, 94 with --new it is, 95 its file of starts is missing or damaged. Standard error says which file or address, and what the system said. --check
-writes ok, or the first refusal. With a key or a control socket asks by UDP aren't heard.";
+alone, 84 its control socket is taken, 90 its file of settings can't be read, 92 (with the line) that file is wrong, 93
+its store isn't there, 94 with --new it is, 95 its file of starts is missing or damaged. Standard error says which file
+or address, and what the system said. --check writes ok, or the first refusal. With a key or a control socket asks by
+UDP aren't heard.";
 
 const KEY_BELOW: &str =
     "It writes 64 hexadecimal digits, as pfx node --key takes them, into FILE, which is made and its owner alone may

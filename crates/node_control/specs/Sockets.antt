@@ -65,7 +65,8 @@ pub record RanAt (g : Group) (m : ℕ) (first : Record Bytes) (events : List Soc
 
 -- The same with a key, over a wire of packets that are opened with these keys and sealed so: this went over the socket.
 pub record RanSealed (g : Group) (keys : List (List ℕ)) (s : Sealer) (m : ℕ) (first : Record Bytes)
-    (events : List SocketEvent) (trace : List TraceEvent) (end : NodeState Bytes) (unanswered : List Bytes) : Type 0 where
+    (events : List SocketEvent) (trace : List TraceEvent) (end : NodeState Bytes) (unanswered : List Bytes)
+    : Type 0 where
   pub addresses : List Address
   pub me : ℕ
   pub passages : List Passage

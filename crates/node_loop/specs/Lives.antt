@@ -110,8 +110,8 @@ IsUnopened G m given w v ended back =
     (e : NodeFault) × (ended ≡ Fault e) × OpenRefused G m.members given e back × (v ≡ w)
 
 -- it isn't opened; or it is, and turns are made over the wire and nothing else is done
-abbrev pub Runs : {R : Type 0} → (G : Ghosts R) → Membership → (given : R) → (w v : List WireEvent) → Ended → (back : R) →
-    Type 0
+abbrev pub Runs : {R : Type 0} → (G : Ghosts R) → Membership → (given : R) → (w v : List WireEvent) → Ended →
+    (back : R) → Type 0
 Runs G m given w v ended back =
     IsUnopened G m given w v ended back ⊎ Life G (λ s t. Serves s t w v ended) m given back
 
@@ -170,10 +170,12 @@ IsStart g me gave ds =
 -- In these runs, the latest first, each over a wire of its own, this happened to the member, and these events are the
 -- last ones, since a call failed in the latest. A run is what went over its wire in it: the member's moves, and then,
 -- where a call failed, what came for it and after it, and what was handed over again.
-abbrev pub AreOver : Group → (me : ℕ) → (runs : List (List WireEvent)) → List TraceEvent → (last : List WireEvent) → Type 0
+abbrev pub AreOver : Group → (me : ℕ) → (runs : List (List WireEvent)) → List TraceEvent → (last : List WireEvent) →
+    Type 0
 AreOver g me [] ds last = (ds ≡ []) × (last ≡ [])
 AreOver g me (es ∷ runs) ds last =
-    (before : List TraceEvent) × (lost : List WireEvent) × (start : List TraceEvent) × (hears : Bool) × (moves : List Move) ×
+    (before : List TraceEvent) × (lost : List WireEvent) × (start : List TraceEvent) × (hears : Bool) ×
+    (moves : List Move) ×
     AreOver g me runs before lost × IsStart g me (given_in lost) start × AreMoves g me hears moves [] [] ×
     (es ≡ events_of moves ++ last) × AreAmong (handed_in last) (sent_by (trace_of moves)) ×
     (ds ≡ before ++ (start ++ trace_of moves))

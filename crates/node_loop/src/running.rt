@@ -95,7 +95,8 @@ fn tick_if<R: Records, W: Wire>(
 /// What the clock does, by what has come.
 fn action<T: Timer>(timer: &mut T, peer_progress: &mut PeerProgress, now: u64, view: View) -> Action
     ensures looked { peer_progress.new ≡ looked peer_progress.old }
-    ensures timer_events { Adds (T.timer_events timer.old) (T.timer_events timer.new) (looks now view peer_progress.old) }
+    ensures timer_events { Adds (T.timer_events timer.old) (T.timer_events timer.new)
+        (looks now view peer_progress.old) }
     ensures short { IsShort result }
 {
     let action = timer.action(now, view);
@@ -206,7 +207,8 @@ pub fn round<R: Records, W: Wire, T: Timer>(
     ensures took { OnOk result (Moves (W.traffic wire.old) (W.traffic wire.new) (λ es es'. (n : ℕ) × (is_due : Bool) ×
         TookThenTicked n is_due (standing node.old es room.old) (standing node.new es' room.new))) }
     ensures saw { OnOk result ((es : List WireEvent) → W.traffic wire.old es → (n : ℕ) × SawThenLooked n now
-        (standing node.old es room.old) (seen_in room.old) (seen_in room.new) (T.timer_events timer.old) (T.timer_events timer.new)) }
+        (standing node.old es room.old) (seen_in room.old) (seen_in room.new) (T.timer_events timer.old)
+        (T.timer_events timer.new)) }
     ensures few { IfOk result (λ made. made.turns ≤ 65) }
     ensures looks { OnOk result (LooksTimes 1 (T.timer_events timer.old) (T.timer_events timer.new)) }
     ensures wait { IfOk result (λ p. p.wait ≤ 100) }

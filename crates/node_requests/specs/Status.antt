@@ -67,7 +67,8 @@ wire_line t =
 -- control clients N served REQUESTS refused REQUESTS
 abbrev pub control_line : Counters → List ℕ
 control_line t =
-    line (fields ((codes "control clients ", t.clients) ∷ (codes " served ", t.served) ∷ (codes " refused ", t.refused) ∷ []))
+    line (fields ((codes "control clients ", t.clients) ∷ (codes " served ", t.served) ∷
+    (codes " refused ", t.refused) ∷ []))
 
 -- members ADDRESS:PORT ..
 abbrev pub members_line : Counters → List ℕ
@@ -78,4 +79,5 @@ members_line t = (codes "members " ++ string_bytes t.members) ++ codes "\n"
 abbrev pub status_lines : Figures → Health → Counters → List ℕ
 status_lines f h t =
     (((((((node_line f t.up ++ front_line f) ++ standing_line h t) ++ config_line f)
-    ++ flat_map peer_line t.peers.items) ++ wire_line t) ++ store_line f.has_failed) ++ control_line t) ++ members_line t
+    ++ flat_map peer_line t.peers.items) ++ wire_line t) ++ store_line f.has_failed) ++ control_line t)
+    ++ members_line t

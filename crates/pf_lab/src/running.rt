@@ -59,7 +59,8 @@ fn ask(node: &mut Node<MemoryRecords>, entry: &EntryView) -> Result<Outcome, Lab
     ensures went { OnOk result (IsAnswered (group (membership_of node.old))
         (answer (membership_of node.old).members (membership_of node.old).me (state_in node.old)
         (Asks (view_of entry.now).command)) (state_in node.old) (state_in node.new) []) }
-    ensures reported { IfOk result (λ o. o ≡ outcome_of (state_in node.old).stored.meta (Asks (view_of entry.now).command)
+    ensures reported { IfOk result (λ o. o ≡ outcome_of (state_in node.old).stored.meta
+        (Asks (view_of entry.now).command)
         (answer (membership_of node.old).members (membership_of node.old).me (state_in node.old)
         (Asks (view_of entry.now).command))) }
     ensures stays { OnErr result (state_in node.new ≡ state_in node.old) }

@@ -11,8 +11,8 @@ use Rattle.node_control.specs.Sockets.{RanAt, RanSealed}
 
 -- Of what happened to the member a front, of which this holds, with how the member is behind it and what is unanswered
 -- then. From there on the rest happened to it.
-pub record Front (g : Group) (m : ℕ) (Is : List TraceEvent → NodeState Bytes → List Bytes → Type 0) (trace : List TraceEvent)
-    (end : NodeState Bytes) : Type 0 where
+pub record Front (g : Group) (m : ℕ) (Is : List TraceEvent → NodeState Bytes → List Bytes → Type 0)
+    (trace : List TraceEvent) (end : NodeState Bytes) : Type 0 where
   pub before : List TraceEvent
   pub then : NodeState Bytes
   pub unanswered : List Bytes

@@ -104,8 +104,8 @@ HandledAs c d (Refused status) r = IsTurnedAway c d (no_text status) r
 HandledAs c d (Unread code) r = IsTurnedAway c d (refused code 0) r
 
 -- where figures alone are served, another path isn't found
-abbrev pub HandledIf : {R : Type 0} {G : Ghosts R} → (served : Bool) → (c d : HttpService R G) → RoutedValue → Response →
-    Type 0
+abbrev pub HandledIf : {R : Type 0} {G : Ghosts R} → (served : Bool) → (c d : HttpService R G) → RoutedValue →
+    Response → Type 0
 HandledIf true c d asked r = HandledAs c d asked r
 HandledIf false c d asked r = IsTurnedAway c d not_found r
 
