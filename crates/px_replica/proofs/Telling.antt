@@ -37,7 +37,7 @@ are_members g [] (d ∷ ds) a = absurd a
 are_members g (x ∷ xs) [] a = absurd a
 
 -- the k-th message, where there is a k-th datagram
-sent_at : (g : Group) (xs : List (Envelope Bytes)) (ds : List Datagram) (k : ℕ) (d : Datagram) →
+pub sent_at : (g : Group) (xs : List (Envelope Bytes)) (ds : List Datagram) (k : ℕ) (d : Datagram) →
     AreSpelled g xs ds → slice_get ds k ≡ Some d → (x : Envelope Bytes) × ((slice_get xs k ≡ Some x) × IsSpelled g x d)
 sent_at g [] [] k d a h = cc
 sent_at g (x ∷ xs) (e ∷ es) zero d a h =
