@@ -410,7 +410,7 @@ impl ControlSocket {
     ) {
         let health = service.handler.health(&service.counters);
         if health != self.health && service.counters.up >= START {
-            say(rt, service, self.health, health);
+            say(rt, service, health);
             self.health = health;
         }
     }

@@ -24,22 +24,21 @@ fn shown<R: Records>(service: &HttpService<R>) -> u32 {
     most
 }
 
-/// Says on standard error that the node's health was one and is another, and what is known of why.
+/// Says on standard error what the node's health is now, and what is known of why.
 pub(crate) fn say<R: Records, RT: Clock + Eprint>(
     rt: &RT,
     service: &HttpService<R>,
-    was: Health,
-    is: Health,
+    health: Health,
 ) {
     let node = &service.handler.node;
     let counters = &service.counters;
     let applied = node.applied();
-    let level = if is == Health::Works {
+    let level = if health == Health::Works {
         "info"
     } else {
         "warning"
     };
-    let advice = if is == Health::Stuck && counters.large > 0 {
+    let advice = if health == Health::Stuck && counters.large > 0 {
         ": if large datagrams don't arrive, use a key"
     } else {
         ""
@@ -49,12 +48,10 @@ pub(crate) fn say<R: Records, RT: Clock + Eprint>(
         let _dated = eprint!(rt; "{}: ", date);
     }
     let _said = eprintln!(rt;
-        "node {} was {} and is {}: front {} has stood for {} seconds, {} commands wait here, {} of {} other \
-         members are heard, {} positions behind, refused by a higher round {} times, the longest datagram sent since \
-         is {} bytes{}",
+        "node {} is {}: front {} has stood for {} seconds, {} commands wait here, {} of {} other members are heard, \
+         {} positions behind, refused by a higher round {} times, the longest datagram sent since is {} bytes{}",
         node.membership().me(),
-        was.word(),
-        is.word(),
+        health.word(),
         node.front(),
         counters.stood,
         node.waiting(),
