@@ -1,16 +1,20 @@
 //! What a line of pfctl's words does.
 
 ghost use Rattle.std.specs.Prelude.{◌≡◌, ◌++◌, OnOk, map, false, string_bytes};
+ghost use Rattle.std.specs.Option.{option_copied};
 ghost use Rattle.pf_entry.specs.Owned.{command_value};
 ghost use Rattle.pf_entry.specs.Seen.{command_of};
 ghost use Rattle.pf_command.specs.Effect.{effect, after_command};
 ghost use Rattle.pf_arguments.specs.Asked.{is_too_long};
-ghost use Rattle.pf_scripts.specs.Ctl.{is_counted, counts_line, change_line, prints, pfctl};
-ghost use Rattle.pf_scripts.specs.inner.Seen.{Does};
+ghost use Rattle.pf_scripts.specs.Ctl.{is_counted, counts_line, change_line, prints, asked_at, looked, done_with};
+ghost use Rattle.pf_scripts.specs.Ctl.{pfctl};
+ghost use Rattle.pf_scripts.specs.inner.Seen.{Does, rows_matched};
 
+use crate::pfctl::matches_in;
 use crate::printing::{push_number, push_refusal};
-use crate::reading::read_words;
+use crate::reading::read_matches;
 use crate::words_read::WordsRead;
+use clap::ArgMatches;
 use pf_arguments::{Command, CommandView, EncodeFault, Entry, decode, encode};
 use pf_command::{Applied, ApplyFault, apply};
 use pf_config::Config;
@@ -102,7 +106,26 @@ fn run_change(
     }
 }
 
-/// Does what a line of pfctl's words asks for, `pfctl` itself first.
+/// Does what matches ask for, with the text of the file.
+pub(crate) fn run_matches(
+    alloc: Global,
+    config: &mut Config,
+    matches: Option<&ArgMatches<'_>>,
+    text: &[u8],
+    out: &mut String,
+) -> Result<(), AllocError>
+    ensures { OnOk result (Does (done_with config.old
+        (looked config.old text.now (asked_at text.now (rows_matched (option_copied matches.entry)))))
+        config.new (string_bytes out.old) (string_bytes out.new)) }
+{
+    match read_matches(alloc, config, matches, text)? {
+        WordsRead::Change(command) => run_change(alloc, config, command, out),
+        WordsRead::Refused(code, at) => push_refusal(alloc, out, code, at),
+        WordsRead::Output(output) => out.push_str(output.as_str()),
+    }
+}
+
+/// Does what a line of pfctl's words asks for, `pfctl` itself first, with the text of its file.
 pub(crate) fn run_words(
     alloc: Global,
     config: &mut Config,
@@ -113,9 +136,6 @@ pub(crate) fn run_words(
     ensures { OnOk result (Does (pfctl config.old (map (λ w. w.now) words.now) text.now)
         config.new (string_bytes out.old) (string_bytes out.new)) }
 {
-    match read_words(alloc, config, words, text)? {
-        WordsRead::Change(command) => run_change(alloc, config, command, out),
-        WordsRead::Refused(code, at) => push_refusal(alloc, out, code, at),
-        WordsRead::Output(output) => out.push_str(output.as_str()),
-    }
+    let matches = matches_in(alloc, words)?;
+    run_matches(alloc, config, matches.as_ref(), text, out)
 }

@@ -5,7 +5,8 @@ ghost use Rattle.std.specs.Option.{option_copied};
 ghost use Rattle.clap.specs.Words.{app_of, found_of, rows_of, first_of};
 ghost use Rattle.clap.specs.declared.builder.command.Command.TheViews.{out-Command};
 ghost use Rattle.pf_arguments.specs.Options.{pfctl_app};
-ghost use Rattle.pf_scripts.specs.Ctl.{rows_in, takes_text, is_standard, is_input};
+ghost use Rattle.pf_scripts.specs.Ctl.{rows_in, takes_text, takes_text_by, is_standard, is_input};
+ghost use Rattle.pf_scripts.specs.inner.Seen.{rows_matched};
 
 use crate::lines::stand_together;
 use clap::error::ErrorKind;
@@ -67,12 +68,20 @@ pub fn file_in<'a>(matches: &ArgMatches<'a>) -> Option<&'a str>
     matches.get_str("file")
 }
 
+/// Whether a ruleset follows words with these matches, none where `clap` refuses the words.
+pub(crate) fn takes_text_by(words: &[&str], matches: Option<&ArgMatches<'_>>) -> bool
+    ensures { result ≡ takes_text_by (map (λ w. w.now) words.now) (rows_matched (option_copied matches.entry)) }
+{
+    match matches {
+        Some(matches) => is_input(file_in(matches)),
+        None => stand_together("-f", "-", words),
+    }
+}
+
 /// Whether a ruleset follows the words, up to a line `.`.
 pub fn takes_text(alloc: Global, words: &[&str]) -> Result<bool, AllocError>
     ensures { IfOk result (λ b. b ≡ takes_text (map (λ w. w.now) words.now)) }
 {
-    match matches_in(alloc, words)? {
-        Some(matches) => Ok(is_input(file_in(&matches))),
-        None => Ok(stand_together("-f", "-", words)),
-    }
+    let matches = matches_in(alloc, words)?;
+    Ok(takes_text_by(words, matches.as_ref()))
 }

@@ -1,15 +1,16 @@
 //! What a line of pfctl's words asks for, and what it gives where nothing is changed.
 
 ghost use Rattle.std.specs.Prelude.{◌≡◌, IfOk, Ok, map};
-ghost use Rattle.clap.specs.Words.{found_of, rows_of};
+ghost use Rattle.std.specs.Option.{option_copied};
 ghost use Rattle.pf_rules.specs.declared.profile.Profile.TheVariants.{Two};
 ghost use Rattle.pf_grammar.specs.Reading.{reading};
 ghost use Rattle.pf_entry.specs.Owned.{command_value};
 ghost use Rattle.pf_command.specs.Effect.{place_at};
 ghost use Rattle.pf_arguments.specs.Asked.{given_in, asked};
 ghost use Rattle.pf_arguments.specs.Answers.{action_value, IsShort};
-ghost use Rattle.pf_scripts.specs.Ctl.{numbered, rows_asked, action_in, checked, looked, words_read, done_with, pfctl};
+ghost use Rattle.pf_scripts.specs.Ctl.{numbered, asked_at, checked, looked, words_read, done_with, pfctl};
 ghost use Rattle.pf_scripts.specs.WordsRead.{change_in, words_value, AsksShort, IsAskedAs};
+ghost use Rattle.pf_scripts.specs.inner.Seen.{rows_matched};
 
 use crate::listing::list;
 use crate::pfctl::{file_in, is_standard, matches_in};
@@ -22,12 +23,20 @@ use pf_grammar::{ParseFault, Place, Profile, parse};
 use pf_rules::Name;
 use std::alloc::{AllocError, Global};
 
-/// The action that matches ask for.
+/// The action that matches ask for, with the text of the file; none are there where `clap` refuses the words.
 #[tactic(auto, using(crate::proofs::Acted::fault_numbered))]
-fn action_of(alloc: Global, matches: &ArgMatches<'_>, text: &[u8]) -> Result<Action, ChangeFault>
-    ensures action { IsAskedAs result action_value (rows_asked text.now (rows_of (found_of matches.now))) }
+fn action_of(
+    alloc: Global,
+    matches: Option<&ArgMatches<'_>>,
+    text: &[u8],
+) -> Result<Action, ChangeFault>
+    ensures action { IsAskedAs result action_value
+        (asked_at text.now (rows_matched (option_copied matches.entry))) }
     ensures short { IfOk result IsShort }
 {
+    let Some(matches) = matches else {
+        return Err(ChangeFault::Refused(40));
+    };
     if !is_standard(file_in(matches)) {
         return Err(ChangeFault::Refused(40));
     }
@@ -37,18 +46,6 @@ fn action_of(alloc: Global, matches: &ArgMatches<'_>, text: &[u8]) -> Result<Act
             Some(code) => Err(ChangeFault::Refused(code)),
             None => Err(ChangeFault::Memory),
         },
-    }
-}
-
-/// The action that a line of pfctl's words asks for, `pfctl` itself first, with the text of its file.
-fn action_in(alloc: Global, words: &[&str], text: &[u8]) -> Result<Action, ChangeFault>
-    ensures action { IsAskedAs result action_value (action_in (map (λ w. w.now) words.now) text.now) }
-    ensures short { IfOk result IsShort }
-{
-    match matches_in(alloc, words) {
-        Ok(Some(matches)) => action_of(alloc, &matches, text),
-        Ok(None) => Err(ChangeFault::Refused(40)),
-        Err(AllocError) => Err(ChangeFault::Memory),
     }
 }
 
@@ -101,6 +98,24 @@ fn read_action(
     }
 }
 
+/// What matches give at a configuration, with the text of the file; nothing is changed.
+pub(crate) fn read_matches(
+    alloc: Global,
+    config: &Config,
+    matches: Option<&ArgMatches<'_>>,
+    text: &[u8],
+) -> Result<WordsRead, AllocError>
+    ensures value { IfOk result (λ r. words_value r
+        ≡ looked config.now text.now (asked_at text.now (rows_matched (option_copied matches.entry)))) }
+    ensures short { IfOk result AsksShort }
+{
+    match action_of(alloc, matches, text) {
+        Ok(action) => read_action(alloc, config, action, text),
+        Err(ChangeFault::Refused(code)) => Ok(WordsRead::Refused(code, 0)),
+        Err(ChangeFault::Memory) => Err(AllocError),
+    }
+}
+
 /// What a line of pfctl's words comes to at a configuration, `pfctl` itself first, with the text of its file; nothing
 /// is changed.
 ///
@@ -117,18 +132,18 @@ pub fn read_words(
         ≡ done_with config.now (words_value r)) }
     ensures short { IfOk result AsksShort }
 {
-    match action_in(alloc, words, text) {
-        Ok(action) => read_action(alloc, config, action, text),
-        Err(ChangeFault::Refused(code)) => Ok(WordsRead::Refused(code, 0)),
-        Err(ChangeFault::Memory) => Err(AllocError),
-    }
+    let matches = matches_in(alloc, words)?;
+    read_matches(alloc, config, matches.as_ref(), text)
 }
 
 /// The change that a line of pfctl's words asks for, `pfctl` itself first, with the text of its file.
 pub fn read_change(alloc: Global, words: &[&str], text: &[u8]) -> Result<Command, ChangeFault>
     ensures { IsAskedAs result command_value (change_in (map (λ w. w.now) words.now) text.now) }
 {
-    match action_in(alloc, words, text) {
+    let Ok(matches) = matches_in(alloc, words) else {
+        return Err(ChangeFault::Memory);
+    };
+    match action_of(alloc, matches.as_ref(), text) {
         Ok(Action::Change(command)) => Ok(command),
         Ok(_) => Err(ChangeFault::Refused(40)),
         Err(fault) => Err(fault),

@@ -5,9 +5,9 @@ ghost use Rattle.pf_scripts.specs.Ctl.{tested, packet_line, pfctl_line, at_words
 ghost use Rattle.pf_scripts.specs.Seen.{line_of};
 ghost use Rattle.pf_scripts.specs.inner.Seen.{waiting_of, Steps};
 
-use crate::acting::run_words;
+use crate::acting::{run_matches, run_words};
 use crate::lines::{Line, push_bytes, spaced, words_in};
-use crate::pfctl::takes_text;
+use crate::pfctl::{matches_in, takes_text_by};
 use crate::printing::{push_line, push_refusal};
 use crate::waiting::Waiting;
 use pf_config::Config;
@@ -46,14 +46,17 @@ fn run_pfctl<'a>(
     ensures { IfOk result (λ w. Steps (pfctl_line config.old (map (λ x. x.now) words.entry.items))
         config.new (option_map waiting_of w) (string_bytes out.old) (string_bytes out.new)) }
 {
-    if takes_text(alloc, &words)? {
-        return Ok(Some(Waiting {
-            words,
-            text: Vec::new(alloc),
-        }));
+    {
+        let matches = matches_in(alloc, &words)?;
+        if !takes_text_by(&words, matches.as_ref()) {
+            run_matches(alloc, config, matches.as_ref(), &[], out)?;
+            return Ok(None);
+        }
     }
-    run_words(alloc, config, &words, &[], out)?;
-    Ok(None)
+    Ok(Some(Waiting {
+        words,
+        text: Vec::new(alloc),
+    }))
 }
 
 /// Does a line with words.

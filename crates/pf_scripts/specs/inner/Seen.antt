@@ -1,11 +1,17 @@
 -- What only code and proofs use beside `Seen`.
-use Rattle.std.specs.Prelude.{◌≡◌, ℕ, List, ◌++◌, map, Option, String, string_bytes}
+use Rattle.std.specs.Prelude.{◌≡◌, ℕ, List, ◌++◌, map, Option, option_map, String, string_bytes}
+use Rattle.clap.specs.Words.{Row, rows_of, found_of}
+use Rattle.clap.specs.declared.parser.matches.ArgMatches.{ArgMatches}
 use Rattle.pf_config.specs.Map.{Configuration}
 use Rattle.pf_scripts.specs.declared.waiting.Waiting.{Waiting}
 use Rattle.pf_scripts.specs.Ctl.{WaitingWords, StepValue, Outcome}
 
 abbrev pub waiting_of : Waiting → WaitingWords
 waiting_of w = record { words = map (λ x. x.now) w.words.items; text = w.text.items }
+
+-- the rows of matches, none where there are none
+abbrev pub rows_matched : Option ArgMatches → Option (List Row)
+rows_matched matches = option_map (λ m. rows_of (found_of m)) matches
 
 -- a line was done so: this is the configuration now, and the output has grown
 abbrev pub Does : Outcome → Configuration → List ℕ → List ℕ → Type 0
