@@ -6,7 +6,7 @@ ghost use Rattle.px_model.specs.Seen.{meta_of, slot_of, change_of};
 ghost use Rattle.px_model.specs.Step.{commit as committed, top, positions};
 ghost use Rattle.px_records.specs.Faulty.{inner_of, left_of, when_of, has_failed_of, failures_of, none_inside};
 ghost use Rattle.px_records.specs.Faulty.{failed_in, IsDue, IsSpared, FailsAlike, IsReadBelow};
-ghost use Rattle.px_records.specs.Records.{learned_of, NamesGood, IsEnd, Rises};
+ghost use Rattle.px_records.specs.Records.{learned_of, Place, NamesGood, IsEnd, Rises};
 ghost use Rattle.px_records.specs.Records.{LeavesOne};
 ghost use Rattle.px_records.specs.Records.Place.{SlotAt, EntryAt, LastSlot, LastEntry};
 
@@ -225,6 +225,8 @@ impl<R: Records> Records for FaultyRecords<R> {
             (R.stored (inner_of self.new) ≡ committed (Some (change_of change.now)) (R.stored (inner_of self.old))) }
         ensures memory { R.is_honest (inner_of self.new) → result ≡ Err StoreFault.Memory →
             R.stored (inner_of self.new) ≡ R.stored (inner_of self.old) }
+        ensures rows { R.is_honest (inner_of self.new) → failed_in R.failed self.new ≡ 0 → (x : Place) →
+            R.is_good (inner_of self.old) x → R.is_good (inner_of self.new) x }
         ensures bad { result ≡ Err StoreFault.BadStore → ⊥ }
         ensures stop { R.is_honest (inner_of self.new) → LeavesOne R.stored R.may_leave (inner_of self.old)
             (inner_of self.new) (change_of change.now) }

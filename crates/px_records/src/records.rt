@@ -136,7 +136,8 @@ pub trait Records {
         ensures same { members self.new ≡ members self.old };
 
     /// Makes one change, whole or not at all. After `Ok` the record has it and nothing else differs; after `Memory` it
-    /// is as it was. `BadStore` doesn't come: a row that can't be replaced is a failure.
+    /// is as it was. After both a row that was good is good. `BadStore` doesn't come: a row that can't be replaced is a
+    /// failure.
     fn commit(&mut self, change: &Change) -> Result<(), StoreFault>
         requires fits { ChangeFits AnyCommand (members self.old) (change_of change.now) }
         requires rises { is_honest self.old → Rises (change_of change.now) (stored self.old) }
@@ -146,6 +147,8 @@ pub trait Records {
             OnOk result (stored self.new ≡ committed (Some (change_of change.now)) (stored self.old)) }
         ensures memory { is_honest self.new → result ≡ Err StoreFault.Memory → stored self.new ≡
             stored self.old }
+        ensures rows { is_honest self.new → failed self.new ≡ 0 →
+            (x : Place) → is_good self.old x → is_good self.new x }
         ensures bad { result ≡ Err StoreFault.BadStore → ⊥ }
         ensures stop { is_honest self.new → LeavesOne stored may_leave self.old self.new (change_of change.now) }
         ensures counts { (result ≡ Err StoreFault.Failed) ↔ (0 < failed self.new) }

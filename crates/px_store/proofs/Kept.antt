@@ -21,7 +21,7 @@ use Rattle.px_store.specs.inner.Seen.{IsKeyed, slot_row, slot_with, learned_row,
 use Rattle.px_store.specs.inner.Effect.{Puts}
 use Rattle.px_store.proofs.Texts.{replace, meta_terms, slot_terms, floor_terms, learned_terms}
 use Rattle.px_store.proofs.Above.{slot_one}
-use Rattle.px_store.proofs.Puts.{Goes, replaced, keyed}
+use Rattle.px_store.proofs.Puts.{Goes, replaced, keyed, others_at}
 
 -- ---- values are stored as they are
 
@@ -120,7 +120,7 @@ module _ (old db : Trees) where
       let two : db 2 ≡ old 2 = h.trees 2 (λ e. cc) in
       whole _ (put was.slots p (slot_with a b e)) _ (rw (zero, two) refl) (λ q. elim (cases_eq q p) [
         | inl same ↦ rw (eq-eqb q p same) (ap (λ k. slot_in (seen slot_columns (db 1) k)) same ∙ ap slot_in h.put ∙ slot_back p a b e)
-        | inr other ↦ rw (ne_eqb q p other) (ap (λ rows. slot_in (map (shown slot_columns) rows)) (h.others keys q other))
+        | inr other ↦ rw (ne_eqb q p other) (ap (λ rows. slot_in (map (shown slot_columns) rows)) (others_at p q other (old 1) (db 1) (h.others keys)))
       ])
       (λ p. ap (λ rows. learned_in (seen learned_columns rows p)) (h.trees 3 (λ e. cc)))
 
@@ -131,5 +131,5 @@ module _ (old db : Trees) where
       whole _ _ (put was.learned p (Some (entry_of e))) (rw (zero, two) refl) (λ p. ap (λ rows. slot_in (seen slot_columns rows p)) (h.trees 1 (λ e. cc)))
       (λ q. elim (cases_eq q p) [
         | inl same ↦ rw (eq-eqb q p same) (ap (λ k. learned_in (seen learned_columns (db 3) k)) same ∙ ap learned_in h.put)
-        | inr other ↦ rw (ne_eqb q p other) (ap (λ rows. learned_in (map (shown learned_columns) rows)) (h.others keys q other))
+        | inr other ↦ rw (ne_eqb q p other) (ap (λ rows. learned_in (map (shown learned_columns) rows)) (others_at p q other (old 3) (db 3) (h.others keys)))
       ])

@@ -41,7 +41,7 @@ use Rattle.px_store.specs.Seen.{rows_at, shown}
 use Rattle.px_store.specs.inner.Seen.{IsKeyed}
 use Rattle.px_store.specs.inner.Effect.{Puts, IsSettled, IsStill, Stays, Serves}
 use Rattle.px_store.proofs.Texts.{replace, Means}
-use Rattle.px_store.proofs.Rows.{put_other, put_same, without_other, apart, or_false}
+use Rattle.px_store.proofs.Rows.{put_other, put_same, without_other, without_twice, apart, or_false}
 
 -- ---- keys
 
@@ -100,12 +100,17 @@ keyed columns p (x ∷ []) k r (inl same) = ap rowid same ∙ k
 keyed columns p (x ∷ []) k r (inr h) = absurd h
 keyed columns p (x ∷ y ∷ more) k r h = absurd k
 
--- rows under one key are taken out, and those under another stay
-spared : (p q : ℕ) → q ≢ p → (found rows : List Row) → ((x : Row) → Has found x → x ≡ Int (pos p) ∷ []) → rows_at (without_all rows (ids_of found)) q ≡ rows_at rows q
-spared p q ne [] rows all = refl
-spared p q ne (x ∷ found) rows all =
+-- rows under one key are taken out, and the others stay
+spared : (p : ℕ) (found rows : List Row) → ((x : Row) → Has found x → x ≡ Int (pos p) ∷ []) → without_rowid (pos p) (without_all rows (ids_of found)) ≡ without_rowid (pos p) rows
+spared p [] rows all = refl
+spared p (x ∷ found) rows all =
     let id : id_in (rowid x) ≡ pos p = ap (λ (r : Row). id_in (rowid r)) (all x (inl refl)) in
-    rw id (spared p q ne found (without_rowid (pos p) rows) (λ y h. all y (inr h)) ∙ without_other (pos p) (pos q) rows (apart p q ne))
+    rw id (spared p found (without_rowid (pos p) rows) (λ y h. all y (inr h)) ∙ without_twice (pos p) rows)
+
+-- rows under another key are those that are left
+pub others_at : (p q : ℕ) → q ≢ p → (old new : List Row) → without_rowid (pos p) new ≡ without_rowid (pos p) old → rows_at new q ≡ rows_at old q
+others_at p q ne old new same =
+    sym (without_other (pos p) (pos q) new (apart p q ne)) ∙ ap (λ rows. rows_at rows q) same ∙ without_other (pos p) (pos q) old (apart p q ne)
 
 uncounts : (b x : Bool) (A B : Type 0) → b ≡ false → MatchBool (cond b x false) A B → B
 uncounts true x A B e h = absurd cc
@@ -123,10 +128,10 @@ module _ (limit : Option ℕ) (keys : Keys) (table : Table) (params : Row) (p : 
   -- under the key of the new row it is alone, and the rest is as it was
   pub record IsIn (old now : Trees) : Type 0 where
     pub alone : rows_at (now table.tree) p ≡ new ∷ []
-    pub others : ((r : Row) → Has (rows_at (old table.tree) p) r → rowid r ≡ Int (pos p)) → (q : ℕ) → q ≢ p → rows_at (now table.tree) q ≡ rows_at (old table.tree) q
+    pub others : ((r : Row) → Has (rows_at (old table.tree) p) r → rowid r ≡ Int (pos p)) → without_rowid (pos p) (now table.tree) ≡ without_rowid (pos p) (old table.tree)
     pub trees : (t : ℕ) → t ≢ table.tree → now t ≡ old t
 
-  puts : (db : Trees) (one : Written) → PutsOne task new db (Ok one) → IsIn db one.trees × ((q : ℕ) → q ≢ p → rows_at (one.trees table.tree) q ≡ rows_at (db table.tree) q)
+  puts : (db : Trees) (one : Written) → PutsOne task new db (Ok one) → IsIn db one.trees × (without_rowid (pos p) (one.trees table.tree) ≡ without_rowid (pos p) (db table.tree))
   puts db one h =
       let g = went h in
       let a = one_step schema_3 keys db g.0 (edit_of db table [] Given 0 (new ∷ [])) refl g.1 in
@@ -137,8 +142,8 @@ module _ (limit : Option ℕ) (keys : Keys) (table : Table) (params : Row) (p : 
       ap (λ (t : Trees). t table.tree) same ∙ a.rows ∙ ap (λ r. put_row r (db table.tree)) casts in
       let it : has_rowid (pos p) new ≡ true = ap is_eq (value_cmp-Int (pos p) (pos p) ∙ sym (int_cmp_is (pos p) (pos p) Equal refl)) in
       let none = free p rest (db table.tree) is_used in
-      let others : (q : ℕ) → q ≢ p → rows_at (one.trees table.tree) q ≡ rows_at (db table.tree) q = λ q ne.
-      ap (λ rows. rows_at rows q) rows ∙ put_other (has_rowid (pos q)) new (db table.tree) (not_equal _ (apart q p (λ e. ne (sym e)))) is_used in (
+      let others : without_rowid (pos p) (one.trees table.tree) ≡ without_rowid (pos p) (db table.tree) =
+      ap (without_rowid (pos p)) rows ∙ put_other (λ r. not (has_rowid (pos p) r)) new (db table.tree) (ap not it) is_used in (
         record {
           alone = ap (λ rows. rows_at rows p) rows ∙ put_same (has_rowid (pos p)) new (db table.tree) it is_used none;
           others = λ _. others;
@@ -146,11 +151,6 @@ module _ (limit : Option ℕ) (keys : Keys) (table : Table) (params : Row) (p : 
         },
         others,
       )
-    where
-      not_equal : (o : Ordering) → o ≢ Equal → is_eq o ≡ false
-      not_equal Less ne = refl
-      not_equal Equal ne = absurd (ne refl)
-      not_equal Greater ne = refl
 
   clears : (db : Trees) (one : Written) (found : List Row)
       → AreConflicts None [] table (db table.tree) new found → Clears task Replace new db found (Ok one) → IsIn db one.trees
@@ -165,7 +165,7 @@ module _ (limit : Option ℕ) (keys : Keys) (table : Table) (params : Row) (p : 
       let left : g.0 table.tree ≡ without_all (db table.tree) (ids_of (x ∷ more)) = a.rows in
       record {
         alone = b.0.alone;
-        others = λ keyed q ne. b.1 q ne ∙ ap (λ rows. rows_at rows q) left ∙ spared p q ne (x ∷ more) (db table.tree) (ids keyed);
+        others = λ keyed. b.1 ∙ ap (without_rowid (pos p)) left ∙ spared p (x ∷ more) (db table.tree) (ids keyed);
         trees = λ t ne. b.0.trees t ne ∙ a.others t ne tt;
       }
 

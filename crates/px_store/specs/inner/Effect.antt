@@ -1,18 +1,18 @@
 -- What a call does to a connection.
-use Rattle.std.specs.Prelude.{◌≡◌, ◌≢◌, ◌⊎◌, ℕ, false, IsTrue, List, [], ◌∷◌, length}
+use Rattle.std.specs.Prelude.{◌≡◌, ◌≢◌, ◌⊎◌, ℕ, pos, false, IsTrue, List, [], ◌∷◌, length}
 use Rattle.std.specs.Prelude.{◌≤◌}
 use Rattle.sqlite_value.specs.Order.{Row}
+use Rattle.sqlite_trees.specs.Tree.{without_rowid}
 use Rattle.sqlite.specs.Tree.{Trees}
 use Rattle.sqlite.specs.State.{State}
 use Rattle.px_store.specs.Tables.{schema_3}
-use Rattle.px_store.specs.Seen.{rows_at, seen}
+use Rattle.px_store.specs.Seen.{seen}
 use Rattle.px_store.specs.inner.Seen.{IsKeyed}
 
 -- Under this key the tree shows this row, and nothing else differs, where the key had one row of its own or none.
 pub record Puts (tree p : ℕ) (columns : List ℕ) (row : Row) (old new : Trees) : Type 0 where
   pub put : seen columns (new tree) p ≡ row ∷ []
-  pub others : IsKeyed p (seen columns (old tree) p) → (q : ℕ) → q ≢ p → rows_at (new tree) q ≡
-      rows_at (old tree) q
+  pub others : IsKeyed p (seen columns (old tree) p) → without_rowid (pos p) (new tree) ≡ without_rowid (pos p) (old tree)
   pub trees : (t : ℕ) → t ≢ tree → new t ≡ old t
 
 -- committed and open, over the four tables
