@@ -96,6 +96,8 @@ impl Resender {
     pub fn took(&mut self, head: &Head, bytes: &[u8])
         ensures kept { kept_of self.new ≡ kept_of self.old }
         ensures request { AreAmong (requests_of self.new) (requests_of self.old ++ bytes.now ∷ []) }
+        ensures others { (head.now.kind ≡ Kind.Accept → head.now.from ≡ me_of self.old) →
+            requests_of self.new ≡ requests_of self.old }
     {
         if head.kind == Kind::Accept && head.from != self.me {
             self.latest.remember(head, bytes);

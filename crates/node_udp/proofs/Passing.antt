@@ -7,7 +7,7 @@ use Rattle.std.proofs.lemmas.List.{append-nil}
 use Rattle.px_transport.specs.Wires.{WireEvent, Gave, Handed, Adds, IsQuiet}
 use Rattle.px_transport.proofs.Traffic.{adds_none}
 use Rattle.node_udp.specs.Members.{peers_of, me_of}
-use Rattle.node_udp.specs.Sockets.{SocketEvent, Came, Went, Passage, Hears, Sends, Loses, below_in, above_in, GoesTo, IsSound, WentOver, IsStill}
+use Rattle.node_udp.specs.Sockets.{SocketEvent, Came, Went, Passage, Hears, Sends, Loses, below_in, above_in, GoesTo, HasNoAddress, IsSound, WentOver, IsStill}
 use Rattle.node_udp.specs.declared.address.Address.{Address}
 use Rattle.node_udp.specs.declared.udp.UdpWire.{UdpWire}
 
@@ -98,6 +98,6 @@ over_sends t0 t1 w0 w1 to bytes there p m a g = over_more t0 t1 w0 w1 (Sends to 
 
 -- there is no address for it
 pub over_loses : {S C : Type 0} (t0 t1 : List SocketEvent → Type 0) (w0 w1 : UdpWire S C) (to : ℕ) (bytes : List ℕ) →
-    IsStill t0 t1 w0 w1 → Adds (WentOver t0 w0) (WentOver t1 w1) (Handed to bytes ∷ [])
-over_loses t0 t1 w0 w1 to bytes a =
-    over_more t0 t1 w0 w1 (Loses to bytes) a.peers_is a.me_is (adds_none t0 t1 a.quiet) tt
+    IsStill t0 t1 w0 w1 → HasNoAddress (peers_of w0) (me_of w0) to → Adds (WentOver t0 w0) (WentOver t1 w1) (Handed to bytes ∷ [])
+over_loses t0 t1 w0 w1 to bytes a none =
+    over_more t0 t1 w0 w1 (Loses to bytes) a.peers_is a.me_is (adds_none t0 t1 a.quiet) none

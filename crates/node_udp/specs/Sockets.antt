@@ -1,5 +1,5 @@
 -- What goes over a socket, and over a wire that has one.
-use Rattle.std.specs.Prelude.{◌≡◌, ◌≢◌, ◌⊎◌, ℕ, List, [], ◌∷◌, Option, Some, IfSome, Result, Ok, Err, slice_get, take}
+use Rattle.std.specs.Prelude.{◌≡◌, ◌≢◌, ◌⊎◌, ℕ, List, [], ◌∷◌, Option, Some, None, IfSome, Result, Ok, Err, slice_get, take}
 use Rattle.std.specs.List.{AllByRecursion}
 use Rattle.std.specs.declared.net.socket_addr.SocketAddr.{SocketAddr}
 use Rattle.std.specs.declared.net.ip_addr.IpAddr.{IpAddr}
@@ -69,11 +69,16 @@ abbrev pub GoesTo : (peers : List Address) → (me to : ℕ) → (there : Socket
 GoesTo peers me to there =
     me ≢ 255 → to ≢ 255 → (a : Address) × (slice_get peers to ≡ Some a) × IsSocketOf a there
 
--- what comes is given, or an empty datagram in its place; what is handed over goes to the address of its member
+-- there is no address for what a member hands over for another
+abbrev pub HasNoAddress : (peers : List Address) → (me to : ℕ) → Type 0
+HasNoAddress peers me to = me ≢ 255 → to ≢ 255 → slice_get peers to ≡ None
+
+-- what comes is given, or an empty datagram in its place; what is handed over goes to the address of its member, unless
+-- there is none
 abbrev pub IsSound : (peers : List Address) → (me : ℕ) → Passage → Type 0
 IsSound peers me (Hears from came given) = (given ≡ came) ⊎ (given ≡ [])
 IsSound peers me (Sends to bytes there) = GoesTo peers me to there
-IsSound peers me (Loses to bytes) = Unit {0}
+IsSound peers me (Loses to bytes) = HasNoAddress peers me to
 
 -- this went over the wire, where that is what went over its socket
 pub record WentOver {S C : Type 0} (below : List SocketEvent → Type 0) (w : UdpWire S C) (es : List WireEvent) :

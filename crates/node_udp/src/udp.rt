@@ -8,7 +8,7 @@ ghost use Rattle.px_transport.specs.Wires.{Adds, IsQuiet, gives, one_more};
 ghost use Rattle.node_udp.specs.declared.udp.BindFault.TheVariants.{Memory};
 ghost use Rattle.node_udp.specs.Addresses.{AreFound};
 ghost use Rattle.node_udp.specs.Members.{socket_of, peers_of, me_of, strangers_of, Drops};
-ghost use Rattle.node_udp.specs.Sockets.{GoesTo, IsStill, Went, WentOver};
+ghost use Rattle.node_udp.specs.Sockets.{GoesTo, HasNoAddress, IsStill, Went, WentOver};
 ghost use Rattle.node_udp.specs.inner.Heard.{address_at};
 
 use crate::address::Address;
@@ -384,7 +384,8 @@ impl<S: Socket, C: Clock> UdpWire<S, C> {
 
     /// Where a datagram for this member goes.
     fn address(&self, to: u8) -> Option<SocketAddr>
-        ensures { IfSome result (λ there. GoesTo (peers_of self.now) (me_of self.now) to there) }
+        ensures there { IfSome result (λ there. GoesTo (peers_of self.now) (me_of self.now) to there) }
+        ensures none { result ≡ None → HasNoAddress (peers_of self.now) (me_of self.now) to }
     {
         if self.me != CLIENT && to == CLIENT {
             return self.last;

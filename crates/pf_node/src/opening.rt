@@ -5,7 +5,7 @@ ghost use Rattle.px_model.specs.Node.{Record};
 ghost use Rattle.px_model.specs.Spelling.{Bytes};
 ghost use Rattle.px_model.specs.Step.{front};
 ghost use Rattle.px_model.specs.World.{started};
-ghost use Rattle.px_replica.specs.Calls.{OpenRefused};
+ghost use Rattle.px_replica.specs.Calls.{HasBadEntry, OpenRefused};
 ghost use Rattle.px_replica.specs.Replicas as replicas;
 ghost use Rattle.pf_node.specs.Nodes.{records_of, learned_by, membership_of, has_failed, state_in, applied_of};
 
@@ -56,7 +56,8 @@ impl<R: Records> Node<R> {
     /// The node that a restart makes of its record, with all applied that is learned up to the first gap.
     ///
     /// A refusal gives the record back: `Store`, `BadStore` for a row that no commit writes or an entry that has no
-    /// spelling, or `Memory`; but for `Store` the record is then as it was.
+    /// spelling, or `Memory`; but for `Store` the record is then as it was. A record isn't opened where a row that is
+    /// read is bad.
     pub fn open(alloc: Global, m: Membership, records: R) -> Result<Node<R>, (NodeFault, R)>
         requires members { R.members records ≡ m.members }
         requires here { m.me < m.members }
@@ -69,6 +70,7 @@ impl<R: Records> Node<R> {
         ensures was { IfOk result (λ n. R.is_honest (records_of n) → R.is_honest records) }
         ensures stop { IfOk result (λ n. R.is_honest (records_of n) → (left : Record Bytes) →
             R.may_leave (records_of n) left → R.may_leave records left) }
+        ensures good { IfOk result (λ n. R.is_honest (records_of n) → HasBadEntry R.Records records m.members → ⊥) }
         ensures refused { IfErr result (λ e. OpenRefused R.Records m.members records e.0 e.1) }
     {
         let replica = match Replica::open(alloc, m, records) {
