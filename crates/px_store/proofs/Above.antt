@@ -22,7 +22,7 @@ pub above : (n : ℕ) → is_above (Int (pos n)) ≡ is_gt (int_cmp (pos n) (pos
 unfolding binary
 above n = truth_back _ ∙ ap is_gt (value_cmp-Int (pos n) (pos 0))
 
-truth_of : (b : ℕ) → is_above (Int (pos b)) ≡ not (nat_eq b 0)
+pub truth_of : (b : ℕ) → is_above (Int (pos b)) ≡ not (nat_eq b 0)
 truth_of b = elim (cases_eq b 0) [
   | inl zero ↦ rw (eq-eqb b 0 zero) (rw zero (above 0))
   | inr ne ↦ rw (ne_eqb b 0 ne) (above b ∙ greater b 0 (omega (arith, ne)))

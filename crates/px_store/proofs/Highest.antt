@@ -35,7 +35,7 @@ over q n up x has = go (value_cmp (column x 0) (Int (pos q))) refl has
     go Less e it = absurd cc
     go Greater e it = absurd cc
 
-same_key : (n : ℕ) → is_eq (value_cmp (Int (pos n)) (Int (pos n))) ≡ true
+pub same_key : (n : ℕ) → is_eq (value_cmp (Int (pos n)) (Int (pos n))) ≡ true
 same_key n =
     let even : int_cmp (pos n) (pos n) ≡ Equal = rw (le-ltb n n (omega arith)) refl in
     ap is_eq (value_cmp-Int (pos n) (pos n)) ∙ ap is_eq even
@@ -59,7 +59,7 @@ none_in (r ∷ rows) h = rw (h r (inl refl)) (none_in rows (λ x k. h x (inr k))
 abbrev proposal : Row → Proposal Bytes
 proposal r = record { ballot = number_in (column r 3); entry = entry_of (bytes_in (column r 4)) }
 
-some_in : (rows : List Row) (r : Row) → Has rows r → has_ballot r ≡ true → (x : Proposal Bytes) × (accepted_in (map (shown slot_columns) rows) ≡ Some x)
+pub some_in : (rows : List Row) (r : Row) → Has rows r → has_ballot r ≡ true → (x : Proposal Bytes) × (accepted_in (map (shown slot_columns) rows) ≡ Some x)
 some_in [] r h there = absurd h
 some_in (y ∷ rows) r h there = go (has_ballot y) refl h (λ later. some_in rows r later there)
   where
@@ -112,7 +112,7 @@ end_is rows (suc n) (within, (r, has, there, key), most) = (
 -- ---- the last row is good
 
 -- where one row shows a key, that is the row's
-only_key : (columns : List ℕ) → ((y : Row) → column (shown columns y) 0 ≡ column y 0) → (p : ℕ) (rows : List Row) (r : Row) → Has rows r → IsKeyed p (map (shown columns) rows) → column r 0 ≡ Int (pos p)
+pub only_key : (columns : List ℕ) → ((y : Row) → column (shown columns y) 0 ≡ column y 0) → (p : ℕ) (rows : List Row) (r : Row) → Has rows r → IsKeyed p (map (shown columns) rows) → column r 0 ≡ Int (pos p)
 only_key columns keeps p [] r has key = absurd has
 only_key columns keeps p (y ∷ []) r (inl same) key = ap (λ z. column z 0) same ∙ sym (keeps y) ∙ key
 only_key columns keeps p (y ∷ []) r (inr none) key = absurd none

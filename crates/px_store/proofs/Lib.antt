@@ -66,6 +66,7 @@ mod Promises
 mod Spelled
 mod Ends
 mod Highest
+mod Good
 mod Makes
 mod Adopts
 pub mod Judged

@@ -1,5 +1,5 @@
 -- Each row that is put: what its statement means, and what it makes of the rows and of the record.
-use Rattle.std.proofs.Common.{◌≡◌, ◌⊎◌, inl, inr, ℕ, List, true, false, Ok, Err, Result, OnOk, refl, sym, subst, ◌∙◌}
+use Rattle.std.proofs.Common.{◌≡◌, ◌⊎◌, inl, inr, ℕ, List, [], ◌∷◌, true, false, Ok, Err, Result, OnOk, refl, sym, subst, ◌∙◌}
 use Rattle.sqlite.specs.Term.{Term}
 use Rattle.sqlite.specs.Effect.{Database}
 use Rattle.sqlite.specs.Tree.{Trees}
@@ -10,11 +10,12 @@ use Rattle.px_model.specs.declared.record.Meta as kept
 use Rattle.px_records.specs.declared.records.StoreFault.{StoreFault}
 use Rattle.px_records.specs.declared.records.StoreFault.TheVariants as fault
 use Rattle.px_store.specs.Tables.{schema_3}
-use Rattle.px_store.specs.Seen.{record_in}
+use Rattle.px_store.specs.Seen.{record_in, seen, meta_columns, meta_row}
+use Rattle.sqlite_value.specs.Order.{Row}
 use Rattle.px_store.specs.inner.Effect.{IsSettled, LeavesOld, Serves}
 use Rattle.px_store.specs.inner.Store.{Changed}
 use Rattle.px_store.specs.Ready.{stored_of}
-use Rattle.px_store.specs.inner.Ready.{IsMeta}
+use Rattle.px_store.specs.inner.Ready.{IsMeta, IsNamed, IsOwned}
 use Rattle.px_store.specs.Adopting.{Began}
 use Rattle.px_store.specs.declared.formats.Format.TheVariants.{Three}
 use Rattle.px_store.specs.inner.NewRows.{text_of, params_of, tree_of, key_of, columns_of, row_of, IsPut, Wrote, with_row, meta_with, HasFloor, Replaces}
@@ -130,3 +131,20 @@ pub still_ready : (id : Identity) (r : NewRow) (bytes : Bytes) (m n : kept.Meta)
     → (new.now.schema ≡ schema_3) × ((new.in_transaction ≡ false) × ((new.is_open ≡ true) × IsMeta id n new.committed.trees))
 still_ready id r bytes m n old new says floor is w =
     (w.1.schema, (w.1.auto, (w.1.is_open, subst (λ (x : kept.Meta). IsMeta id x new.committed.trees) (sym says) (meta_after id r bytes m old.committed.trees new.committed.trees floor is w.0))))
+
+-- ---- whose it is
+
+named_of : (id : Identity) (rows : List Row) (round number : ℕ) → rows ≡ meta_row 3 id.cluster id.members id.node round number ∷ [] → IsNamed id rows
+named_of id rows round number is = subst (IsNamed id) (sym is) refl
+
+-- the rows for the whole node name it
+pub meta_named : (id : Identity) (m : kept.Meta) (db : Trees) → IsMeta id m db → IsNamed id (seen meta_columns (db 0) 1)
+meta_named id m db is = named_of id _ m.round m.number is.0
+
+-- and so does what a stop leaves while a row is put
+pub still_owned : (id : Identity) (r : NewRow) (bytes : Bytes) (m : kept.Meta) (answer : Result (Unit {0}) Trouble) (old new : State) → (HasCleanDisk new → HasCleanDisk old) → HasFloor r
+    → (HasCleanDisk old → IsMeta id m old.committed.trees) → IsOwned id old → (HasCleanDisk new → Wrote id r bytes answer old new) → IsOwned id new
+still_owned id r bytes m answer old new was floor is owned wrote = λ clean db left. elim ((wrote clean).stop db left) [
+  | inl before ↦ owned (was clean) db before
+  | inr made ↦ meta_named id (meta_with r m) db (meta_after id r bytes m old.committed.trees db floor (is (was clean)) made)
+]

@@ -1,15 +1,15 @@
 -- A change is made after the row that it replaces was read.
-use Rattle.std.proofs.Common.{◌≡◌, inl, inr, ℕ, List, Bool, true, false, cond, ◌&&◌, ◌<◌, ◌≤◌, ◌+◌, ◌*◌, ◌^◌, ◌/◌, ◌%◌, Some, Ok, Err, Result, refl, ap, ◌∙◌, arith, nat_eq, OnOk, length}
+use Rattle.std.proofs.Common.{◌≡◌, inl, inr, ℕ, List, Bool, true, false, cond, ◌&&◌, ◌<◌, ◌≤◌, ◌+◌, ◌*◌, ◌^◌, ◌/◌, ◌%◌, None, Some, Ok, Err, Result, refl, sym, ap, ◌∙◌, arith, nat_eq, OnOk, length}
 use Rattle.std.specs.Prelude.{nat_le, nat_lt}
-use Rattle.std.proofs.lemmas.Bool.{and_parts, leb-true, ltb-true, ne_eqb, eqb-true}
+use Rattle.std.proofs.lemmas.Bool.{and_parts, leb-true, le-leb, lt-ltb, ltb-true, eq-eqb, ne_eqb, eqb-true}
 use Rattle.std.proofs.Math.Nat.{lt-div-mul-add}
 use Rattle.px_model.specs.Bounds.{AnyCommand}
 use Rattle.px_model.specs.Node.{Record, Slot, Entry}
 use Rattle.px_model.specs.Step.{put}
 use Rattle.px_model.specs.Spelling.{Bytes, spelled}
 use Rattle.px_model.specs.Fits.{IsBallot, EntryFits}
-use Rattle.px_store.specs.Entries.{entry_of}
-use Rattle.px_store.proofs.Spelled.{reads_back}
+use Rattle.px_store.specs.Entries.{entry_of, is_entry}
+use Rattle.px_store.proofs.Spelled.{reads_back, spells_entry}
 use Rattle.px_store.proofs.Stored.{not_zero}
 use Rattle.px_records.specs.declared.records.StoreFault.TheVariants as fault
 use Rattle.px_store.specs.Seen.{is_slot, is_ballot, is_proposal, is_none_or_ballot}
@@ -110,3 +110,32 @@ accepted_is n d p b e bytes spells is fits long =
 pub learned_is : (n : ℕ) (d : Record Bytes) (p : ℕ) (e : Entry Bytes) (bytes : List ℕ) → bytes ≡ spelled e → EntryFits AnyCommand n e → 1 ≤ length e.command
     → with_entry d p bytes ≡ record d { learned = put d.learned p (Some e) }
 learned_is n d p e bytes spells fits long = ap (λ (x : Entry Bytes). record d { learned = put d.learned p (Some x) }) (ap entry_of spells ∙ reads_back n e fits long)
+
+-- ---- rows that are good
+
+ballot_is : (n b : ℕ) → IsBallot n b → is_ballot n b ≡ true
+ballot_is n b x = rw (le-leb 1 (b / 256) x.begun, lt-ltb (b / 256) (2 ^ 48) x.round, lt-ltb (b % 256) n x.member) refl
+
+some_ballot : (n b : ℕ) → IsBallot n b → is_none_or_ballot n b ≡ true
+some_ballot n b x = rw (ne_eqb b 0 (λ zero. not_zero n b zero x)) (ballot_is n b x)
+
+-- a slot may promise more
+pub raised : (n a more b : ℕ) (bytes : List ℕ) → is_slot n a b bytes ≡ true → IsBallot n more → a ≤ more → is_slot n more b bytes ≡ true
+raised n a more b bytes good is up =
+    let p = and_parts (is_none_or_ballot n a) (nat_le b a && is_proposal n b bytes) good in
+    let q = and_parts (nat_le b a) (is_proposal n b bytes) p.1 in
+    let le : b ≤ a = leb-true b a q.0 in
+    rw (some_ballot n more is, le-leb b more (omega (arith, le, up)), q.1) refl
+
+-- a slot with an accepted proposal
+pub accepted_good : (n b : ℕ) (bytes : List ℕ) → IsBallot n b → is_entry n bytes ≡ true → is_slot n b b bytes ≡ true
+accepted_good n b bytes is entry =
+    rw (some_ballot n b is, le-leb b b (omega arith), ne_eqb b 0 (λ zero. not_zero n b zero is), ballot_is n b is, entry) refl
+
+-- without a ballot there is no proposal
+pub none_accepted : (d : Record Bytes) (p promised b : ℕ) (bytes : List ℕ) → slot_with promised b bytes ≡ d.slots p → b ≡ 0 → (d.slots p).accepted ≡ None
+none_accepted d p promised b bytes read zero = ap (λ (s : Slot Bytes). s.accepted) (sym read) ∙ rw (eq-eqb b 0 zero) refl
+
+-- the bytes of an entry that fits
+pub entry_good : (n : ℕ) (e : Entry Bytes) (bytes : List ℕ) → bytes ≡ spelled e → EntryFits AnyCommand n e → 1 ≤ length e.command → is_entry n bytes ≡ true
+entry_good n e bytes spells fits long = ap (is_entry n) spells ∙ spells_entry n e fits long

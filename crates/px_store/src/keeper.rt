@@ -1,6 +1,7 @@
 //! The keeper and what stays true of it.
 ghost use Rattle.sqlite.specs.Held.{state};
 ghost use Rattle.px_store.specs.inner.Ready.{IsReady, IsReady-prop, AreBounded, AreBounded-prop};
+ghost use Rattle.px_store.specs.inner.Ready.{IsOwned, IsOwned-prop};
 
 use crate::calls::Identity;
 use px_model::Meta;
@@ -18,4 +19,6 @@ pub struct SqlRecords<S: Alter> {
     ghost bounds: { AreBounded identity meta } by { AreBounded-prop identity meta },
     ghost ready: { IsReady failures identity meta (state S.Store conn) } by { IsReady-prop failures identity meta
         (state S.Store conn) },
+    // after a failure too
+    ghost owned: { IsOwned identity (state S.Store conn) } by { IsOwned-prop identity (state S.Store conn) },
 }

@@ -2,16 +2,18 @@
 ghost use Rattle.std.specs.Prelude.{◌≡◌, ◌<◌, ◌≤◌, ◌^◌, ◌↔◌, true, Some, Err, OnOk, IfOk};
 ghost use Rattle.px_model.specs.Bounds.{AnyCommand};
 ghost use Rattle.px_model.specs.Fits.{IsBallot, ChangeFits};
-ghost use Rattle.px_model.specs.Step.{commit as committed};
+ghost use Rattle.px_model.specs.Step.{commit as committed, positions};
 ghost use Rattle.px_model.specs.Seen.{change_of};
+ghost use Rattle.px_records.specs.Records.{Rises};
 ghost use Rattle.px_records.specs.Records.Place.{SlotAt, EntryAt};
 ghost use Rattle.px_store.specs.inner.Store.{with_meta, with_floor, with_slot, with_promise, with_entry};
-ghost use Rattle.px_store.specs.inner.Store.{Changed, OnlyReads};
+ghost use Rattle.px_store.specs.inner.Store.{Changed, OnlyReads, StaysGood};
+ghost use Rattle.px_store.specs.Entries.{is_entry};
 ghost use Rattle.px_store.specs.Seen.{is_slot};
 ghost use Rattle.px_store.specs.inner.Seen.{slot_with};
 ghost use Rattle.px_store.specs.inner.Ready.{AreBounded};
 ghost use Rattle.px_store.specs.View.{view_of};
-ghost use Rattle.px_store.specs.inner.NewRows.{AreIntegers, HasFloor, Replaces, with_row, meta_with};
+ghost use Rattle.px_store.specs.inner.NewRows.{AreIntegers, HasFloor, Replaces, IsGoodRow, with_row, meta_with};
 ghost use Rattle.px_store.specs.declared.reading.TheConstants.{NUMBERS, INTEGERS};
 
 use crate::calls::{NewRow, Trouble, put};
@@ -33,6 +35,9 @@ impl<S: Alter> SqlRecords<S> {
         ensures changed { (view_of S.Store self.new).is_honest → Replaces row (view_of S.Store self.old) →
             Changed (with_row row bytes.now (view_of S.Store self.old).kept) result (view_of S.Store self.old)
             (view_of S.Store self.new) }
+        ensures rows { (view_of S.Store self.new).is_honest → self.new.failures ≡ 0 → Replaces row (view_of S.Store self.old) →
+            IsGoodRow self.old.identity.members row bytes.now (view_of S.Store self.old).kept →
+            StaysGood (view_of S.Store self.old) (view_of S.Store self.new) }
         ensures bad { result ≡ Err StoreFault.BadStore → ⊥ }
         ensures counts { (result ≡ Err StoreFault.Failed) ↔ (0 < self.new.failures) }
         ensures same_identity { self.new.identity ≡ self.old.identity }
@@ -58,6 +63,8 @@ impl<S: Alter> SqlRecords<S> {
         ensures changed { (view_of S.Store self.new).is_honest →
             Changed (with_meta (view_of S.Store self.old).kept round number) result (view_of S.Store self.old)
             (view_of S.Store self.new) }
+        ensures rows { (view_of S.Store self.new).is_honest → self.new.failures ≡ 0 →
+            StaysGood (view_of S.Store self.old) (view_of S.Store self.new) }
         ensures bad { result ≡ Err StoreFault.BadStore → ⊥ }
         ensures counts { (result ≡ Err StoreFault.Failed) ↔ (0 < self.new.failures) }
         ensures same_identity { self.new.identity ≡ self.old.identity }
@@ -78,6 +85,8 @@ impl<S: Alter> SqlRecords<S> {
         ensures changed { (view_of S.Store self.new).is_honest →
             Changed (with_floor (view_of S.Store self.old).kept ballot) result (view_of S.Store self.old)
             (view_of S.Store self.new) }
+        ensures rows { (view_of S.Store self.new).is_honest → self.new.failures ≡ 0 →
+            StaysGood (view_of S.Store self.old) (view_of S.Store self.new) }
         ensures bad { result ≡ Err StoreFault.BadStore → ⊥ }
         ensures counts { (result ≡ Err StoreFault.Failed) ↔ (0 < self.new.failures) }
         ensures same_identity { self.new.identity ≡ self.old.identity }
@@ -143,6 +152,10 @@ impl<S: Alter> SqlRecords<S> {
         ensures changed { (view_of S.Store self.new).is_honest →
             Changed (with_promise (view_of S.Store self.old).kept position ballot) result
             (view_of S.Store self.old) (view_of S.Store self.new) }
+        ensures rows { (view_of S.Store self.new).is_honest → self.new.failures ≡ 0 → position < positions →
+            IsBallot self.old.identity.members ballot →
+            ((view_of S.Store self.old).kept.slots position).promised ≤ ballot →
+            StaysGood (view_of S.Store self.old) (view_of S.Store self.new) }
         ensures bad { result ≡ Err StoreFault.BadStore → ⊥ }
         ensures counts { (result ≡ Err StoreFault.Failed) ↔ (0 < self.new.failures) }
         ensures same_identity { self.new.identity ≡ self.old.identity }
@@ -177,6 +190,9 @@ impl<S: Alter> SqlRecords<S> {
         ensures changed { (view_of S.Store self.new).is_honest →
             Changed (with_slot (view_of S.Store self.old).kept position ballot ballot entry.now) result
             (view_of S.Store self.old) (view_of S.Store self.new) }
+        ensures rows { (view_of S.Store self.new).is_honest → self.new.failures ≡ 0 → position < positions →
+            IsBallot self.old.identity.members ballot → is_entry self.old.identity.members entry.now ≡ true →
+            StaysGood (view_of S.Store self.old) (view_of S.Store self.new) }
         ensures bad { result ≡ Err StoreFault.BadStore → ⊥ }
         ensures counts { (result ≡ Err StoreFault.Failed) ↔ (0 < self.new.failures) }
         ensures same_identity { self.new.identity ≡ self.old.identity }
@@ -202,6 +218,9 @@ impl<S: Alter> SqlRecords<S> {
         ensures changed { (view_of S.Store self.new).is_honest →
             Changed (with_entry (view_of S.Store self.old).kept position entry.now) result
             (view_of S.Store self.old) (view_of S.Store self.new) }
+        ensures rows { (view_of S.Store self.new).is_honest → self.new.failures ≡ 0 → position < positions →
+            is_entry self.old.identity.members entry.now ≡ true →
+            StaysGood (view_of S.Store self.old) (view_of S.Store self.new) }
         ensures bad { result ≡ Err StoreFault.BadStore → ⊥ }
         ensures counts { (result ≡ Err StoreFault.Failed) ↔ (0 < self.new.failures) }
         ensures same_identity { self.new.identity ≡ self.old.identity }
@@ -220,6 +239,8 @@ impl<S: Alter> SqlRecords<S> {
         ensures changed { (view_of S.Store self.new).is_honest →
             Changed (committed (Some (change_of change.now)) (view_of S.Store self.old).kept) result
             (view_of S.Store self.old) (view_of S.Store self.new) }
+        ensures rows { (view_of S.Store self.new).is_honest → self.new.failures ≡ 0 → Rises (change_of change.now) (view_of S.Store self.old).kept →
+            StaysGood (view_of S.Store self.old) (view_of S.Store self.new) }
         ensures bad { result ≡ Err StoreFault.BadStore → ⊥ }
         ensures counts { (result ≡ Err StoreFault.Failed) ↔ (0 < self.new.failures) }
         ensures same_identity { self.new.identity ≡ self.old.identity }

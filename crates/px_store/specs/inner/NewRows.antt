@@ -1,16 +1,18 @@
 -- A row that is put, and what putting it makes.
-use Rattle.std.specs.Prelude.{◌≡◌, ◌≢◌, ◌⊎◌, ◌<◌, ◌^◌, ⊤, ℕ, List, OnOk, Result, Err}
+use Rattle.std.specs.Prelude.{◌≡◌, ◌≢◌, ◌⊎◌, ◌<◌, ◌^◌, ⊤, ℕ, true, List, None, OnOk, Result, Err}
 use Rattle.sqlite_value.specs.Order.{Row}
 use Rattle.sqlite.specs.Tree.{Trees}
 use Rattle.sqlite.specs.State.{State}
 use Rattle.px_model.specs.Node.{Record}
 use Rattle.px_model.specs.Spelling.{Bytes}
+use Rattle.px_model.specs.Step.{positions}
 use Rattle.px_model.specs.declared.record.Meta as kept
 use Rattle.px_records.specs.Records.Place.{SlotAt, EntryAt}
 use Rattle.px_store.specs.inner.Tables.{put_meta, put_slot, put_floor, put_learned}
 use Rattle.px_store.specs.inner.Tables.{meta_params, slot_params, floor_params, learned_params}
 use Rattle.px_store.specs.Seen.{meta_columns, slot_columns, floor_columns, learned_columns}
-use Rattle.px_store.specs.Seen.{meta_row}
+use Rattle.px_store.specs.Seen.{meta_row, is_slot}
+use Rattle.px_store.specs.Entries.{is_entry}
 use Rattle.px_store.specs.inner.Seen.{slot_row, floor_row, learned_row}
 use Rattle.px_store.specs.inner.Effect.{Puts, IsSettled, IsStill}
 use Rattle.px_store.specs.Store.{Stored}
@@ -107,3 +109,11 @@ Replaces (Meta round number) s = ⊤
 Replaces (Slot p promised ballot) s = s.is_good (SlotAt p)
 Replaces (Floor ballot) s = ⊤
 Replaces (Learned p) s = s.is_good (EntryAt p)
+
+-- it is good, and has a proposal where there is one
+abbrev pub IsGoodRow : (members : ℕ) → NewRow → Bytes → Record Bytes → Type 0
+IsGoodRow n (Meta round number) bytes d = ⊤
+IsGoodRow n (Slot p promised ballot) bytes d =
+    (p < positions) × ((is_slot n promised ballot bytes ≡ true) × (ballot ≡ 0 → (d.slots p).accepted ≡ None))
+IsGoodRow n (Floor ballot) bytes d = ⊤
+IsGoodRow n (Learned p) bytes d = (p < positions) × (is_entry n bytes ≡ true)

@@ -1,10 +1,11 @@
 -- What only code and proofs use beside `Ready`.
-use Rattle.std.specs.Prelude.{◌≡◌, ℕ, true, false, [], ◌∷◌}
+use Rattle.std.specs.Prelude.{◌≡◌, ℕ, true, false, List, [], ◌∷◌}
 use Rattle.std.specs.Coded.{×_prop, coded_list}
 use base.Stored.{Coded-set}
 use mathlib.Core.Bool.{Bool-set}
 use mathlib.Core.HLevel.{Π_prop}
 use Rattle.sqlite.specs.Tree.{Trees}
+use Rattle.sqlite_value.specs.Order.{Row}
 use Rattle.sqlite_value.specs.contracts.value.Value as value
 use Rattle.sqlite_schema.specs.contracts.schema.Schema.{the_row}
 use Rattle.sqlite.specs.State.{State, HasCleanDisk}
@@ -13,7 +14,7 @@ use Rattle.px_model.specs.Seen.{meta_of}
 use Rattle.px_model.specs.declared.record.Meta.{Meta}
 use Rattle.px_records.specs.inner.Props.{MetaFits-prop}
 use Rattle.px_store.specs.Tables.{schema_3}
-use Rattle.px_store.specs.Seen.{seen, meta_columns, meta_row, floor_columns}
+use Rattle.px_store.specs.Seen.{seen, meta_columns, meta_row, number_at, floor_columns}
 use Rattle.px_store.specs.inner.Seen.{floor_rows}
 use Rattle.px_store.specs.declared.calls.Identity.{Identity}
 
@@ -44,3 +45,14 @@ AreBounded id m = MetaFits id.members (meta_of m)
 
 pub AreBounded-prop : (id : Identity) (m : Meta) → IsProp (AreBounded id m)
 AreBounded-prop id m = MetaFits-prop id.members (meta_of m)
+
+-- the row for the whole node names this node
+abbrev pub IsNamed : Identity → List Row → Type 0
+IsNamed id rows = rows ≡ meta_row 3 id.cluster id.members id.node (number_at 5 rows) (number_at 6 rows) ∷ []
+
+-- whatever the next opening may find is this node's, where the disk returned what was written
+abbrev pub IsOwned : Identity → State → Type 0
+IsOwned id s = HasCleanDisk s → (db : Trees) → s.may_leave db → IsNamed id (seen meta_columns (db 0) 1)
+
+pub IsOwned-prop : (id : Identity) (s : State) → IsProp (IsOwned id s)
+IsOwned-prop id s = Π_prop (λ _. Π_prop (λ _. Π_prop (λ _. Coded-set (coded_list (coded_list value.the_row.coded)) _ _)))

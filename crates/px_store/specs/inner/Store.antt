@@ -16,6 +16,10 @@ pub record Keeps (old new : Stored) : Type 0 where
   pub rows : (x : Place) → old.is_good x → new.is_good x
   pub back : (x : Place) → new.is_good x → old.is_good x
 
+-- where a row was good it is good
+abbrev pub StaysGood : (old new : Stored) → Type 0
+StaysGood old new = (x : Place) → old.is_good x → new.is_good x
+
 -- a read: nothing differs while no call has failed, and a stop leaves what it left before
 pub record OnlyReads (old new : Stored) : Type 0 where
   pub was : new.is_honest → old.is_honest

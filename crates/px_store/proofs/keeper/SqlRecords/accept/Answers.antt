@@ -1,8 +1,13 @@
-use Rattle.std.proofs.Common.{◌≡◌, rules}
+use Rattle.std.proofs.Common.{◌≡◌, rules, sym, subst}
 use Rattle.px_model.specs.Node.{Record}
 use Rattle.px_model.specs.Spelling.{Bytes}
 use Rattle.px_store.specs.inner.Store.{with_slot}
-use Rattle.px_store.proofs.Promises.{read_then, not_read}
+use Rattle.px_store.proofs.Promises.{read_then, not_read, accepted_good}
+use Rattle.px_store.proofs.Stored.{not_zero}
+use Rattle.px_store.specs.inner.NewRows.{IsGoodRow}
+use Rattle.px_store.specs.declared.calls.Identity.{Identity}
+use Rattle.px_store.specs.declared.calls.NewRow.TheVariants.{Slot}
+
 use Rattle.px_store.specs.View.{view_of}
 use Rattle.px_store.proofs.keeper.SqlRecords.accept.Goals as goal
 
@@ -20,3 +25,16 @@ returns-in-Ok-clause-changed g c = λ honest.
 pub returns-in-Err-clause-changed : goal.returns-in-Err-clause-changed
 returns-in-Err-clause-changed g c = λ honest.
     not_read _ (view_of g.S.Store c.args.self.now) (view_of g.S.Store c.good_slot.new.self) _ c.in-Err.ensures.reads honest (λ memory. let none : c.good_slot.new.self.failures ≡ 0 = search rules in none)
+
+pub returns-in-Ok-clause-rows : goal.returns-in-Ok-clause-rows
+returns-in-Ok-clause-rows g c = λ honest none within is entry x was.
+    let before : c.good_slot.new.self.failures ≡ 0 = search rules in
+    let mid = c.keep.ensures.was honest in
+    let n = c.args.self.now.identity.members in
+    let fit = (within, (accepted_good n c.args.ballot c.args.entry.now is entry, λ zero. absurd (not_zero n c.args.ballot zero is))) in
+    c.keep.ensures.rows honest none (c.in-Ok.ensures.good mid)
+    (subst (λ (i : Identity). IsGoodRow i.members (Slot c.args.position c.args.ballot c.args.ballot) c.args.entry.now (view_of g.S.Store c.good_slot.new.self).kept) (sym c.in-Ok.ensures.same_identity) fit)
+    x ((c.in-Ok.ensures.reads.keeps mid before).rows x was)
+
+pub returns-in-Err-clause-rows : goal.returns-in-Err-clause-rows
+returns-in-Err-clause-rows g c = λ honest none within is entry x was. (c.in-Err.ensures.reads.keeps honest none).rows x was

@@ -1,10 +1,13 @@
-use Rattle.std.proofs.Common.{◌≡◌, ◌∙◌, ap, subst, inl, inr}
+use Rattle.std.proofs.Common.{◌≡◌, ◌∙◌, ap, subst, sym, refl, inl, inr}
 use Rattle.sqlite.specs.Held.{state}
 use Rattle.sqlite.specs.Effect.{Database}
 use Rattle.px_store.specs.Seen.{record_in}
 use Rattle.px_store.specs.Adopting.{Began}
 use Rattle.px_store.specs.declared.formats.Format.{Format}
 use Rattle.px_store.specs.declared.formats.Format.TheVariants.{Three}
+use Rattle.sqlite.specs.Tree.{Trees}
+use Rattle.px_store.specs.inner.Ready.{IsMeta}
+use Rattle.px_store.proofs.NewRows.{meta_named}
 use Rattle.px_store.proofs.Owned.{own_three}
 use Rattle.px_store.proofs.keeper.SqlRecords.adopt.Goals as goal
 
@@ -28,3 +31,13 @@ returns-in-Ok-clause-found g c = λ clean own some.
           let shows = c.in_default.ensures.made mid Three (subst (λ (f : Format). Began f s) three began) in
           (clean, ap (λ (d : Database). record_in d.trees) (c.in-Ok.ensures.stays clean) ∙ shows.is)
     ]
+
+pub invariant_of-result : goal.invariant_of-result
+invariant_of-result g c = record {
+  bounds = c.in-Ok.ensures.bounds;
+  ready = c.in-Ok.ensures.ready;
+  owned = λ clean db left.
+      let r = c.in-Ok.ensures.ready refl clean in
+      let same = g.met.S.Store.settled c.read_again.new.conn.store db r.1.1.0 left in
+      meta_named c.args.identity c.in-Ok.meta db (subst (λ (t : Trees). IsMeta c.args.identity c.in-Ok.meta t) (sym same) r.1.1.1);
+}

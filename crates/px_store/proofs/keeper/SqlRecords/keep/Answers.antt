@@ -1,9 +1,10 @@
 use Rattle.sqlite.specs.Held.{state}
-use Rattle.std.proofs.Common.{Ok, Err, subst}
+use Rattle.std.proofs.Common.{Ok, Err, refl, subst}
 use Rattle.px_store.specs.declared.calls.Trouble.{Trouble}
 use Rattle.px_store.specs.declared.calls.Trouble.TheVariants.{Memory, Failed}
 use Rattle.px_store.specs.inner.NewRows.{Wrote}
-use Rattle.px_store.proofs.NewRows.{changed, still_ready}
+use Rattle.px_store.proofs.NewRows.{changed, still_ready, still_owned}
+use Rattle.px_store.proofs.Good.{rows_stay}
 use Rattle.px_store.proofs.keeper.SqlRecords.keep.Goals as goal
 
 pub invariant_of-self : goal.invariant_of-self
@@ -13,6 +14,9 @@ invariant_of-self g c = record {
       let r = c.args.self.now.ready c.requires.none (c.in-Ok.ensures.clean clean) in
       let w = c.in-Ok.ensures.wrote clean (record { schema = r.0; auto = r.1.0 }) r.1.1.0 in
       still_ready c.args.self.now.identity c.args.row c.args.bytes.now c.args.self.now.meta c.args.meta (state g.S.Store c.args.self.now.conn) (state g.S.Store c.put.new.conn) c.requires.says c.requires.floor r.1.1.1 w.ok;
+  owned = still_owned c.args.self.now.identity c.args.row c.args.bytes.now c.args.self.now.meta _ (state g.S.Store c.args.self.now.conn) (state g.S.Store c.put.new.conn) c.in-Ok.ensures.clean c.requires.floor
+      (λ was. (c.args.self.now.ready c.requires.none was).1.1.1) c.args.self.now.owned
+      (λ clean. let r = c.args.self.now.ready c.requires.none (c.in-Ok.ensures.clean clean) in c.in-Ok.ensures.wrote clean (record { schema = r.0; auto = r.1.0 }) r.1.1.0);
 }
 
 pub returns-in-Ok-clause-changed : goal.returns-in-Ok-clause-changed
@@ -32,3 +36,12 @@ returns-in-Err-Failed-clause-changed g c = λ honest good.
     let r = c.args.self.now.ready c.requires.none (c.in-Err-Failed.ensures.clean honest) in
     let w = subst (λ (x : Trouble). Wrote c.args.self.now.identity c.args.row c.args.bytes.now (Err x) (state g.S.Store c.args.self.now.conn) (state g.S.Store c.put.new.conn)) c.in-Err-Failed.field-0-is (c.in-Err-Failed.ensures.wrote honest (record { schema = r.0; auto = r.1.0 }) r.1.1.0) in
     changed c.args.self.now.identity.members c.args.self.now.failures 1 c.args.self.now.identity c.args.row c.args.bytes.now (Err Failed) (state g.S.Store c.args.self.now.conn) (state g.S.Store c.put.new.conn) good w
+
+pub returns-in-Ok-clause-rows : goal.returns-in-Ok-clause-rows
+returns-in-Ok-clause-rows g c = λ honest none good fit.
+    let r = c.args.self.now.ready c.requires.none (c.in-Ok.ensures.clean honest) in
+    let w = c.in-Ok.ensures.wrote honest (record { schema = r.0; auto = r.1.0 }) r.1.1.0 in
+    rows_stay c.args.self.now.identity.members c.args.self.now.failures c.args.self.now.failures c.args.self.now.identity c.args.row c.args.bytes.now (state g.S.Store c.args.self.now.conn) (state g.S.Store c.put.new.conn) good fit w.ok.0
+
+pub returns-in-Err-Memory-clause-rows : goal.returns-in-Err-Memory-clause-rows
+returns-in-Err-Memory-clause-rows g c = λ honest none good fit. ((returns-in-Err-Memory-clause-changed g c honest good).memory refl).rows

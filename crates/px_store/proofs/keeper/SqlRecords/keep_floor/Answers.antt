@@ -7,3 +7,6 @@ keep-requires-clause-bounds g c = record { round = c.args.self.now.bounds.round;
 
 pub keep-requires-clause-floor : goal.keep-requires-clause-floor
 keep-requires-clause-floor g c = λ e. not_zero c.args.self.now.identity.members c.args.ballot e c.requires.r0
+
+pub returns-clause-rows : goal.returns-clause-rows
+returns-clause-rows g c = λ honest none. c.keep.ensures.rows honest none tt tt

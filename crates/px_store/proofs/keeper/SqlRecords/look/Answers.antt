@@ -44,6 +44,9 @@ invariant_of-self g c = record {
       let r = c.args.self.now.ready none (c.in-Ok.ensures.clean clean) in
       let l = c.in-Ok.ensures.looked clean Three (record { schema = r.0; auto = r.1.0 }) (three_has c.args.question) in
       read_ready c.args.self.now.identity c.args.self.now.meta (state g.S.Store c.args.self.now.conn) (state g.S.Store c.get.new.conn) r.0 r.1.1.1 l.ok.1;
+  owned = λ clean db left.
+      let r = c.args.self.now.ready (let none : c.args.self.now.failures ≡ 0 = search rules in none) (c.in-Ok.ensures.clean clean) in
+      c.args.self.now.owned (c.in-Ok.ensures.clean clean) db ((c.in-Ok.ensures.looked clean Three (record { schema = r.0; auto = r.1.0 }) (three_has c.args.question)).stop db left);
 }
 
 pub invariant_of-self-in-Err-Memory : goal.invariant_of-self-in-Err-Memory
@@ -53,4 +56,16 @@ invariant_of-self-in-Err-Memory g c = record {
       let r = c.args.self.now.ready none (c.in-Err-Memory.ensures.clean clean) in
       let l = c.in-Err-Memory.ensures.looked clean Three (record { schema = r.0; auto = r.1.0 }) (three_has c.args.question) in
       read_ready c.args.self.now.identity c.args.self.now.meta (state g.S.Store c.args.self.now.conn) (state g.S.Store c.get.new.conn) r.0 r.1.1.1 (l.memory (let e = c.in-Err-Memory.field-0-is in cc));
+  owned = λ clean db left.
+      let r = c.args.self.now.ready (let none : c.args.self.now.failures ≡ 0 = search rules in none) (c.in-Err-Memory.ensures.clean clean) in
+      c.args.self.now.owned (c.in-Err-Memory.ensures.clean clean) db ((c.in-Err-Memory.ensures.looked clean Three (record { schema = r.0; auto = r.1.0 }) (three_has c.args.question)).stop db left);
+}
+
+pub invariant_of-self-in-Err-Failed : goal.invariant_of-self-in-Err-Failed
+invariant_of-self-in-Err-Failed g c = record {
+  bounds = c.args.self.now.bounds;
+  ready = λ one. absurd cc;
+  owned = λ clean db left.
+      let r = c.args.self.now.ready (let none : c.args.self.now.failures ≡ 0 = search rules in none) (c.in-Err-Failed.ensures.clean clean) in
+      c.args.self.now.owned (c.in-Err-Failed.ensures.clean clean) db ((c.in-Err-Failed.ensures.looked clean Three (record { schema = r.0; auto = r.1.0 }) (three_has c.args.question)).stop db left);
 }

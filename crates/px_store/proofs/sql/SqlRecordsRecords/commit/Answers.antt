@@ -8,3 +8,6 @@ returns-clause-memory g c = λ honest is. ((c.make.ensures.changed honest).memor
 
 pub returns-clause-stop : goal.returns-clause-stop
 returns-clause-stop g c = λ honest. (c.make.ensures.changed honest).stop
+
+pub returns-clause-rows : goal.returns-clause-rows
+returns-clause-rows g c = λ honest none. c.make.ensures.rows honest none (c.requires.rises (c.make.ensures.was honest))
