@@ -1,5 +1,6 @@
 -- Where a node's status says that its members listen.
-use Rattle.std.specs.Prelude.{◌≡◌, ◌≤◌, ℕ, List, [], ◌∷◌, ◌++◌, Option, Some, None, codes, bytes_eq, option_and_then, map}
+use Rattle.std.specs.Prelude.{◌≡◌, ◌≤◌, ℕ, List, [], ◌∷◌, ◌++◌, Option, Some, None, codes, bytes_eq, option_and_then}
+use Rattle.std.specs.Prelude.{map}
 use Rattle.std.specs.Prelude.{length, if◌then◌else◌}
 use Rattle.std.specs.List.{AllByRecursion}
 use Rattle.pf_addr.specs.Blocks.{FitsAddr}

@@ -6,7 +6,8 @@ ghost use Rattle.pf_command.specs.Effect.{empty};
 ghost use Rattle.pf_entry.specs.Reading.{reading};
 ghost use Rattle.pf_node.specs.Applied.{after_read};
 ghost use Rattle.pf_scripts.specs.Lines.{lines};
-ghost use Rattle.cli_follow.specs.Following.{after_decoded, after_lines, Follows, StopsIn, does, next_of, lines_applied};
+ghost use Rattle.cli_follow.specs.Following.{after_decoded, after_lines, Follows, StopsIn, does, next_of};
+ghost use Rattle.cli_follow.specs.Following.{lines_applied};
 ghost use Rattle.cli_follow.specs.Following.{followed_of};
 
 use hex::FromHexError;

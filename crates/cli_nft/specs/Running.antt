@@ -17,7 +17,8 @@ asks_nft (name ∷ []) = false
 asks_nft (name ∷ word ∷ words) = bytes_eq word (codes "check") && list_any (λ w. bytes_eq w (codes "--nft")) words
 
 -- What a run that ended so has written, of this file of interfaces, these members, this position and this input. Where
--- memory ran out it wrote that alone; a run that failed wrote a front of either, and nothing where the input wasn't read.
+-- memory ran out it wrote that alone; a run that failed wrote a front of either, and nothing where the input wasn't
+-- read.
 abbrev pub Wrote : Option (List ℕ) → Option (List Member) → ℕ → Status → Option (List ℕ) → Option (List ℕ) →
     Option (List ℕ) → Type 0
 Wrote file ms position status.Done input old new = IfSome input (λ bytes.

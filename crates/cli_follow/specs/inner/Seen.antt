@@ -3,7 +3,8 @@ use Rattle.std.specs.Prelude.{◌≡◌, ℕ, Bool, true, false, List, [], Optio
 use Rattle.std.specs.Io.KnownBytes.{Appends}
 use Rattle.nft_rules.specs.declared.guard.Member.{Member}
 use Rattle.cli_follow.specs.Following.{followed_of}
-use Rattle.cli_follow.specs.Output.{Wanted, Follower, Given, Loads, Reached, AsksEntries, AsksStatus, Ended, loads, silent}
+use Rattle.cli_follow.specs.Output.{Wanted, Follower, Given, Loads, Reached, AsksEntries, AsksStatus, Ended, loads}
+use Rattle.cli_follow.specs.Output.{silent}
 use Rattle.cli_follow.specs.Output.{Stage, written_to, after}
 use Rattle.cli_follow.specs.Exchanges.{Exchange, Adds}
 use Rattle.cli_follow.specs.declared.followed_configuration.FollowedConfiguration.{FollowedConfiguration}
