@@ -7,7 +7,6 @@ use Rattle.px_store.proofs.Stored.{not_zero}
 use Rattle.px_store.specs.inner.NewRows.{IsGoodRow}
 use Rattle.px_store.specs.declared.calls.Identity.{Identity}
 use Rattle.px_store.specs.declared.calls.NewRow.TheVariants.{Slot}
-
 use Rattle.px_store.specs.View.{view_of}
 use Rattle.px_store.proofs.keeper.SqlRecords.accept.Goals as goal
 
