@@ -15,7 +15,7 @@ use Rattle.px_model.specs.Spelling.{Bytes}
 use Rattle.px_model.specs.Step.{positions}
 use Rattle.px_records.specs.Records.{Place}
 use Rattle.px_records.specs.Records.Place.{SlotAt, EntryAt, LastSlot, LastEntry}
-use Rattle.px_store.specs.Seen.{rows_at, seen, shown, slot_columns, learned_columns, slot_in, accepted_in, has_ballot, any_row, is_above, is_slot, are_slot_rows, are_learned_rows, IsLastGood, record_in}
+use Rattle.px_store.specs.Seen.{rows_at, seen, shown, slot_columns, learned_columns, slot_in, has_ballot, any_row, is_above, is_slot, are_slot_rows, are_learned_rows, IsLastGood, record_in}
 use Rattle.px_store.specs.Entries.{is_entry}
 use Rattle.px_store.specs.Ready.{is_good, IsSlotGood, IsEntryGood, stored_of}
 use Rattle.px_store.specs.inner.Seen.{IsKeyed, slot_row, learned_row}

@@ -10,6 +10,8 @@
 -- - The keeper in memory keeps `RecordFits` of its whole record as a ghost field. That it is a fact (`Props.antt`) is a
 --   record of such facts, field by field: `λ i. record { round = le_prop x.round y.round i; .. }`; `specs/` may cite
 --   std's lemmas, but no tactic.
+-- - What is put leaves the rows beside its key as one list (`Puts.others`, over `without_rowid`): rows under another key
+--   follow (`others_at`), and so does what speaks of all rows, as that the last one is good (`Good.last_stays`).
 -- - What is put is a `NewRow` and what is asked a `Question`: one function runs the statements of each (`run`, `ask`),
 --   and one record says what a call makes of a connection (`Wrote`, `Looked`), so that `put` and `get` have two clauses
 --   each. What is particular to a statement is in lemmas by cases (`NewRows`, `Questions`).

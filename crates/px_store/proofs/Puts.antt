@@ -1,5 +1,5 @@
 -- What a statement that replaces one row does to the rows.
-use Rattle.std.proofs.Common.{◌≡◌, ◌≢◌, ◌⊎◌, inl, inr, ℕ, ℤ, pos, List, [], ◌∷◌, filter, map, Bool, true, false, not, cond, ◌&&◌, ◌||◌, Option, None, Some, Ok, Err, Result, Ordering, Less, Equal, Greater, refl, sym, ap, subst, subst₂, append-nil, ◌∙◌}
+use Rattle.std.proofs.Common.{◌≡◌, ◌≢◌, ◌⊎◌, inl, inr, ℕ, ℤ, pos, List, [], ◌∷◌, filter, map, Bool, true, false, not, cond, ◌&&◌, ◌||◌, Option, None, Some, Ok, Err, Result, Equal, refl, sym, ap, subst, subst₂, append-nil, ◌∙◌}
 use Rattle.std.specs.Ordering.{is_eq}
 use Rattle.std.specs.Prelude.{IsTrue, MatchBool, length, ◌/◌}
 use Rattle.std.proofs.lemmas.Bool.{cases_Bool}

@@ -35,7 +35,8 @@ impl<S: Alter> SqlRecords<S> {
         ensures changed { (view_of S.Store self.new).is_honest → Replaces row (view_of S.Store self.old) →
             Changed (with_row row bytes.now (view_of S.Store self.old).kept) result (view_of S.Store self.old)
             (view_of S.Store self.new) }
-        ensures rows { (view_of S.Store self.new).is_honest → self.new.failures ≡ 0 → Replaces row (view_of S.Store self.old) →
+        ensures rows { (view_of S.Store self.new).is_honest → self.new.failures ≡ 0 →
+            Replaces row (view_of S.Store self.old) →
             IsGoodRow self.old.identity.members row bytes.now (view_of S.Store self.old).kept →
             StaysGood (view_of S.Store self.old) (view_of S.Store self.new) }
         ensures bad { result ≡ Err StoreFault.BadStore → ⊥ }
@@ -239,7 +240,8 @@ impl<S: Alter> SqlRecords<S> {
         ensures changed { (view_of S.Store self.new).is_honest →
             Changed (committed (Some (change_of change.now)) (view_of S.Store self.old).kept) result
             (view_of S.Store self.old) (view_of S.Store self.new) }
-        ensures rows { (view_of S.Store self.new).is_honest → self.new.failures ≡ 0 → Rises (change_of change.now) (view_of S.Store self.old).kept →
+        ensures rows { (view_of S.Store self.new).is_honest → self.new.failures ≡ 0 →
+            Rises (change_of change.now) (view_of S.Store self.old).kept →
             StaysGood (view_of S.Store self.old) (view_of S.Store self.new) }
         ensures bad { result ≡ Err StoreFault.BadStore → ⊥ }
         ensures counts { (result ≡ Err StoreFault.Failed) ↔ (0 < self.new.failures) }

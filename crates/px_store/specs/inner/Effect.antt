@@ -12,7 +12,8 @@ use Rattle.px_store.specs.inner.Seen.{IsKeyed}
 -- Under this key the tree shows this row, and nothing else differs, where the key had one row of its own or none.
 pub record Puts (tree p : ℕ) (columns : List ℕ) (row : Row) (old new : Trees) : Type 0 where
   pub put : seen columns (new tree) p ≡ row ∷ []
-  pub others : IsKeyed p (seen columns (old tree) p) → without_rowid (pos p) (new tree) ≡ without_rowid (pos p) (old tree)
+  pub others : IsKeyed p (seen columns (old tree) p) →
+      without_rowid (pos p) (new tree) ≡ without_rowid (pos p) (old tree)
   pub trees : (t : ℕ) → t ≢ tree → new t ≡ old t
 
 -- committed and open, over the four tables

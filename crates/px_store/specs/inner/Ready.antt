@@ -55,4 +55,5 @@ abbrev pub IsOwned : Identity → State → Type 0
 IsOwned id s = HasCleanDisk s → (db : Trees) → s.may_leave db → IsNamed id (seen meta_columns (db 0) 1)
 
 pub IsOwned-prop : (id : Identity) (s : State) → IsProp (IsOwned id s)
-IsOwned-prop id s = Π_prop (λ _. Π_prop (λ _. Π_prop (λ _. Coded-set (coded_list (coded_list value.the_row.coded)) _ _)))
+IsOwned-prop id s =
+    Π_prop (λ _. Π_prop (λ _. Π_prop (λ _. Coded-set (coded_list (coded_list value.the_row.coded)) _ _)))

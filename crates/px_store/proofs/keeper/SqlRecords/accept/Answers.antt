@@ -30,7 +30,8 @@ returns-in-Ok-clause-rows g c = λ honest none within is entry x was.
     let before : c.good_slot.new.self.failures ≡ 0 = search rules in
     let mid = c.keep.ensures.was honest in
     let n = c.args.self.now.identity.members in
-    let fit = (within, (accepted_good n c.args.ballot c.args.entry.now is entry, λ zero. absurd (not_zero n c.args.ballot zero is))) in
+    let fit : IsGoodRow n (Slot c.args.position c.args.ballot c.args.ballot) c.args.entry.now (view_of g.S.Store c.good_slot.new.self).kept =
+    (within, (accepted_good n c.args.ballot c.args.entry.now is entry, λ zero. absurd (not_zero n c.args.ballot zero is))) in
     c.keep.ensures.rows honest none (c.in-Ok.ensures.good mid)
     (subst (λ (i : Identity). IsGoodRow i.members (Slot c.args.position c.args.ballot c.args.ballot) c.args.entry.now (view_of g.S.Store c.good_slot.new.self).kept) (sym c.in-Ok.ensures.same_identity) fit)
     x ((c.in-Ok.ensures.reads.keeps mid before).rows x was)

@@ -42,7 +42,8 @@ returns-in-Ok-clause-rows g c = λ honest none within is up x was.
     let promised : ((view_of g.S.Store c.args.self.now).kept.slots c.args.position).promised ≡ s.promised =
     ap (λ (d : Record Bytes). (d.slots c.args.position).promised) (sym keeps.same) ∙ sym (ap (λ (t : Slot Bytes). t.promised) read) in
     let low : s.promised ≤ c.args.ballot = subst (λ k. k ≤ c.args.ballot) promised up in
-    let fit = (within, (raised n s.promised c.args.ballot s.ballot s.entry.items c.in-Ok.ensures.fits is low, none_accepted m.kept c.args.position s.promised s.ballot s.entry.items read)) in
+    let fit : IsGoodRow n (Put c.args.position c.args.ballot s.ballot) s.entry.items m.kept =
+    (within, (raised n s.promised c.args.ballot s.ballot s.entry.items c.in-Ok.ensures.fits is low, none_accepted m.kept c.args.position s.promised s.ballot s.entry.items read)) in
     c.keep.ensures.rows honest none (c.in-Ok.ensures.good mid)
     (subst (λ (i : Identity). IsGoodRow i.members (Put c.args.position c.args.ballot s.ballot) c.as_slice-entry.result.now m.kept) (sym c.in-Ok.ensures.same_identity)
     (subst (λ e. IsGoodRow n (Put c.args.position c.args.ballot s.ballot) e m.kept) (sym same) fit))
