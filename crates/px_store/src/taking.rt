@@ -87,9 +87,9 @@ impl<S: Alter> SqlRecords<S> {
         }
     }
 
-    /// The record in a store that isn't new: as [`adopt`](SqlRecords::adopt), but a store without tables is refused with
-    /// 73, and isn't written to. Such a store has lost its tables, and with them what its node promised and accepted; or
-    /// a stop came before its first start had made them, and its node has promised nothing.
+    /// The record in a store that isn't new: as [`adopt`](SqlRecords::adopt), but a store without tables is refused
+    /// with 73, and isn't written to. Such a store has lost its tables, and with them what its node promised and
+    /// accepted; or a stop came before its first start had made them, and its node has promised nothing.
     pub fn reopen(
         alloc: Global,
         conn: Connection<S>,
