@@ -18,7 +18,7 @@
 //!   socket can be typed again. The store's file comes before, without a byte, since 70 is answered before 82 and 84;
 //!   it is left there, since by then it could be another node's. The sockets are closed again, and opened by the run.
 //! - **`--check` refuses no address in use and no control socket that answers**, since its node may be running, nor one
-//!   whose folder is missing, since systemd makes that with the service. Standard error has them.
+//!   whose folder is missing, since systemd makes that with the service.
 //! - **A new store has pages of 1,024 bytes**, where the database's own size is 4,096: a commit writes whole pages, and
 //!   copies, counts and sums their bytes, most often to put one row of some 50 bytes. A store that is there keeps its
 //!   size. The files are made by the calls that the database itself makes them by, with its lock held, so that a stop

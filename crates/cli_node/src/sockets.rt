@@ -118,7 +118,7 @@ pub(crate) fn of_own_address(rt: &HostRuntime, words: NodeWords<'_, '_, '_>) -> 
 }
 
 /// What is refused of the control socket, if there is one; nothing where a node answers there, as this one where it
-/// runs, or where its folder is missing, as it is made with the service.
+/// runs, or where its folder is missing.
 pub(crate) fn of_control(rt: &HostRuntime, alloc: Global, words: NodeWords<'_, '_, '_>) -> Outcome
     ensures { (result ≡ Sound) ⊎ ((result ≡ Memory) ⊎ (result ≡ Refused 84)) }
 {
@@ -130,7 +130,9 @@ pub(crate) fn of_control(rt: &HostRuntime, alloc: Global, words: NodeWords<'_, '
     };
     match error.kind() {
         ErrorKind::OutOfMemory => Outcome::Memory,
-        ErrorKind::AddrInUse | ErrorKind::NotFound => {
+        // its folder may be made with the service
+        ErrorKind::NotFound => Outcome::Sound,
+        ErrorKind::AddrInUse => {
             say_unsure(rt, "control socket", path, &error);
             Outcome::Sound
         }
