@@ -10,6 +10,14 @@ use Rattle.cli_ask.specs.declared.exchange.Reply.{Reply}
 use Rattle.cli_ask.specs.declared.outcome.Outcome.{Outcome}
 use Rattle.cli_ask.specs.declared.outcome.Outcome.TheVariants.{Answered, Refused, Memory, Unread}
 
+-- a refusal without a line
+abbrev pub refusal : (code : ℕ) → Outcome
+refusal code = Refused (record { code = code; line = 0 })
+
+-- a file can't be read
+abbrev pub unreadable : Outcome
+unreadable = refusal 90
+
 -- what is written of an outcome: the answer, or a line; nothing where the input wasn't read
 abbrev pub text_of : Outcome → List ℕ
 text_of (Answered kind reply) = reply.body.items

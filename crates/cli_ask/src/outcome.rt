@@ -2,7 +2,7 @@
 
 ghost use Rattle.std.specs.Prelude.{◌≡◌, IfOk, string_bytes};
 ghost use Rattle.pf_scripts.specs.Lines.{refused_line};
-ghost use Rattle.cli_ask.specs.Outcomes.{Wrote, answer_status};
+ghost use Rattle.cli_ask.specs.Outcomes.{Wrote, answer_status, refusal};
 
 use crate::answers::is_done;
 use crate::call::Kind;
@@ -26,7 +26,9 @@ pub(crate) enum Outcome {
 }
 
 /// A refusal without a line.
-pub(crate) fn refused(code: u8) -> Outcome {
+pub(crate) fn refused(code: u8) -> Outcome
+    ensures { result ≡ refusal code }
+{
     Outcome::Refused(Refused { code, line: 0 })
 }
 

@@ -1,5 +1,9 @@
 //! A run of `ask` with `--control`.
 
+ghost use Rattle.std.specs.Prelude.{◌≡◌, ◌≢◌, ◌⊎◌, [], Some, None, IfOk, IfErr, IfSome, codes, option_map};
+ghost use Rattle.cli_ask.specs.Outcomes.{unreadable};
+ghost use Rattle.cli_ask.specs.declared.outcome.Outcome.TheVariants.{Memory, Unread};
+
 use crate::asking::ask_at;
 use crate::call::{Call, Kind, call_in};
 use crate::checking::{Refused, refused_args};
@@ -23,7 +27,14 @@ fn text_for<R: Read>(
     alloc: Global,
     named: Option<&str>,
     reader: &mut R,
-) -> Result<Vec<u8>, Outcome> {
+) -> Result<Vec<u8>, Outcome>
+    ensures none { option_map (λ t. t.now) named.entry ≡ None → IfOk result (λ text. text.items ≡ []) }
+    ensures input { option_map (λ t. t.now) named.entry ≡ Some (codes "-") →
+        IfOk result (λ text. IfSome (R.remaining reader.old) (λ input. text.items ≡ input)) }
+    ensures file { option_map (λ t. t.now) named.entry ≢ Some (codes "-") →
+        IfErr result (λ outcome. (outcome ≡ Memory) ⊎ (outcome ≡ unreadable)) }
+    ensures why { IfErr result (λ outcome. (outcome ≡ Memory) ⊎ ((outcome ≡ Unread) ⊎ (outcome ≡ unreadable))) }
+{
     let read = match named {
         None => return Ok(Vec::new(alloc)),
         Some("-") => read_all(alloc, reader),

@@ -11,11 +11,12 @@ use crate::follower::{Due, Follower, WriteFault, is_again};
 use crate::words::command;
 use clap::ArgMatches;
 use cli_ask::{AskFault, pause};
-use cli_io::{Status, misused};
+use cli_io::{Shown, Status, misused};
 use cli_nft::{machine_in, read_file};
 use std::alloc::{AllocError, Global};
 use std::convert::AsStr;
-use std::io::Write;
+use std::fs;
+use std::io::{self, Write};
 
 /// How long it waits between two asks, but for entries that weren't all, in milliseconds.
 const PAUSE: u64 = 50;
@@ -264,12 +265,38 @@ fn interfaces_in(
     }
 }
 
+/// Why a file can't be opened, as the system says it; none where it can. What isn't a regular file isn't opened, since
+/// a pipe would be waited for.
+fn why_unread(rt: &HostRuntime, file: &str) -> io::Result<()> {
+    if fs::metadata(rt, file)?.is_file() {
+        let _opened = fs::open(rt, file)?;
+    }
+    Ok(())
+}
+
+/// Says why a file lists no interfaces.
+fn say_interfaces<E: Write>(rt: &HostRuntime, file: &str, errors: &mut E) {
+    let shown = Shown(file);
+    match why_unread(rt, file) {
+        Ok(()) => {
+            let _said = writeln!(
+                errors,
+                "pfx: interfaces {shown}: a word is no name, a name is there twice, or there are too many names"
+            );
+        }
+        Err(error) => {
+            let _said = writeln!(errors, "pfx: interfaces {shown}: {error}");
+        }
+    }
+}
+
 /// Where the words want it written. 40 where they want it nowhere, `--nft` and `--interfaces` aren't both there, or
-/// `--no-member-guard` is without them; 89 where the file lists no interfaces.
-fn places_for(
+/// `--no-member-guard` is without them; 89 where the file lists no interfaces, which is said on standard error.
+fn places_for<E: Write>(
     rt: &HostRuntime,
     alloc: Global,
     matches: &ArgMatches<'_>,
+    errors: &mut E,
 ) -> Result<Result<Places, u8>, AllocError> {
     let files = match matches.get_str("pf") {
         Some(folder) => Some(TextFiles::new(alloc, folder)?),
@@ -283,7 +310,10 @@ fn places_for(
                 is_guarded,
                 files,
             })),
-            None => Ok(Err(89)),
+            None => {
+                say_interfaces(rt, file, errors);
+                Ok(Err(89))
+            }
         },
         (false, None) => {
             if files.is_none() || !is_guarded {
@@ -315,7 +345,7 @@ fn followed<W: Write, E: Write>(
         interfaces,
         is_guarded,
         files,
-    } = match places_for(rt, alloc, matches) {
+    } = match places_for(rt, alloc, matches, errors) {
         Ok(Ok(places)) => places,
         Ok(Err(code)) => return refused(alloc, code, errors),
         Err(_) => return memory(errors),

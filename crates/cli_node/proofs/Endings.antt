@@ -145,17 +145,22 @@ of_addresses : (o : Outcome) → (o ≡ Sound) ⊎ (o ≡ Refused 82) → (file 
 of_addresses o (inl e) = as_is o Sound e sound
 of_addresses o (inr e) = as_is o (Refused 82) e n82
 
-pub of_check : (file new : Bool) (place key other store starts addresses : Outcome) →
+of_control : (o : Outcome) → (o ≡ Sound) ⊎ ((o ≡ Memory) ⊎ (o ≡ Refused 84)) → (file new : Bool) → IsStoreless file new o
+of_control o (inl e) = as_is o Sound e sound
+of_control o (inr (inl e)) = as_is o Memory e by_memory
+of_control o (inr (inr e)) = as_is o (Refused 84) e n84
+
+pub of_check : (file new : Bool) (place key other store starts addresses control : Outcome) →
     (place ≡ Sound) ⊎ (place ≡ Refused 40) →
     (key ≡ Sound) ⊎ ((key ≡ Memory) ⊎ (key ≡ Refused 83)) → (other ≡ Sound) ⊎ ((other ≡ Memory) ⊎ (other ≡ Refused 83)) →
     IsStoreless file new store → (starts ≡ Sound) ⊎ ((starts ≡ Memory) ⊎ (starts ≡ Refused 95)) →
-    (addresses ≡ Sound) ⊎ (addresses ≡ Refused 82) →
-    IsStoreless file new (checked place (first_of key other) store starts addresses)
-of_check file new place key other store starts addresses p k q s t a =
+    (addresses ≡ Sound) ⊎ (addresses ≡ Refused 82) → (control ≡ Sound) ⊎ ((control ≡ Memory) ⊎ (control ≡ Refused 84)) →
+    IsStoreless file new (checked place (first_of key other) store starts addresses control)
+of_check file new place key other store starts addresses control p k q s t a c =
     first file new place _ (of_place place p file new)
     (first file new (first_of key other) _ (first file new key other (of_key key k file new) (of_key other q file new))
-    (first file new store _ s (first file new starts addresses (of_starts starts t file new)
-    (of_addresses addresses a file new))))
+    (first file new store _ s (first file new starts _ (of_starts starts t file new)
+    (first file new addresses control (of_addresses addresses a file new) (of_control control c file new)))))
 
 pub none_of : {X : Type 0} (m : Option X) (b : Bool) → IsSome m ↔ IsTrue b → b ≡ false → m ≡ None
 none_of None b h e = refl
@@ -163,6 +168,6 @@ none_of (Some x) b h e =
     let t : IsTrue b = h.0 refl in absurd (let f : IsTrue false = subst (λ (q : Bool). IsTrue q) e t in cc)
 
 -- the numbers are the first that is asked
-pub place_first : (place keys store starts addresses : Outcome) → place ≡ Refused 40 →
-    checked place keys store starts addresses ≡ Refused 40
-place_first place keys store starts addresses e = ap (λ (o : Outcome). checked o keys store starts addresses) e
+pub place_first : (place keys store starts addresses control : Outcome) → place ≡ Refused 40 →
+    checked place keys store starts addresses control ≡ Refused 40
+place_first place keys store starts addresses control e = ap (λ (o : Outcome). checked o keys store starts addresses control) e

@@ -1,6 +1,6 @@
 -- What keeps a node from its store.
 use Rattle.std.proofs.Common.{◌≡◌, ◌≢◌, ◌⊎◌, cond, Bool, true, false, ℕ, Result, Ok, Err, refl, sym, subst, ◌∙◌, inl, inr, arith}
-use Rattle.std.specs.Prelude.{OnErr, if◌then◌else◌}
+use Rattle.std.specs.Prelude.{IfErr, OnErr, if◌then◌else◌}
 use Rattle.px_store.specs.declared.fault.AdoptFault.{AdoptFault}
 use Rattle.px_store.specs.declared.fault.AdoptFault.TheVariants as adopt
 use Rattle.cli_node.specs.declared.outcome.Outcome.{Outcome}
@@ -10,7 +10,7 @@ use Rattle.cli_node.specs.declared.store.Found.TheVariants as found
 use Rattle.cli_node.specs.declared.store.Opening.{Opening}
 use Rattle.cli_node.specs.declared.store.Opening.TheVariants.{Opens, Makes, Refuses}
 use Rattle.cli_node.specs.inner.Outcomes.{adopt_outcome}
-use Rattle.cli_node.specs.inner.Stores.{IsNone, IsRefused, IsOpening, IsStoreless}
+use Rattle.cli_node.specs.inner.Stores.{IsNone, IsRefused, IsOpening, IsStoreless, IsUnmade}
 
 -- refusals of one outcome have one number
 same_number : (a b : ℕ) → Refused a ≡ Refused b → a ≡ b
@@ -30,28 +30,20 @@ other file new code f g = record {
 
 abbrev pub table : (file new : Bool) → Found → Opening
 table file new found.Nothing = if new then Makes else (if file then Refuses 93 else Makes)
-table file new found.Empty = if new then Opens else (if file then Refuses 93 else Opens)
+table file new found.Empty = if new then Makes else (if file then Refuses 93 else Makes)
 table file new found.Store = if new then Refuses 94 else Opens
 table file new found.Other = Refuses 70
 
-makes : (file new : Bool) → (file ≡ true → new ≡ false → ⊥) → IsOpening file new found.Nothing Makes
-makes file new not_so = record {
-  kept = λ a b m. not_so a b;
-  blank = λ a b o. absurd (not_so a b);
-  made = λ m. refl;
-  opened = λ o. absurd (cc);
-  held = λ n s. absurd (cc);
-  lost = λ a b n. absurd (not_so a b);
-  refused = λ code r. absurd (cc);
-}
+no_store : IsNone found.Store → ⊥
+no_store (inl e) = cc
+no_store (inr e) = cc
 
-opens_empty : (file new : Bool) → (file ≡ true → new ≡ false → ⊥) → IsOpening file new found.Empty Opens
-opens_empty file new not_so = record {
+makes : (file new : Bool) (f : Found) → (file ≡ true → new ≡ false → ⊥) → IsNone f → IsOpening file new f Makes
+makes file new f not_so none = record {
   kept = λ a b m. not_so a b;
-  blank = λ a b o. absurd (not_so a b);
-  made = λ m. absurd (cc);
-  opened = λ o. inr refl;
-  held = λ n s. absurd (cc);
+  made = λ m. none;
+  opened = λ o. absurd (cc);
+  held = λ n s. absurd (no_store (subst IsNone s none));
   lost = λ a b n. absurd (not_so a b);
   refused = λ code r. absurd (cc);
 }
@@ -59,7 +51,6 @@ opens_empty file new not_so = record {
 loses : (f : Found) → IsNone f → IsOpening true false f (Refuses 93)
 loses f none = record {
   kept = λ a b m. cc;
-  blank = λ a b o. absurd (cc);
   made = λ m. absurd (cc);
   opened = λ o. absurd (cc);
   held = λ n s. absurd (cc);
@@ -70,17 +61,12 @@ loses f none = record {
 keeps : (file : Bool) → IsOpening file true found.Store (Refuses 94)
 keeps file = record {
   kept = λ a b m. cc;
-  blank = λ a b o. absurd (cc);
   made = λ m. absurd (cc);
   opened = λ o. absurd (cc);
   held = λ n s. refl;
   lost = λ a b n. absurd (cc);
   refused = λ code r. inr (inl (sym (same_refusal 94 code r), refl, refl));
 }
-
-no_store : IsNone found.Store → ⊥
-no_store (inl e) = cc
-no_store (inr e) = cc
 
 no_other : IsNone found.Other → ⊥
 no_other (inl e) = cc
@@ -89,9 +75,8 @@ no_other (inr e) = cc
 opens_store : (file : Bool) → IsOpening file false found.Store Opens
 opens_store file = record {
   kept = λ a b m. cc;
-  blank = λ a b o. refl;
   made = λ m. absurd (cc);
-  opened = λ o. inl refl;
+  opened = λ o. refl;
   held = λ n s. absurd (cc);
   lost = λ a b n. absurd (no_store n);
   refused = λ code r. absurd (cc);
@@ -100,7 +85,6 @@ opens_store file = record {
 none_there : (file new : Bool) → IsOpening file new found.Other (Refuses 70)
 none_there file new = record {
   kept = λ a b m. cc;
-  blank = λ a b o. absurd (cc);
   made = λ m. absurd (cc);
   opened = λ o. absurd (cc);
   held = λ n s. absurd (cc);
@@ -110,11 +94,11 @@ none_there file new = record {
 
 by_table : (file new : Bool) (f : Found) → IsOpening file new f (table file new f)
 by_table true false found.Nothing = loses found.Nothing (inl refl)
-by_table false false found.Nothing = makes false false (λ a b. cc)
-by_table file true found.Nothing = makes file true (λ a b. cc)
+by_table false false found.Nothing = makes false false found.Nothing (λ a b. cc) (inl refl)
+by_table file true found.Nothing = makes file true found.Nothing (λ a b. cc) (inl refl)
 by_table true false found.Empty = loses found.Empty (inr refl)
-by_table false false found.Empty = opens_empty false false (λ a b. cc)
-by_table file true found.Empty = opens_empty file true (λ a b. cc)
+by_table false false found.Empty = makes false false found.Empty (λ a b. cc) (inr refl)
+by_table file true found.Empty = makes file true found.Empty (λ a b. cc) (inr refl)
 by_table file true found.Store = keeps file
 by_table file false found.Store = opens_store file
 by_table file new found.Other = none_there file new
@@ -196,3 +180,28 @@ unfailed_file (Err o) outcome is (inl h) e = let same : outcome ≡ Memory = cc 
 unfailed_file (Err o) outcome is (inr h) e =
     let same : outcome ≡ Refused 70 = cc in
     let b : 70 ≡ 80 = same_number 70 80 (sym same ∙ e) in omega (arith, b)
+
+-- a store isn't made
+of_unmade : (file new : Bool) (o : Outcome) → IsUnmade o → IsStoreless file new o
+of_unmade file new o (inl e) = subst (λ (x : Outcome). IsStoreless file new x) (sym e) (by_memory file new)
+of_unmade file new o (inr (inl e)) = subst (λ (x : Outcome). IsStoreless file new x) (sym e) (refused_70 file new)
+of_unmade file new o (inr (inr (inl e))) = subst (λ (x : Outcome). IsStoreless file new x) (sym e)
+    (other file new 82 (λ b. absurd (omega (arith, b))) (λ b. absurd (omega (arith, b))))
+of_unmade file new o (inr (inr (inr e))) = subst (λ (x : Outcome). IsStoreless file new x) (sym e)
+    (other file new 84 (λ b. absurd (omega (arith, b))) (λ b. absurd (omega (arith, b))))
+
+pub by_making : {C : Type 0} (file new : Bool) (r : Result C Outcome) (outcome : Outcome) → r ≡ Err outcome →
+    IfErr r IsUnmade → IsStoreless file new outcome
+by_making file new (Ok c) outcome is h = absurd (cc)
+by_making file new (Err o) outcome is h = let same : o ≡ outcome = cc in of_unmade file new outcome (subst IsUnmade same h)
+
+not_made_80 : (o : Outcome) → IsUnmade o → o ≢ Refused 80
+not_made_80 o (inl e) f = cc
+not_made_80 o (inr (inl e)) f = let b : 70 ≡ 80 = same_number 70 80 (sym e ∙ f) in omega (arith, b)
+not_made_80 o (inr (inr (inl e))) f = let b : 82 ≡ 80 = same_number 82 80 (sym e ∙ f) in omega (arith, b)
+not_made_80 o (inr (inr (inr e))) f = let b : 84 ≡ 80 = same_number 84 80 (sym e ∙ f) in omega (arith, b)
+
+pub unfailed_making : {C : Type 0} (r : Result C Outcome) (outcome : Outcome) → r ≡ Err outcome → IfErr r IsUnmade →
+    outcome ≢ Refused 80
+unfailed_making (Ok c) outcome is h = absurd (cc)
+unfailed_making (Err o) outcome is h = let same : o ≡ outcome = cc in not_made_80 outcome (subst IsUnmade same h)

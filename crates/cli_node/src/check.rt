@@ -1,4 +1,5 @@
-//! The subcommand `node` with `--check`: whether a node could be started. Nothing is made or changed.
+//! The subcommand `node` with `--check`: whether a node could be started. Nothing is changed: a socket that is made to
+//! try that is removed.
 
 ghost use Rattle.std.specs.Prelude.{◌≡◌, ◌⊎◌, Bool, Err, false, length, OnErr};
 ghost use Rattle.cli_node.specs.declared.outcome.Outcome.{Outcome};
@@ -13,6 +14,7 @@ use crate::key::key_in;
 use crate::node::{NodeWords, figures_at, membership};
 use crate::outcome::Outcome;
 use crate::sealing::of_starts;
+use crate::sockets::{of_control, of_own_address};
 use crate::store::{Found, Opening, failed_outcome, found_at, identity_of, opening_of, untaken};
 use cli_io::{Shown, open_regular};
 use node_loop::Membership;
@@ -36,20 +38,24 @@ fn first_of(one: Outcome, other: Outcome) -> Outcome
     }
 }
 
-/// What a start would be refused for, of what is refused of its numbers, its keys, its store, its starts and its
-/// addresses: the first, in the order in which a start asks.
+/// What a start would be refused for, of what is refused of its numbers, its keys, its store, its starts, its addresses
+/// and its control socket: the first, in the order in which a start asks.
 fn checked(
     place: Outcome,
     keys: Outcome,
     store: Outcome,
     starts: Outcome,
     addresses: Outcome,
+    control: Outcome,
 ) -> Outcome
-    ensures { result ≡ checked place keys store starts addresses }
+    ensures { result ≡ checked place keys store starts addresses control }
 {
     first_of(
         place,
-        first_of(keys, first_of(store, first_of(starts, addresses))),
+        first_of(
+            keys,
+            first_of(store, first_of(starts, first_of(addresses, control))),
+        ),
     )
 }
 
@@ -201,9 +207,9 @@ fn of_found(
 {
     match opening_of(words.is_from_file, words.is_new, found) {
         Opening::Makes => Outcome::Sound,
-        Opening::Opens => match (found, m) {
-            (Found::Store, Some(m)) => looked_at(rt, alloc, words, m),
-            _ => Outcome::Sound,
+        Opening::Opens => match m {
+            Some(m) => looked_at(rt, alloc, words, m),
+            None => Outcome::Sound,
         },
         Opening::Refuses(code) => {
             say_storeless(rt, words.store, code);
@@ -287,7 +293,7 @@ fn of_addresses(rt: &HostRuntime, words: NodeWords<'_, '_, '_>) -> Outcome
         return Outcome::Refused(82);
     }
     match figures_at(words) {
-        Ok(_) => Outcome::Sound,
+        Ok(_) => of_own_address(rt, words),
         Err(outcome) => {
             say_figures(rt, words.metrics.unwrap_or(""));
             outcome
@@ -295,8 +301,9 @@ fn of_addresses(rt: &HostRuntime, words: NodeWords<'_, '_, '_>) -> Outcome
     }
 }
 
-/// What a start with these words would be refused for, as far as settings, keys, addresses and store tell: all is said
-/// on standard error, and the first answered, in the order of a start: 40, 83, 93, 94, the store's refusals, 95, 82.
+/// What a start with these words would be refused for, as far as settings, keys, addresses, sockets and store tell: all
+/// is said on standard error, and the first answered, in the order of a start: 40, 83, 93, 94, the store's refusals,
+/// 95, 82, 84.
 pub(crate) fn check_outcome(
     rt: &HostRuntime,
     alloc: Global,
@@ -312,5 +319,13 @@ pub(crate) fn check_outcome(
     let store = of_store(rt, alloc, words, m);
     let starts = starts_of(rt, alloc, words, m);
     let addresses = of_addresses(rt, words);
-    checked(place, first_of(key, other), store, starts, addresses)
+    let control = of_control(rt, alloc, words);
+    checked(
+        place,
+        first_of(key, other),
+        store,
+        starts,
+        addresses,
+        control,
+    )
 }

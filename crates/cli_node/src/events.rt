@@ -4,6 +4,7 @@ use crate::faults::say_why;
 use crate::node::NodeWords;
 use crate::outcome::Outcome;
 use cli_io::Shown;
+use std::alloc::Global;
 
 /// Says that a node begins, and with what.
 pub(crate) fn say_start(rt: &HostRuntime, words: NodeWords<'_, '_, '_>) {
@@ -20,10 +21,15 @@ pub(crate) fn say_start(rt: &HostRuntime, words: NodeWords<'_, '_, '_>) {
 }
 
 /// Says what a node ends with: an error of a refusal, else how far it came.
-pub(crate) fn say_end(rt: &HostRuntime, words: NodeWords<'_, '_, '_>, outcome: Outcome) {
+pub(crate) fn say_end(
+    rt: &HostRuntime,
+    alloc: Global,
+    words: NodeWords<'_, '_, '_>,
+    outcome: Outcome,
+) {
     match outcome {
         Outcome::Refused(code) => {
-            say_why(rt, words, code);
+            say_why(rt, alloc, words, code);
             let _said = eprintln!(rt;
                 "pfx: error: node {} ends, refused {code} (pfx explain {code})",
                 words.me

@@ -1,18 +1,25 @@
 //! What a node says on standard error of why it isn't started, or ends: which file or address, and what the system
 //! said.
 
+ghost use Rattle.std.specs.Prelude.{◌≡◌, ◌↔◌, IsTrue};
+ghost use Rattle.sqlite.specs.Held.{state};
+ghost use Rattle.px_store.specs.Tables.{no_schema};
+
 use crate::node::NodeWords;
-use cli_io::Shown;
+use crate::sockets::try_control;
+use cli_files::RaiseFault;
+use cli_io::{Shown, make_private, open_regular};
 use node_loop::Membership;
 use px_store::AdoptFault;
 use sqlite::{Alter, Connection};
+use std::alloc::Global;
 use std::fmt::Display;
 use std::fs::{self, OpenOptions};
 use std::io::{self, Error, ErrorKind};
 use std::net::{TcpListener, ToSocketAddrs, UdpSocket};
 
 /// Why a node can't read and write a file, as the system says it; none where it can.
-fn why_closed(rt: &HostRuntime, path: &str) -> io::Result<()> {
+pub(crate) fn why_closed(rt: &HostRuntime, path: &str) -> io::Result<()> {
     if !fs::metadata(rt, path)?.is_file() {
         return Err(Error::new(ErrorKind::InvalidInput, "it isn't a regular file"));
     }
@@ -60,11 +67,11 @@ pub(crate) fn owner_of<S: Alter>(
 }
 
 /// Whether a store has no tables.
-fn is_bare<S: Alter>(conn: &mut Connection<S>) -> bool {
-    match conn.query_row("SELECT count(*) FROM sqlite_schema", &[]) {
-        Ok(row) => row.get::<u32>(0) == Ok(0),
-        Err(_) => false,
-    }
+fn is_bare<S: Alter>(conn: &Connection<S>) -> bool
+    ensures { IsTrue result ↔ ((state S.Store conn.now).now.schema ≡ no_schema) }
+{
+    let schema = conn.schema();
+    schema.tables.is_empty() && schema.indexes.is_empty() && schema.views.is_empty()
 }
 
 /// Says why a store isn't taken.
@@ -153,8 +160,51 @@ fn say_unbound(rt: &HostRuntime, words: NodeWords<'_, '_, '_>) {
     }
 }
 
+/// Says why no control socket is made at a path.
+pub(crate) fn say_uncontrolled(rt: &HostRuntime, alloc: Global, path: &str) {
+    let shown = Shown(path);
+    match try_control(rt, alloc, path) {
+        Ok(()) => {
+            let _said = eprintln!(rt; "pfx: error: control socket {shown}: the system refused it");
+        }
+        Err(error) => {
+            let _said = eprintln!(rt; "pfx: error: control socket {shown}: {error}");
+        }
+    }
+}
+
+/// Why a file of starts can't be read, or written beside its place, as the system says it; none where it can.
+fn why_unusable(rt: &HostRuntime, alloc: Global, path: &str, fault: RaiseFault) -> io::Result<()> {
+    match fault {
+        RaiseFault::Unread => {
+            let _opened = open_regular(rt, path)?;
+            Ok(())
+        }
+        RaiseFault::Unwritten => {
+            let beside = format!(in alloc; "{path}-new")?;
+            let _gone = fs::remove_file(rt, beside.as_str());
+            let _made = make_private(rt, beside.as_str())?;
+            fs::remove_file(rt, beside.as_str())
+        }
+        _ => Ok(()),
+    }
+}
+
+/// Says why a file of starts can't be used.
+pub(crate) fn say_unusable(rt: &HostRuntime, alloc: Global, path: &str, fault: RaiseFault) {
+    let shown = Shown(path);
+    match why_unusable(rt, alloc, path, fault) {
+        Ok(()) => {
+            let _said = eprintln!(rt; "pfx: error: starts {shown}: {fault}");
+        }
+        Err(error) => {
+            let _said = eprintln!(rt; "pfx: error: starts {shown}: {fault}: {error}");
+        }
+    }
+}
+
 /// Says of a refusal that ends a run which file or address it is of.
-pub(crate) fn say_why(rt: &HostRuntime, words: NodeWords<'_, '_, '_>, code: u8) {
+pub(crate) fn say_why(rt: &HostRuntime, alloc: Global, words: NodeWords<'_, '_, '_>, code: u8) {
     match code {
         70 => say_closed(rt, words.store, &"a change couldn't be written, or read"),
         72 => {
@@ -163,14 +213,9 @@ pub(crate) fn say_why(rt: &HostRuntime, words: NodeWords<'_, '_, '_>, code: u8) 
         82 => if say_unknown(rt, words) {
             say_unbound(rt, words);
         },
-        84 => {
-            if let Some(control) = words.control {
-                let _said = eprintln!(rt;
-                    "pfx: error: {}: another node answers there, something else stands there, or the system refuses it",
-                    Shown(control)
-                );
-            }
-        }
+        84 => if let Some(control) = words.control {
+            say_uncontrolled(rt, alloc, control);
+        },
         _ => {}
     }
 }

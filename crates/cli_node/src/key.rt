@@ -1,22 +1,22 @@
 //! The keys that the arguments of `node` name, and new ones.
 
-ghost use Rattle.std.specs.Prelude.{◌≡◌, ◌⊎◌, ◌==◌, ◌/◌, Ok, Err, Some, true, OnErr, IfOk, IfSome, option_map, is_some};
-ghost use Rattle.std.specs.Prelude.{ℕ, List, map};
+ghost use Rattle.std.specs.Prelude.{◌≡◌, ◌≢◌, ◌⊎◌, ◌==◌, ◌/◌, Ok, Err, Some, true, OnErr, IfOk, IfSome, option_map};
+ghost use Rattle.std.specs.Prelude.{ℕ, List, map, is_some};
 ghost use Rattle.cli_files.specs.Clusters.{IsClusterKey};
 ghost use Rattle.node_udp.specs.Addresses.{address_of};
-ghost use Rattle.cli_node.specs.declared.outcome.Outcome.TheVariants.{Memory, Refused};
+ghost use Rattle.cli_node.specs.declared.outcome.Outcome.TheVariants.{Key, Memory, Refused};
 ghost use Rattle.cli_node.specs.inner.Places.{is_loopback, is_loopback_ip};
 
 use crate::node::NodeWords;
 use crate::outcome::Outcome;
 use crate::store::FILE_IS_THERE;
-use cli_files::{KeyFault, key_text, new_key, read_cluster_key};
+use cli_files::{KeyFault, RandomBytes, key_text, new_key, read_cluster_key};
 use cli_io::{Shown, make_private, open_regular};
 use node_udp::parse_address;
 use pf_addr::Addr;
 use std::alloc::Global;
-use std::fs;
-use std::io::{self, ErrorKind, Write};
+use std::fs::{self, Files};
+use std::io::{self, Eprint, ErrorKind, Write};
 
 /// A key's file that is none, or can't be read or made.
 const BAD_KEY: u8 = 83;
@@ -104,6 +104,8 @@ fn keys_with(
     ensures refused { OnErr result ((result ≡ Err Memory) ⊎ (result ≡ Err (Refused 83))) }
     ensures key { IfOk result (λ ks. option_map (λ k. k.key) ks ≡ Some key) }
     ensures other { IfOk result (λ ks. option_map (λ k. is_some k.other) ks ≡ Some (is_some words.entry.other_key)) }
+    ensures heard { IfOk result (λ ks. IfSome ks (λ k. IfSome k.other (λ o. (text : List ℕ) ×
+        IsClusterKey text words.entry.cluster (map (λ t. t.now) words.entry.members.now) o))) }
     ensures keyed { IfOk result (λ ks. is_some ks ≡ true) }
 {
     match words.other_key {
@@ -122,6 +124,8 @@ pub(crate) fn keys_for(
     ensures keyed { IfOk result (λ ks. is_some ks ≡ is_some words.entry.key) }
     ensures made { IfOk result (λ ks. IfSome ks (λ k. (text : List ℕ) ×
         IsClusterKey text words.entry.cluster (map (λ t. t.now) words.entry.members.now) k.key)) }
+    ensures heard { IfOk result (λ ks. IfSome ks (λ k. IfSome k.other (λ o. (text : List ℕ) ×
+        IsClusterKey text words.entry.cluster (map (λ t. t.now) words.entry.members.now) o))) }
 {
     let Some(path) = words.key else {
         return Ok(None);
@@ -168,7 +172,7 @@ pub(crate) fn warn_unsealed(rt: &HostRuntime, words: NodeWords<'_, '_, '_>) {
 }
 
 /// Writes a key into a new file, which its owner alone may read.
-fn write_key(rt: &HostRuntime, path: &str, text: &str) -> io::Result<()> {
+fn write_key<F: Files>(rt: &F, path: &str, text: &str) -> io::Result<()> {
     let mut file = make_private(rt, path)?;
     let written = file.write_all(text.as_bytes());
     if written.is_err() {
@@ -178,7 +182,9 @@ fn write_key(rt: &HostRuntime, path: &str, text: &str) -> io::Result<()> {
 }
 
 /// What a new key comes to that is to be in a file: 94 where one is there, 83 where the system refuses it.
-fn kept(rt: &HostRuntime, alloc: Global, path: &str, key: &[u8; 32]) -> Outcome {
+fn kept<RT: Files + Eprint>(rt: &RT, alloc: Global, path: &str, key: &[u8; 32]) -> Outcome
+    ensures { (key : List ℕ) → result ≢ Key key }
+{
     let Ok(text) = key_text(alloc, key) else {
         return Outcome::Memory;
     };
@@ -195,8 +201,14 @@ fn kept(rt: &HostRuntime, alloc: Global, path: &str, key: &[u8; 32]) -> Outcome 
     }
 }
 
-/// A new key, of the system's random source: written out, or in a file where one is named.
-pub(crate) fn key_outcome(rt: &HostRuntime, alloc: Global, file: Option<&str>) -> Outcome {
+/// A new key, of the next bytes of a random source: written out, or in a file where one is named.
+pub(crate) fn key_outcome<R: RandomBytes + Files + Eprint>(
+    rt: &R,
+    alloc: Global,
+    file: Option<&str>,
+) -> Outcome
+    ensures { (key : List ℕ) → result ≡ Key key → R.gives rt.now key }
+{
     let Ok(key) = new_key(rt) else {
         return Outcome::Unread;
     };

@@ -6,13 +6,19 @@
 //!
 //! Within: `words` has the words as `clap` reads them, `settings` those of a node's file, `node`, `ask` and `key` what
 //! each comes to, and `check` what `node` with `--check`; `store` opens or makes a node's store, and `database` the
-//! database in it; `outcome` has what is written, `events` and `faults` what a node says.
+//! database in it; `sockets` tries a node's sockets; `outcome` has what is written, `events` and `faults` what a node
+//! says.
 //!
 //! # Why
 //!
 //! - **A start makes no store** where settings come from a file: a store that is gone, as behind a folder that isn't
 //!   mounted, would come back empty, and its node vote twice. `--new` makes it. With arguments alone one is made where
 //!   there is none: whoever types them says which node it is. An empty file counts as none, in both.
+//! - **A store is made once its node's sockets were tried**: a `--new` that is refused for an address or a control
+//!   socket can be typed again. The store's file comes before, without a byte, since 70 is answered before 82 and 84;
+//!   it is left there, since by then it could be another node's. The sockets are closed again, and opened by the run.
+//! - **`--check` refuses no address in use and no control socket that answers**, since its node may be running, nor one
+//!   whose folder is missing, since systemd makes that with the service.
 //! - **A new store has pages of 1,024 bytes**, where the database's own size is 4,096: a commit writes whole pages, and
 //!   copies, counts and sums their bytes, most often to put one row of some 50 bytes. A store that is there keeps its
 //!   size. The files are made by the calls that the database itself makes them by, with its lock held, so that a stop
@@ -43,6 +49,7 @@ mod outcome;
 mod running;
 mod sealing;
 mod settings;
+mod sockets;
 mod store;
 mod words;
 

@@ -188,7 +188,7 @@ pub(crate) fn membership(words: NodeWords<'_, '_, '_>) -> Option<Membership>
 }
 
 /// The member's wire. Where asks aren't heard, none comes from elsewhere than a member's address.
-fn bind(
+pub(crate) fn bind(
     rt: &HostRuntime,
     alloc: Global,
     words: NodeWords<'_, '_, '_>,
@@ -535,7 +535,7 @@ fn run_on(
     let mut timer = TickTimer::new(m.me());
     let (outcome, records) = run_member_in(rt, alloc, words, m, records, sealing, &mut timer);
     let outcome = ending_of(outcome, records.failures());
-    say_end(rt, words, outcome);
+    say_end(rt, alloc, words, outcome);
     let _closed = records.release().close();
     outcome
 }
@@ -566,8 +566,9 @@ fn run_sealed(
     }
 }
 
-/// What a node over a new store comes to: its file of starts is made before its store, so that no store is without one.
-/// 95, the store's refusals, 82, 84, and the first refusal of a turn, in this order.
+/// What a node over a new store comes to: its file of starts is made before its store, so that no store is without one,
+/// and no store is made where its sockets are refused. 95, the store's refusals, 82, 84, and the first refusal of a
+/// turn, in this order.
 fn run_new(
     rt: &HostRuntime,
     alloc: Global,

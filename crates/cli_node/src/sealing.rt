@@ -4,12 +4,12 @@ ghost use Rattle.std.specs.Prelude.{◌≡◌, ◌⊎◌, ◌||◌, ◌<◌, Ok,
 ghost use Rattle.cli_node.specs.declared.outcome.Outcome.TheVariants.{Memory, Refused, Sound};
 ghost use Rattle.cli_node.specs.inner.Stores.{is_made};
 
+use crate::faults::say_unusable;
 use crate::key::Keys;
 use crate::node::NodeWords;
 use crate::outcome::Outcome;
 use crate::store::{Found, is_made};
 use cli_files::{RaiseFault, raise_start, starts_in, starts_path};
-use cli_io::Shown;
 use node_loop::Membership;
 use px_packet::Start;
 use std::alloc::Global;
@@ -26,19 +26,20 @@ pub(crate) struct Sealing {
 }
 
 /// The outcome of a file of starts that can't be used; why is logged.
-fn starts_refused(rt: &HostRuntime, path: &str, fault: RaiseFault) -> Outcome
+fn starts_refused(rt: &HostRuntime, alloc: Global, path: &str, fault: RaiseFault) -> Outcome
     ensures { (result ≡ Memory) ⊎ (result ≡ Refused 95) }
 {
     if fault == RaiseFault::Memory {
         return Outcome::Memory;
     }
-    let _said = eprintln!(rt; "pfx: error: starts {}: {fault}", Shown(path));
+    say_unusable(rt, alloc, path, fault);
     Outcome::Refused(BAD_STARTS)
 }
 
 /// How a node's packets are sealed with these keys in the start that was raised, if it was.
 fn sealing_of(
     rt: &HostRuntime,
+    alloc: Global,
     path: &str,
     keys: Keys,
     raised: Result<Start, RaiseFault>,
@@ -50,7 +51,7 @@ fn sealing_of(
 {
     match raised {
         Ok(start) => Ok(Some(Sealing { keys, start })),
-        Err(fault) => Err(starts_refused(rt, path, fault)),
+        Err(fault) => Err(starts_refused(rt, alloc, path, fault)),
     }
 }
 
@@ -81,7 +82,7 @@ fn sealing_with(
     };
     let may_be_made = may_make_starts(words, found);
     let raised = raise_start(rt, alloc, path.as_str(), m.members(), m.me(), may_be_made);
-    sealing_of(rt, path.as_str(), keys, raised)
+    sealing_of(rt, alloc, path.as_str(), keys, raised)
 }
 
 /// How the node's packets are sealed, where it has keys, and this was found where its store is: 95 where its file of
@@ -129,8 +130,8 @@ pub(crate) fn of_starts(
         Err(RaiseFault::Missing) => if is_new || words.makes_starts {
             Outcome::Sound
         } else {
-            starts_refused(rt, path.as_str(), RaiseFault::Missing)
+            starts_refused(rt, alloc, path.as_str(), RaiseFault::Missing)
         },
-        Err(fault) => starts_refused(rt, path.as_str(), fault),
+        Err(fault) => starts_refused(rt, alloc, path.as_str(), fault),
     }
 }

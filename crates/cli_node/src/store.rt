@@ -2,20 +2,25 @@
 
 ghost use Rattle.std.specs.Prelude.{◌≡◌, ◌≢◌, ◌⊎◌, Err, IfOk, IfErr, OnErr, true, false};
 ghost use Rattle.sqlite.specs.Held.{state};
+ghost use Rattle.sqlite.specs.State.{HasCleanDisk};
 ghost use Rattle.px_store.specs.Tables.{no_schema};
+ghost use Rattle.px_store.specs.Formats.{record_at};
+ghost use Rattle.px_store.specs.Adopting.{Began, IsVerdict, IsSame};
+ghost use Rattle.px_store.specs.View.{connection_of, IsOpened};
 ghost use Rattle.cli_node.specs.declared.outcome.Outcome.TheVariants.{Memory, Refused};
 ghost use Rattle.cli_node.specs.declared.store.TheConstants.{NO_STORE, FILE_IS_THERE};
 ghost use Rattle.cli_node.specs.inner.Outcomes.{adopt_outcome};
-ghost use Rattle.cli_node.specs.inner.Stores.{IsOpening, IsStoreless, is_made};
+ghost use Rattle.cli_node.specs.inner.Stores.{IsOpening, IsStoreless, IsUnmade, is_made};
 
 use crate::database::open_database;
-use crate::faults::{say_closed, say_judged, say_storeless};
+use crate::faults::{say_closed, say_judged, say_storeless, why_closed};
 use crate::node::NodeWords;
 use crate::outcome::{Outcome, numbered};
+use crate::sockets::try_sockets;
 use cli_io::make_private;
 use node_loop::Membership;
 use px_records::Records;
-use px_store::{AdoptFault, Identity, SqlRecords};
+use px_store::{AdoptFault, Format, Identity, SqlRecords};
 use sqlite::{Alter, Connection, Error, ErrorCode, File, FileStore};
 use std::alloc::{AllocError, Global};
 use std::fs;
@@ -43,9 +48,9 @@ pub(crate) enum Found {
 /// What becomes of it.
 #[derive(Clone, Copy, PartialEq, Eq)]
 pub(crate) enum Opening {
-    /// It is opened.
+    /// The store is opened.
     Opens,
-    /// A store is made.
+    /// A store is made, of nothing or of a file without a byte.
     Makes,
     /// The number of the refusal.
     Refuses(u8),
@@ -58,13 +63,8 @@ pub(crate) fn opening_of(is_from_file: bool, is_new: bool, found: Found) -> Open
     ensures { IsOpening is_from_file is_new found result }
 {
     match found {
-        Found::Nothing => if is_new || !is_from_file {
+        Found::Nothing | Found::Empty => if is_new || !is_from_file {
             Opening::Makes
-        } else {
-            Opening::Refuses(NO_STORE)
-        },
-        Found::Empty => if is_new || !is_from_file {
-            Opening::Opens
         } else {
             Opening::Refuses(NO_STORE)
         },
@@ -164,16 +164,44 @@ fn open_file(rt: &HostRuntime, path: &str) -> Result<Connection<FileStore<File>>
     }
 }
 
-/// The database in a file that isn't there yet, which its owner alone may read.
-fn make_file(rt: &HostRuntime, path: &str) -> Result<Connection<FileStore<File>>, Outcome>
-    ensures { OnErr result ((result ≡ Err Memory) ⊎ (result ≡ Err (Refused 70))) }
+/// The file of a store that is made: an empty one that its owner alone may read, where nothing is; else the one that is
+/// there, which can be read and written.
+fn make_file(rt: &HostRuntime, path: &str, found: Found) -> Result<(), Outcome>
+    ensures { IfErr result (λ o. o ≡ Refused 70) }
 {
-    match make_private(rt, path) {
-        Ok(_made) => open_file(rt, path),
+    let made = match found {
+        Found::Nothing => match make_private(rt, path) {
+            Ok(_made) => Ok(()),
+            Err(error) => Err(error),
+        },
+        Found::Empty | Found::Store | Found::Other => why_closed(rt, path),
+    };
+    match made {
+        Ok(()) => Ok(()),
         Err(error) => {
             say_closed(rt, path, &error);
             Err(Outcome::Refused(70))
         }
+    }
+}
+
+/// The database of a store that is made. Its file is made first (70), and then its node's sockets are tried (82, 84): a
+/// refusal leaves a file without a byte, which is no store.
+fn make_store(
+    rt: &HostRuntime,
+    alloc: Global,
+    words: NodeWords<'_, '_, '_>,
+    found: Found,
+) -> Result<Connection<FileStore<File>>, Outcome>
+    ensures { IfErr result IsUnmade }
+{
+    match make_file(rt, words.store, found) {
+        Ok(()) => {}
+        Err(outcome) => return Err(outcome),
+    }
+    match try_sockets(rt, alloc, words) {
+        Ok(()) => open_file(rt, words.store),
+        Err(outcome) => Err(outcome),
     }
 }
 
@@ -188,9 +216,10 @@ pub(crate) fn is_made(is_from_file: bool, is_new: bool, found: Found) -> bool
 }
 
 /// The database where a store is named, by what becomes of what is there.
-#[tactic(auto, using(crate::proofs::Stores::by_opening, crate::proofs::Stores::by_file))]
+#[tactic(auto, using(crate::proofs::Stores::by_opening, crate::proofs::Stores::by_file, crate::proofs::Stores::by_making))]
 fn open_store(
     rt: &HostRuntime,
+    alloc: Global,
     words: NodeWords<'_, '_, '_>,
     found: Found,
 ) -> Result<Connection<FileStore<File>>, Outcome>
@@ -202,7 +231,7 @@ fn open_store(
 {
     match opening_of(words.is_from_file, words.is_new, found) {
         Opening::Opens => open_file(rt, words.store),
-        Opening::Makes => make_file(rt, words.store),
+        Opening::Makes => make_store(rt, alloc, words, found),
         Opening::Refuses(code) => {
             say_storeless(rt, words.store, code);
             Err(Outcome::Refused(code))
@@ -221,6 +250,10 @@ fn record_in<S: Alter>(
     ensures begins { IfOk result (λ r. ⟦<SqlRecords<S> as Records>⟧.failed r ≡ 0) }
     ensures lost { found ≡ Found.Store → (state S.Store conn).now.schema ≡ no_schema →
         (state S.Store conn).in_transaction ≡ false → result ≡ Err (AdoptFault.StoreVersion, conn) }
+    ensures rows { IfOk result (λ r. HasCleanDisk (state S.Store (connection_of r)) → (f : Format) →
+        Began f (state S.Store conn) → IsOpened S.Store r (record_at f (state S.Store conn).now.trees)) }
+    ensures as_it_was { IfErr result (λ e. HasCleanDisk (state S.Store e.1) → IsVerdict e.0 →
+        IsSame (state S.Store conn) (state S.Store e.1)) }
 {
     match found {
         Found::Store => SqlRecords::reopen(alloc, conn, identity),
@@ -229,7 +262,7 @@ fn record_in<S: Alter>(
 }
 
 /// The record of a member in the store that its words name, where that was found: 93, 94, 70, 73, 72 and 71, in this
-/// order.
+/// order; where it is made 70, 82 and 84.
 pub(crate) fn record_at(
     rt: &HostRuntime,
     alloc: Global,
@@ -242,7 +275,7 @@ pub(crate) fn record_at(
     ensures refused { IfErr result (IsStoreless words.entry.is_from_file words.entry.is_new) }
     ensures unfailed { OnErr result (result ≢ Err (Refused 80)) }
 {
-    let conn = match open_store(rt, words, found) {
+    let conn = match open_store(rt, alloc, words, found) {
         Ok(conn) => conn,
         Err(outcome) => return Err(outcome),
     };

@@ -24,7 +24,7 @@ const NEW: &str =
     "Makes the store of a node that never ran, and is refused where one is: once, on each machine";
 
 const CHECK: &str =
-    "Says what is wrong with settings, keys, addresses and store, and starts, makes and changes nothing";
+    "Says what is wrong with settings, keys, addresses, sockets and store, and starts and changes nothing";
 
 const TURNS: &str =
     "How many turns; in each it takes one datagram, or a wait of 100 ms ends and it ticks. Without it the node runs

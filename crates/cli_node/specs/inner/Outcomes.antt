@@ -40,11 +40,11 @@ abbrev pub first_of : Outcome → Outcome → Outcome
 first_of Sound other = other
 first_of one other = one
 
--- What a start would be refused for, of what is refused of its numbers, its keys, its store, its starts and its
--- addresses: the first, in the order in which a start asks.
-abbrev pub checked : (place keys store starts addresses : Outcome) → Outcome
-checked place keys store starts addresses =
-    first_of place (first_of keys (first_of store (first_of starts addresses)))
+-- What a start would be refused for, of what is refused of its numbers, its keys, its store, its starts, its addresses
+-- and its control socket: the first, in the order in which a start asks.
+abbrev pub checked : (place keys store starts addresses control : Outcome) → Outcome
+checked place keys store starts addresses control =
+    first_of place (first_of keys (first_of store (first_of starts (first_of addresses control))))
 
 -- what a member's run is shown as, where its wire may be missing
 abbrev pub ended_outcome : (without : Outcome) → Ended → Outcome

@@ -1,7 +1,7 @@
 -- Whether a node's store is opened or made.
 use Rattle.std.specs.Prelude.{◌≡◌, ◌≢◌, ◌⊎◌, ◌||◌, not, ℕ, Bool, true, false}
 use Rattle.cli_node.specs.declared.outcome.Outcome.{Outcome}
-use Rattle.cli_node.specs.declared.outcome.Outcome.TheVariants.{Refused}
+use Rattle.cli_node.specs.declared.outcome.Outcome.TheVariants.{Memory, Refused}
 use Rattle.cli_node.specs.declared.store.Found.{Found}
 use Rattle.cli_node.specs.declared.store.Found.TheVariants as found
 use Rattle.cli_node.specs.declared.store.Opening.{Opening}
@@ -28,16 +28,19 @@ IsRefused file new f code =
 
 -- What becomes of what is there.
 pub record IsOpening (is_from_file is_new : Bool) (f : Found) (o : Opening) : Type 0 where
-  -- a start by a file of settings never makes a store, and of no empty file either
+  -- a start by a file of settings never makes a store
   pub kept : is_from_file ≡ true → is_new ≡ false → o ≢ Makes
-  pub blank : is_from_file ≡ true → is_new ≡ false → o ≡ Opens → f ≡ found.Store
-  -- a store is made where nothing is, whatever is asked, and opened where a file is
-  pub made : o ≡ Makes → f ≡ found.Nothing
-  pub opened : o ≡ Opens → (f ≡ found.Store) ⊎ (f ≡ found.Empty)
+  -- a store is made where none is, whatever is asked, and opened where one is
+  pub made : o ≡ Makes → IsNone f
+  pub opened : o ≡ Opens → f ≡ found.Store
   -- with --new one that is there is kept as it is
   pub held : is_new ≡ true → f ≡ found.Store → o ≡ Refuses FILE_IS_THERE
   pub lost : is_from_file ≡ true → is_new ≡ false → IsNone f → o ≡ Refuses NO_STORE
   pub refused : (code : ℕ) → o ≡ Refuses code → IsRefused is_from_file is_new f code
+
+-- why no store is made: its file or its database can't be, or its node would have no socket
+abbrev pub IsUnmade : Outcome → Type 0
+IsUnmade o = (o ≡ Memory) ⊎ ((o ≡ Refused 70) ⊎ ((o ≡ Refused 82) ⊎ (o ≡ Refused 84)))
 
 -- What keeps a node from its store: 93 only where settings come from a file and none is to be made, 94 only where one
 -- is.

@@ -1,0 +1,144 @@
+//! The sockets of a node, tried before its store is made, and with `--check`: each is opened and closed.
+
+ghost use Rattle.std.specs.Prelude.{◌≡◌, ◌⊎◌, IfErr};
+ghost use Rattle.cli_node.specs.declared.outcome.Outcome.TheVariants.{Memory, Refused, Sound};
+
+use crate::faults::say_why;
+use crate::node::{NodeWords, bind, figures_at};
+use crate::outcome::Outcome;
+use cli_io::{Shown, knock};
+use std::alloc::Global;
+use std::fmt::Display;
+use std::fs;
+use std::io::{self, Error, ErrorKind};
+use std::net::{TcpListener, UdpSocket};
+use std::os::unix::fs::FileTypeExt;
+use std::os::unix::net::UnixListener;
+
+/// Whether a control socket could be made at a path: none answers there, nothing else is there, and one can be made
+/// beside it, under a name as long as that of the folder in which a node makes it.
+pub(crate) fn try_control(rt: &HostRuntime, alloc: Global, path: &str) -> io::Result<()> {
+    if knock(rt, path).is_ok() {
+        return Err(Error::new(ErrorKind::AddrInUse, "a node answers there"));
+    }
+    match fs::symlink_metadata(rt, path) {
+        Ok(found) => if !found.file_type().is_socket() {
+            return Err(Error::new(ErrorKind::AlreadyExists, "it isn't a socket"));
+        },
+        Err(error) => if error.kind() != ErrorKind::NotFound {
+            return Err(error);
+        },
+    }
+    let beside = format!(in alloc; "{path}.try")?;
+    let _bound = UnixListener::bind(rt, beside.as_str())?;
+    fs::remove_file(rt, beside.as_str())
+}
+
+/// Tries the socket of the members' datagrams, and the port of figures, if there is one.
+fn try_ports(rt: &HostRuntime, alloc: Global, words: NodeWords<'_, '_, '_>) -> Result<(), Outcome>
+    ensures { IfErr result (λ o. (o ≡ Memory) ⊎ (o ≡ Refused 82)) }
+{
+    match bind(rt, alloc, words) {
+        Ok(_wire) => {}
+        Err(outcome) => return Err(outcome),
+    }
+    match figures_at(words) {
+        Ok(Some(figures)) => match TcpListener::bind(rt, figures) {
+            Ok(_bound) => Ok(()),
+            Err(_) => Err(Outcome::Refused(82)),
+        },
+        Ok(None) => Ok(()),
+        Err(outcome) => Err(outcome),
+    }
+}
+
+/// Tries them, and the control socket, if there is one.
+fn try_all(rt: &HostRuntime, alloc: Global, words: NodeWords<'_, '_, '_>) -> Result<(), Outcome>
+    ensures { IfErr result (λ o. (o ≡ Memory) ⊎ ((o ≡ Refused 82) ⊎ (o ≡ Refused 84))) }
+{
+    match try_ports(rt, alloc, words) {
+        Ok(()) => {}
+        Err(outcome) => return Err(outcome),
+    }
+    let Some(path) = words.control else {
+        return Ok(());
+    };
+    match try_control(rt, alloc, path) {
+        Ok(()) => Ok(()),
+        Err(error) => if error.kind() == ErrorKind::OutOfMemory {
+            Err(Outcome::Memory)
+        } else {
+            Err(Outcome::Refused(84))
+        },
+    }
+}
+
+/// Tries the sockets that a node opens: 82, 84, in this order; why is said on standard error.
+pub(crate) fn try_sockets(
+    rt: &HostRuntime,
+    alloc: Global,
+    words: NodeWords<'_, '_, '_>,
+) -> Result<(), Outcome>
+    ensures { IfErr result (λ o. (o ≡ Memory) ⊎ ((o ≡ Refused 82) ⊎ (o ≡ Refused 84))) }
+{
+    match try_all(rt, alloc, words) {
+        Ok(()) => Ok(()),
+        Err(outcome) => {
+            if let Outcome::Refused(code) = outcome {
+                say_why(rt, alloc, words, code);
+            }
+            Err(outcome)
+        }
+    }
+}
+
+/// Says of a socket what a start would refuse, which isn't refused with `--check`.
+fn say_unsure<E: Display>(rt: &HostRuntime, what: &str, name: &str, why: &E) {
+    let name = Shown(name);
+    let _said = eprintln!(rt; "pfx: info: {what} {name}: {why}; a start would be refused");
+}
+
+/// What is refused of the node's own address; nothing where it is in use, as by this node where it runs.
+pub(crate) fn of_own_address(rt: &HostRuntime, words: NodeWords<'_, '_, '_>) -> Outcome
+    ensures { (result ≡ Sound) ⊎ (result ≡ Refused 82) }
+{
+    let Some(own) = words.members.get(usize::from(words.me)) else {
+        return Outcome::Sound;
+    };
+    match UdpSocket::bind(rt, *own) {
+        Ok(_bound) => Outcome::Sound,
+        Err(error) => if error.kind() == ErrorKind::AddrInUse {
+            say_unsure(rt, "address", own, &error);
+            Outcome::Sound
+        } else {
+            let _said = eprintln!(rt; "pfx: error: address {}: {error}", Shown(*own));
+            Outcome::Refused(82)
+        },
+    }
+}
+
+/// What is refused of the control socket, if there is one; nothing where a node answers there, as this one where it
+/// runs, or where its folder is missing.
+pub(crate) fn of_control(rt: &HostRuntime, alloc: Global, words: NodeWords<'_, '_, '_>) -> Outcome
+    ensures { (result ≡ Sound) ⊎ ((result ≡ Memory) ⊎ (result ≡ Refused 84)) }
+{
+    let Some(path) = words.control else {
+        return Outcome::Sound;
+    };
+    let Err(error) = try_control(rt, alloc, path) else {
+        return Outcome::Sound;
+    };
+    match error.kind() {
+        ErrorKind::OutOfMemory => Outcome::Memory,
+        // its folder may be made with the service
+        ErrorKind::NotFound => Outcome::Sound,
+        ErrorKind::AddrInUse => {
+            say_unsure(rt, "control socket", path, &error);
+            Outcome::Sound
+        }
+        _ => {
+            let _said = eprintln!(rt; "pfx: error: control socket {}: {error}", Shown(path));
+            Outcome::Refused(84)
+        }
+    }
+}
