@@ -4,3 +4,4 @@ pub mod Agreeing
 pub mod Learnings
 pub mod Outcomes
 pub mod Digits
+pub mod Lines

@@ -4,7 +4,7 @@ use Rattle.px_model.specs.World.{World, NodeState}
 use Rattle.px_model.specs.Spelling.{Bytes}
 use Rattle.px_wire.specs.declared.membership.Membership.{Membership}
 use Rattle.px_wire.specs.Message.{Group, group}
-use Rattle.px_replica.specs.Spelled.{AreSpelled, for_members}
+use Rattle.px_replica.specs.Spelled.{AreSpelled}
 use Rattle.px_replica.specs.declared.datagram.Datagram.{Datagram}
 use Rattle.px_replica.specs.Seen.{IsSound}
 use Rattle.px_records.specs.declared.records.Records.{Ghosts}

@@ -3,4 +3,9 @@ pub mod Labs
 pub mod Outcomes
 pub mod Ever
 pub mod Same
+pub mod Numbers
+pub mod Asking
+pub mod LabLines
+pub mod Shown
+pub mod Scripts
 pub mod inner

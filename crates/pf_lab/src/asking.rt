@@ -4,7 +4,7 @@ ghost use Rattle.std.specs.Prelude.{◌≡◌, map};
 ghost use Rattle.std.specs.Option.{option_copied};
 ghost use Rattle.clap.specs.Words.{found_of, rows_of};
 ghost use Rattle.pf_arguments.specs.Asked.{given_in, asked};
-ghost use Rattle.pf_lab.specs.inner.Asking.{change_in, is_allowed, change_of};
+ghost use Rattle.pf_lab.specs.Asking.{change_in, is_allowed, change_of};
 ghost use Rattle.pf_lab.specs.inner.Seen.{Reads};
 ghost use Rattle.pf_entry.specs.Owned.{command_value};
 

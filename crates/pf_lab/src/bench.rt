@@ -1,6 +1,12 @@
 //! A lab with what was delivered and shown of its messages.
 
+ghost use Rattle.std.specs.Prelude.{◌≡◌, ◌||◌, OnOk, Option, nat_lt, nat_eq};
+ghost use Rattle.std.specs.List.{list_any};
+ghost use Rattle.pf_lab.specs.Scripts.{LabValue, marked};
+ghost use Rattle.pf_lab.specs.inner.Benches.{IsBench};
+
 use crate::state::Lab;
+use std::alloc::AllocError;
 
 /// A lab, and of its messages what was delivered and what was shown.
 #[derive(Drop)]
@@ -10,8 +16,37 @@ pub(crate) struct Bench {
     pub(crate) members: u8,
     /// All messages below this number were delivered.
     pub(crate) passed: usize,
-    /// Whether a message from there on was delivered, by its number; one past the end wasn't.
-    pub(crate) delivered: Vec<bool>,
+    /// The numbers of others that were delivered.
+    pub(crate) delivered: Vec<usize>,
     /// All messages below this number were shown.
     pub(crate) shown: usize,
+}
+
+/// Whether the number is in the list.
+fn has(numbers: &[usize], k: usize) -> bool
+    ensures { result ≡ list_any (λ j. nat_eq j k) numbers.now }
+{
+    numbers.iter().any(|j| *j == k)
+}
+
+impl Bench {
+    /// Whether the message was delivered, be it to a stopped node or under a stop.
+    pub(crate) fn is_delivered(&self, k: usize) -> bool
+        ensures { result ≡ (nat_lt k self.now.passed || list_any (λ j. nat_eq j k) self.now.delivered.items) }
+    {
+        k < self.passed || has(&self.delivered, k)
+    }
+
+    /// The message counts as delivered, if there is one.
+    pub(crate) fn mark(&mut self, message: Option<usize>) -> Result<(), AllocError>
+        ensures { (v : LabValue) → IsBench self.old v → OnOk result (IsBench self.new (marked message v)) }
+    {
+        match message {
+            Some(k) => {
+                self.delivered.push(k)?;
+                Ok(())
+            }
+            None => Ok(()),
+        }
+    }
 }

@@ -1,37 +1,57 @@
 //! An event of a script.
 
+ghost use Rattle.std.specs.Prelude.{◌≡◌, ◌++◌, OnOk, string_bytes};
+ghost use Rattle.pf_lab.specs.Scripts as scripts;
+ghost use Rattle.pf_lab.specs.Scripts.{LabValue, asked_line, stopped_line, outcome_text, happened};
+ghost use Rattle.pf_lab.specs.inner.Seen.{action_value, event_value};
+ghost use Rattle.pf_lab.specs.inner.Benches.{IsBench, Does};
+
 use crate::bench::Bench;
 use crate::event::{LabAction, LabEvent, LabFault, Outcome};
-use crate::fault::{LineFault, NOT_THERE};
+use crate::fault::NOT_THERE;
 use pf_scripts::{push_line, push_number, push_refusal};
 use std::alloc::{AllocError, Global};
 
-/// The action of an event; a restart has none.
-fn action_of(event: &LabEvent) -> Option<&LabAction> {
-    match event {
-        LabEvent::Runs(action) => Some(action),
-        LabEvent::StopBefore(action) => Some(action),
-        LabEvent::StopAfter(action) => Some(action),
-        LabEvent::Restart(_) => None,
+/// The message that an action delivers.
+fn message_in(action: &LabAction) -> Option<usize>
+    ensures { result ≡ scripts.message_in (action_value action.now) }
+{
+    match action {
+        LabAction::Ask(_, _) => None,
+        LabAction::Tick(_) => None,
+        LabAction::Deliver(k) => Some(*k),
     }
 }
 
 /// The message that an event delivers, be it under a stop.
-fn message_of(event: &LabEvent) -> Option<usize> {
-    match action_of(event) {
-        Some(LabAction::Deliver(k)) => Some(*k),
-        Some(LabAction::Ask(_, _)) => None,
-        Some(LabAction::Tick(_)) => None,
-        None => None,
+fn message_of(event: &LabEvent) -> Option<usize>
+    ensures { result ≡ scripts.delivered_by (event_value event.now) }
+{
+    match event {
+        LabEvent::Runs(action) => message_in(action),
+        LabEvent::StopBefore(action) => message_in(action),
+        LabEvent::StopAfter(action) => message_in(action),
+        LabEvent::Restart(_) => None,
+    }
+}
+
+/// The node that an action asks.
+fn node_in(action: &LabAction) -> Option<u8>
+    ensures { result ≡ scripts.node_in (action_value action.now) }
+{
+    match action {
+        LabAction::Ask(m, _) => Some(*m),
+        LabAction::Tick(_) => None,
+        LabAction::Deliver(_) => None,
     }
 }
 
 /// The node that an event asks, not under a stop.
-fn asked_by(event: &LabEvent) -> Option<u8> {
+fn asked_by(event: &LabEvent) -> Option<u8>
+    ensures { result ≡ scripts.asked_by (event_value event.now) }
+{
     match event {
-        LabEvent::Runs(LabAction::Ask(m, _)) => Some(*m),
-        LabEvent::Runs(LabAction::Tick(_)) => None,
-        LabEvent::Runs(LabAction::Deliver(_)) => None,
+        LabEvent::Runs(action) => node_in(action),
         LabEvent::StopBefore(_) => None,
         LabEvent::StopAfter(_) => None,
         LabEvent::Restart(_) => None,
@@ -39,12 +59,34 @@ fn asked_by(event: &LabEvent) -> Option<u8> {
 }
 
 /// `asked NODE.NUMBER`
-fn push_asked(alloc: Global, out: &mut String, node: u8, number: u64) -> Result<(), AllocError> {
-    out.push_str("asked ")?;
-    push_number(alloc, out, u64::from(node))?;
-    out.push('.')?;
-    push_number(alloc, out, number)?;
-    out.push('\n')
+fn push_asked(
+    alloc: Global,
+    out: &mut String,
+    asked: Option<u8>,
+    number: u64,
+) -> Result<(), AllocError>
+    ensures { OnOk result (string_bytes out.new ≡ string_bytes out.old ++ asked_line asked number) }
+{
+    match asked {
+        Some(node) => {
+            out.push_str("asked ")?;
+            push_number(alloc, out, u64::from(node))?;
+            out.push('.')?;
+            push_number(alloc, out, number)?;
+            out.push('\n')
+        }
+        None => Ok(()),
+    }
+}
+
+/// That the node which was asked is stopped.
+fn push_stopped(out: &mut String, asked: Option<u8>) -> Result<(), AllocError>
+    ensures { OnOk result (string_bytes out.new ≡ string_bytes out.old ++ stopped_line asked) }
+{
+    match asked {
+        Some(_) => push_line(out, "stopped"),
+        None => Ok(()),
+    }
 }
 
 /// Prints what became of an event: of an ask its number or that the node is stopped; a refusal; else nothing.
@@ -53,50 +95,34 @@ fn push_outcome(
     out: &mut String,
     asked: Option<u8>,
     outcome: Outcome,
-) -> Result<(), AllocError> {
+) -> Result<(), AllocError>
+    ensures { OnOk result (string_bytes out.new ≡ string_bytes out.old ++ outcome_text asked outcome) }
+{
     match outcome {
         Outcome::Nothing => Ok(()),
         Outcome::Refused(code) => push_refusal(alloc, out, code, 0),
-        Outcome::Asked(number) => match asked {
-            Some(node) => push_asked(alloc, out, node, number),
-            None => Ok(()),
-        },
-        Outcome::Stopped => match asked {
-            Some(_) => push_line(out, "stopped"),
-            None => Ok(()),
-        },
+        Outcome::Asked(number) => push_asked(alloc, out, asked, number),
+        Outcome::Stopped => push_stopped(out, asked),
     }
 }
 
 impl Bench {
-    /// The message counts as delivered.
-    fn mark(&mut self, k: usize) -> Result<(), AllocError> {
-        if k < self.passed || k >= self.lab.sent().len() {
-            return Ok(());
-        }
-        if k >= self.delivered.len() {
-            self.delivered.resize(k + 1, false)?;
-        }
-        self.delivered[k] = true;
-        Ok(())
-    }
-
     /// Makes an event happen, and prints what becomes of it.
     pub(crate) fn happen(
         &mut self,
         alloc: Global,
         event: &LabEvent,
         out: &mut String,
-    ) -> Result<(), LineFault> {
+    ) -> Result<(), AllocError>
+        ensures { (v : LabValue) → IsBench self.old v → OnOk result
+            (Does (happened v (event_value event.now)) self.new (string_bytes out.old) (string_bytes out.new)) }
+    {
         let outcome = match self.lab.step(event) {
             Ok(outcome) => outcome,
-            Err(LabFault::BadEvent) => return Err(NOT_THERE),
-            Err(LabFault::Memory) => return Err(LineFault::Memory),
+            Err(LabFault::BadEvent) => return push_refusal(alloc, out, NOT_THERE, 0),
+            Err(LabFault::Memory) => return Err(AllocError),
         };
-        if let Some(k) = message_of(event) {
-            self.mark(k)?;
-        }
-        push_outcome(alloc, out, asked_by(event), outcome)?;
-        Ok(())
+        self.mark(message_of(event))?;
+        push_outcome(alloc, out, asked_by(event), outcome)
     }
 }

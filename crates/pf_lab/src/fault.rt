@@ -18,7 +18,7 @@ pub(crate) enum LineFault {
 pub(crate) const UNKNOWN: LineFault = LineFault::Refused(40);
 
 /// The number where no such node or message is.
-pub(crate) const NOT_THERE: LineFault = LineFault::Refused(81);
+pub(crate) const NOT_THERE: u8 = 81;
 
 impl From<AllocError> for LineFault {
     ghost from_gives = { λ _ e. e ≡ Memory };

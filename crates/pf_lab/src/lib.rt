@@ -5,7 +5,8 @@
 //!
 //! - [`Lab`]: `step` makes one event happen, [`lab`] a list of them. `sent`, `node` and `ever_learned` show it.
 //! - [`lab_script`]: what a script of events prints.
-//! - `specs/Labs` says which events of px_model's world these are, and when a lab is a world.
+//! - `specs/Labs` says which events of px_model's world these are, and when a lab is a world; `specs/Scripts` what a
+//!   script prints.
 //!
 //! Within: `numbers`, `asking` and `reading` read a script's line, `fault` is why one is refused, `bench` is the lab
 //! with what was delivered and shown, `events` makes events happen, `passes` delivers what waits, `printing`,
@@ -38,10 +39,9 @@
 //!   the history's own asks, and no node has to say what it was asked.
 //! - `open` has no clause on when 70 comes of a record of which a call had failed before: who opens has a fresh
 //!   one.
-//! - **What the lines print in their turn is shown by rows, not proved.** Which positions a node has applied is no
-//!   part of the world: a datagram is taken even where the application finds no memory. So a script's output is no
-//!   function of the script wherever memory may be wanting. Each line of a message or of a log has its contract,
-//!   and so has the change that an ask's words ask for.
+//! - **What a script prints is a function of the script.** Which positions a node has applied is no part of the world:
+//!   a datagram is taken even where the application finds no memory. So a script in which a node is shown that has
+//!   applied less than it learned ends, as any other does where memory runs out.
 //! - The first line that isn't blank says how many members there are. Without one it is 40.
 //! - Numbers are digits, leading zeros too. One that doesn't fit is read as the greatest that does, which names no
 //!   node and no message, and so is 81. `members` with such a number is 40.
@@ -53,8 +53,9 @@
 //! - Words under a stop that make no event print their refusal, and nothing stops. No text may be behind them, so a
 //!   file is 40 there, and the lines that follow are lines.
 //! - A stop of an ask prints nothing, whatever becomes of the ask. `tick` at a stopped node prints nothing.
-//! - **What was delivered is kept by a mark beside each message, and a number below which all were.** A pass begins
-//!   at that number, so a lab that runs after each event costs nothing for the messages that it has left behind.
+//! - **What was delivered is kept as a number below which all messages were, and a list of others.** A pass begins
+//!   at that number and leaves the list empty, so a lab that runs after each event costs nothing for the messages that
+//!   it has left behind.
 //! - `log` asks the positions up to 64 past the front, beyond which nothing is learned
 //!   (`px_model::laws::in_reach`).
 //! - A message that doesn't decode has no line in `sent`. None is among a lab's, whose messages are spelled

@@ -1,10 +1,16 @@
 //! Messages as lines.
 
-ghost use Rattle.std.specs.Prelude.{◌≡◌, ◌++◌, OnOk, string_bytes};
+ghost use Rattle.std.specs.Prelude.{◌≡◌, ◌≤◌, ◌++◌, OnOk, Some, string_bytes};
+ghost use Rattle.px_core.specs.declared.limits.TheConstants.{MEMBERS};
+ghost use Rattle.px_model.specs.Node.{Envelope};
+ghost use Rattle.px_model.specs.Spelling.{Bytes};
+ghost use Rattle.px_replica.specs.Spelled.{IsSpelled};
+ghost use Rattle.pf_lab.specs.Labs.{cluster_of};
+ghost use Rattle.pf_lab.specs.Scripts.{sent_line};
 ghost use Rattle.px_model.specs.Entries.{view_of};
 ghost use Rattle.px_wire.specs.Seen.{message_of, accepted_of};
-ghost use Rattle.pf_lab.specs.inner.Shown.{kind_word, ballot_part, position_part, entry_part, accepted_part};
-ghost use Rattle.pf_lab.specs.inner.Shown.{message_parts, message_line};
+ghost use Rattle.pf_lab.specs.Shown.{kind_word, ballot_part, position_part, entry_part, accepted_part};
+ghost use Rattle.pf_lab.specs.Shown.{message_parts, message_line};
 
 use crate::printing::push_named;
 use pf_scripts::push_number;
@@ -164,7 +170,11 @@ pub(crate) fn push_datagram(
     members: u8,
     k: usize,
     datagram: &Datagram,
-) -> Result<(), AllocError> {
+) -> Result<(), AllocError>
+    ensures { (x : Envelope Bytes) → 1 ≤ members → members ≤ MEMBERS →
+        IsSpelled (cluster_of members) x datagram.now → OnOk result
+        (string_bytes out.new ≡ string_bytes out.old ++ sent_line k (Some x)) }
+{
     let Some(m) = Membership::new(0, members, datagram.to) else {
         return Ok(());
     };

@@ -3,8 +3,8 @@
 ghost use Rattle.std.specs.Prelude.{◌≡◌};
 ghost use Rattle.std.specs.List.{list_all};
 ghost use Rattle.std.specs.Char.{is_ascii_digit};
-ghost use Rattle.pf_lab.specs.inner.Numbers.{is_number, number_of};
-ghost use Rattle.pf_lab.specs.inner.LabLines.{node_of, message_of};
+ghost use Rattle.pf_lab.specs.Numbers.{is_number, number_of};
+ghost use Rattle.pf_lab.specs.LabLines.{node_of, message_of};
 ghost use Rattle.pf_lab.specs.inner.Seen.{Reads};
 
 use crate::fault::{LineFault, UNKNOWN};
@@ -26,7 +26,7 @@ fn is_number(word: &str) -> bool
 
 /// The number that the word says, leading zeros read; none where it is no number. One past 2^64-1 is read as that,
 /// which no message has.
-#[tactic(auto, unfolding(crate::specs::inner::Numbers::number_of))]
+#[tactic(auto, unfolding(crate::specs::Numbers::number_of))]
 pub(crate) fn number_in(word: &str) -> Option<u64>
     ensures { result ≡ number_of word.now }
 {

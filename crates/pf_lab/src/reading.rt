@@ -2,7 +2,7 @@
 
 ghost use Rattle.std.specs.Prelude.{◌≡◌, map, option_map};
 ghost use Rattle.std.specs.Option.{option_copied};
-ghost use Rattle.pf_lab.specs.inner.LabLines.{only, ask_of, action_of, event_of, test_of, bare, line_asked};
+ghost use Rattle.pf_lab.specs.LabLines.{only, ask_of, action_of, event_of, test_of, bare, line_asked};
 ghost use Rattle.pf_lab.specs.inner.Seen.{Reads, action_value, event_value, line_value};
 
 use crate::asking::command_in;

@@ -1,6 +1,10 @@
 //! A script over one lab.
 
-ghost use Rattle.std.specs.Prelude.{◌≤◌, IfOk, IfSome};
+ghost use Rattle.std.specs.Prelude.{◌≡◌, ◌≤◌, ◌++◌, IfOk, IfSome, IfNone, OnOk, None, map, option_map, string_bytes};
+ghost use Rattle.pf_scripts.specs.Lines.{lines, refused_line};
+ghost use Rattle.pf_scripts.specs.inner.Seen.{waiting_of};
+ghost use Rattle.pf_lab.specs.Scripts.{LabValue, new_lab, members_in, at_end, printed_from, printed_lines, printed};
+ghost use Rattle.pf_lab.specs.inner.Benches.{IsBench};
 ghost use Rattle.pf_lab.specs.declared.script.TheConstants.{MEMBERS};
 
 use crate::bench::Bench;
@@ -16,7 +20,8 @@ const MEMBERS: u64 = 15;
 
 /// How many members the line `members N` names; none for other words, or unless there are 1 to 15.
 fn members_in(words: &[&str]) -> Option<u8>
-    ensures { IfSome result (λ n. (1 ≤ n) × (n ≤ MEMBERS)) }
+    ensures value { result ≡ members_in (map (λ w. w.now) words.now) }
+    ensures range { IfSome result (λ n. (1 ≤ n) × (n ≤ MEMBERS)) }
 {
     let [first, number] = words else {
         return None;
@@ -33,7 +38,10 @@ fn members_in(words: &[&str]) -> Option<u8>
 
 /// How many members the first line says that isn't blank, and what is behind it; none where it doesn't.
 fn begun(alloc: Global, script: &[u8]) -> Result<Option<(u8, &[u8])>, AllocError>
-    ensures { IfOk result (λ o. IfSome o (λ b. (1 ≤ b.0) × (b.0 ≤ MEMBERS))) }
+    ensures range { IfOk result (λ o. IfSome o (λ b. (1 ≤ b.0) × (b.0 ≤ MEMBERS))) }
+    ensures some { IfOk result (λ o. IfSome o (λ b.
+        printed_lines (lines script.now) ≡ printed_from (new_lab b.0) None (lines b.1.now))) }
+    ensures none { IfOk result (λ o. IfNone o (printed_lines (lines script.now) ≡ refused_line 40 0)) }
 {
     let mut left = script;
     while let Some((line, rest)) = cut_line(left) {
@@ -55,6 +63,7 @@ fn begun(alloc: Global, script: &[u8]) -> Result<Option<(u8, &[u8])>, AllocError
 fn new_bench(alloc: Global, members: u8) -> Result<Bench, AllocError>
     requires some { 1 ≤ members }
     requires few { members ≤ MEMBERS }
+    ensures { IfOk result (λ b. IsBench b (new_lab members)) }
 {
     match Lab::new(alloc, members) {
         Ok(lab) => Ok(Bench {
@@ -74,7 +83,10 @@ fn finish(
     bench: &mut Bench,
     waiting: Option<Waiting<'_>>,
     out: &mut String,
-) -> Result<(), AllocError> {
+) -> Result<(), AllocError>
+    ensures { (v : LabValue) → IsBench bench.old v → OnOk result
+        (string_bytes out.new ≡ string_bytes out.old ++ at_end v (option_map waiting_of waiting.entry)) }
+{
     match waiting {
         Some(waiting) => run_words(alloc, bench, &waiting.words, &waiting.text, out),
         None => Ok(()),
@@ -82,13 +94,15 @@ fn finish(
 }
 
 /// Does the lines behind the first.
-fn run_lines(alloc: Global, members: u8, lines: &[u8], out: &mut String) -> Result<(), AllocError>
+fn run_lines(alloc: Global, members: u8, behind: &[u8], out: &mut String) -> Result<(), AllocError>
     requires some { 1 ≤ members }
     requires few { members ≤ MEMBERS }
+    ensures { OnOk result (string_bytes out.new
+        ≡ string_bytes out.old ++ printed_from (new_lab members) None (lines behind.now)) }
 {
     let mut bench = new_bench(alloc, members)?;
     let mut waiting = None;
-    let mut left = lines;
+    let mut left = behind;
     while let Some((line, rest)) = cut_line(left) {
         waiting = step(alloc, &mut bench, waiting, line, out)?;
         left = rest;
@@ -97,10 +111,15 @@ fn run_lines(alloc: Global, members: u8, lines: &[u8], out: &mut String) -> Resu
 }
 
 /// What a script of a lab's events prints.
-pub fn lab_script(alloc: Global, script: &[u8]) -> Result<String, AllocError> {
+///
+/// `Err` where memory runs out, also where a node that is shown hasn't applied what it learned for want of it.
+#[tactic(auto, unfolding(crate::specs::Scripts::printed))]
+pub fn lab_script(alloc: Global, script: &[u8]) -> Result<String, AllocError>
+    ensures { IfOk result (λ text. string_bytes text ≡ printed script.now) }
+{
     let mut out = String::new(alloc);
     match begun(alloc, script)? {
-        Some((members, lines)) => run_lines(alloc, members, lines, &mut out)?,
+        Some((members, behind)) => run_lines(alloc, members, behind, &mut out)?,
         None => push_refusal(alloc, &mut out, 40, 0)?,
     }
     Ok(out)

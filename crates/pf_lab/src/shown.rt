@@ -1,17 +1,25 @@
 //! What a script shows of its lab.
 
-ghost use Rattle.std.specs.Prelude.{◌≡◌, ◌++◌, ◌+◌, OnOk, string_bytes, Some};
+ghost use Rattle.std.specs.Prelude.{◌≡◌, ◌++◌, ◌+◌, IfOk, OnOk, string_bytes, Some, map, length};
+ghost use Rattle.std.specs.Option.{option_copied};
 ghost use Rattle.px_model.specs.Entries.{view_of};
+ghost use Rattle.px_model.specs.Spelling.{Bytes};
 ghost use Rattle.px_model.specs.Step.{front};
+ghost use Rattle.px_model.specs.World.{NodeState};
 ghost use Rattle.pf_node.specs.Nodes.{learned_by};
-ghost use Rattle.pf_lab.specs.inner.Shown.{entry_line, log_lines};
+ghost use Rattle.pf_lab.specs.Labs.{IsShown};
+ghost use Rattle.pf_lab.specs.Shown.{entry_line, log_lines};
+ghost use Rattle.pf_lab.specs.Scripts.{LabValue, prints, progress, node_line, state_lines, config_at, of_running};
+ghost use Rattle.pf_lab.specs.Scripts.{of_node, learned_lines, verdict_line, sent_lines, all_shown};
+ghost use Rattle.pf_lab.specs.inner.Benches.{IsBench, Does, IsOfMember};
 
 use crate::bench::Bench;
-use crate::fault::{LineFault, NOT_THERE};
+use crate::fault::NOT_THERE;
 use crate::messages::push_datagram;
 use crate::printing::push_named;
+use pf_config::Config;
 use pf_node::Node;
-use pf_scripts::{push_line, push_number, test_packet};
+use pf_scripts::{push_line, push_number, push_refusal, test_packet};
 use px_model::EntryView;
 use px_records::MemoryRecords;
 use std::alloc::{AllocError, Global};
@@ -19,20 +27,36 @@ use std::alloc::{AllocError, Global};
 /// Nothing is learned that many positions or more past a node's front.
 const WINDOW: u32 = 64;
 
+/// ` round R front F applied A`; memory ran out where less is applied than the front.
+fn push_progress(
+    alloc: Global,
+    out: &mut String,
+    node: &Node<MemoryRecords>,
+) -> Result<(), AllocError>
+    ensures { (s : NodeState Bytes) → IsShown s node.now →
+        OnOk result (string_bytes out.new ≡ string_bytes out.old ++ progress s) }
+{
+    if node.applied() != node.front() {
+        return Err(AllocError);
+    }
+    push_named(alloc, out, " round ", node.round())?;
+    push_named(alloc, out, " front ", u64::from(node.front()))?;
+    push_named(alloc, out, " applied ", u64::from(node.applied()))
+}
+
 /// `node N round R front F applied A`, or `node N stopped`
 fn push_node(
     alloc: Global,
     out: &mut String,
     m: u8,
     node: Option<&Node<MemoryRecords>>,
-) -> Result<(), AllocError> {
+) -> Result<(), AllocError>
+    ensures { (s : NodeState Bytes) → IsOfMember s (option_copied node.entry) →
+        OnOk result (string_bytes out.new ≡ string_bytes out.old ++ node_line m s) }
+{
     push_named(alloc, out, "node ", u64::from(m))?;
     match node {
-        Some(node) => {
-            push_named(alloc, out, " round ", node.round())?;
-            push_named(alloc, out, " front ", u64::from(node.front()))?;
-            push_named(alloc, out, " applied ", u64::from(node.applied()))?;
-        }
+        Some(node) => push_progress(alloc, out, node)?,
         None => out.push_str(" stopped")?,
     }
     out.push('\n')
@@ -69,17 +93,57 @@ fn push_log(alloc: Global, out: &mut String, node: &Node<MemoryRecords>) -> Resu
     Ok(())
 }
 
-impl Bench {
-    /// The node, none where it is stopped.
-    fn node(&self, m: u8) -> Result<Option<&Node<MemoryRecords>>, LineFault> {
-        if m >= self.members {
-            return Err(NOT_THERE);
-        }
-        Ok(self.lab.node(m))
+/// What a node has learned, and that it is stopped where it is.
+#[tactic(auto, using(crate::proofs::Lines::learned_shown, crate::proofs::Lines::stopped_shown))]
+fn push_learned_by(
+    alloc: Global,
+    out: &mut String,
+    node: Option<&Node<MemoryRecords>>,
+) -> Result<(), AllocError>
+    ensures { (s : NodeState Bytes) → IsOfMember s (option_copied node.entry) →
+        OnOk result (string_bytes out.new ≡ string_bytes out.old ++ of_running s learned_lines) }
+{
+    match node {
+        Some(node) => push_log(alloc, out, node),
+        None => push_line(out, "stopped"),
     }
+}
 
+/// The configuration of a node that has applied all below its front; memory ran out where it hasn't.
+#[tactic(auto, using(crate::proofs::Lines::config_is))]
+fn configuration(node: &Node<MemoryRecords>) -> Result<&Config, AllocError>
+    ensures { IfOk result (λ c. c.now ≡ config_at (learned_by node.now)) }
+{
+    if node.applied() != node.front() {
+        return Err(AllocError);
+    }
+    Ok(node.config())
+}
+
+/// The verdict of a node for a packet, and that it is stopped where it is.
+#[tactic(auto, using(crate::proofs::Lines::verdict_shown, crate::proofs::Lines::stopped_shown))]
+fn push_verdict(
+    alloc: Global,
+    out: &mut String,
+    node: Option<&Node<MemoryRecords>>,
+    packet: &[&str],
+) -> Result<(), AllocError>
+    ensures { (s : NodeState Bytes) → IsOfMember s (option_copied node.entry) →
+        OnOk result (string_bytes out.new
+        ≡ string_bytes out.old ++ of_running s (verdict_line (map (λ w. w.now) packet.now))) }
+{
+    match node {
+        Some(node) => test_packet(alloc, configuration(node)?, packet, out),
+        None => push_line(out, "stopped"),
+    }
+}
+
+impl Bench {
     /// Prints how far each node is.
-    pub(crate) fn show_state(&self, alloc: Global, out: &mut String) -> Result<(), AllocError> {
+    pub(crate) fn show_state(&self, alloc: Global, out: &mut String) -> Result<(), AllocError>
+        ensures { (v : LabValue) → IsBench self.now v → OnOk result
+            (string_bytes out.new ≡ string_bytes out.old ++ state_lines v.world v.members) }
+    {
         for m in 0..self.members {
             push_node(alloc, out, m, self.lab.node(m))?;
         }
@@ -87,12 +151,14 @@ impl Bench {
     }
 
     /// Prints what the node has learned.
-    pub(crate) fn show_log(&self, alloc: Global, m: u8, out: &mut String) -> Result<(), LineFault> {
-        match self.node(m)? {
-            Some(node) => push_log(alloc, out, node)?,
-            None => push_line(out, "stopped")?,
+    pub(crate) fn show_log(&self, alloc: Global, m: u8, out: &mut String) -> Result<(), AllocError>
+        ensures { (v : LabValue) → IsBench self.now v → OnOk result
+            (string_bytes out.new ≡ string_bytes out.old ++ of_node v m learned_lines) }
+    {
+        if m >= self.members {
+            return push_refusal(alloc, out, NOT_THERE, 0);
         }
-        Ok(())
+        push_learned_by(alloc, out, self.lab.node(m))
     }
 
     /// Prints the node's verdict for a packet.
@@ -102,21 +168,37 @@ impl Bench {
         m: u8,
         packet: &[&str],
         out: &mut String,
-    ) -> Result<(), LineFault> {
-        match self.node(m)? {
-            Some(node) => test_packet(alloc, node.config(), packet, out)?,
-            None => push_line(out, "stopped")?,
+    ) -> Result<(), AllocError>
+        ensures { (v : LabValue) → IsBench self.now v → OnOk result (string_bytes out.new
+            ≡ string_bytes out.old ++ of_node v m (verdict_line (map (λ w. w.now) packet.now))) }
+    {
+        if m >= self.members {
+            return push_refusal(alloc, out, NOT_THERE, 0);
+        }
+        push_verdict(alloc, out, self.lab.node(m), packet)
+    }
+
+    /// Prints the messages that weren't shown yet.
+    fn push_sent(&self, alloc: Global, out: &mut String) -> Result<(), AllocError>
+        ensures { (v : LabValue) → IsBench self.now v → OnOk result (string_bytes out.new
+            ≡ string_bytes out.old ++ sent_lines v.world.sent v.shown (length v.world.sent)) }
+    {
+        let sent = self.lab.sent();
+        let first = self.shown.min(sent.len());
+        for k in first..sent.len() {
+            push_datagram(alloc, out, self.members, k, &sent[k])?;
         }
         Ok(())
     }
 
-    /// Prints the messages not shown yet.
-    pub(crate) fn show_sent(&mut self, alloc: Global, out: &mut String) -> Result<(), AllocError> {
-        let sent = self.lab.sent();
-        for k in self.shown..sent.len() {
-            push_datagram(alloc, out, self.members, k, &sent[k])?;
-        }
-        self.shown = sent.len();
+    /// The same, and they count as shown.
+    pub(crate) fn show_sent(&mut self, alloc: Global, out: &mut String) -> Result<(), AllocError>
+        ensures { (v : LabValue) → IsBench self.old v → OnOk result (Does (prints (all_shown v)
+            (sent_lines v.world.sent v.shown (length v.world.sent))) self.new
+            (string_bytes out.old) (string_bytes out.new)) }
+    {
+        self.push_sent(alloc, out)?;
+        self.shown = self.lab.sent().len();
         Ok(())
     }
 }

@@ -1,7 +1,12 @@
 //! A line of a script.
 
-ghost use Rattle.std.specs.Prelude.{◌≡◌, IfOk, map};
-ghost use Rattle.pf_lab.specs.inner.LabLines.{is_followed};
+ghost use Rattle.std.specs.Prelude.{◌≡◌, ◌++◌, IfOk, OnOk, map, option_map, string_bytes};
+ghost use Rattle.pf_scripts.specs.Seen.{line_of};
+ghost use Rattle.pf_scripts.specs.inner.Seen.{waiting_of};
+ghost use Rattle.pf_lab.specs.LabLines.{is_followed};
+ghost use Rattle.pf_lab.specs.Scripts.{LabValue, done, words_done, at_words, stepped};
+ghost use Rattle.pf_lab.specs.inner.Seen.{line_value};
+ghost use Rattle.pf_lab.specs.inner.Benches.{IsBench, Does, Steps};
 
 use crate::bench::Bench;
 use crate::fault::LineFault;
@@ -15,16 +20,18 @@ fn run_line(
     bench: &mut Bench,
     line: LabLine<'_, '_>,
     out: &mut String,
-) -> Result<(), LineFault> {
+) -> Result<(), AllocError>
+    ensures { (v : LabValue) → IsBench bench.old v → OnOk result
+        (Does (done v (line_value line.entry)) bench.new (string_bytes out.old) (string_bytes out.new)) }
+{
     match line {
-        LabLine::Happens(event) => bench.happen(alloc, &event, out)?,
-        LabLine::Run => bench.run()?,
-        LabLine::Test(m, packet) => bench.show_verdict(alloc, m, packet, out)?,
-        LabLine::State => bench.show_state(alloc, out)?,
-        LabLine::Log(m) => bench.show_log(alloc, m, out)?,
-        LabLine::Sent => bench.show_sent(alloc, out)?,
+        LabLine::Happens(event) => bench.happen(alloc, &event, out),
+        LabLine::Run => bench.run(),
+        LabLine::Test(m, packet) => bench.show_verdict(alloc, m, packet, out),
+        LabLine::State => bench.show_state(alloc, out),
+        LabLine::Log(m) => bench.show_log(alloc, m, out),
+        LabLine::Sent => bench.show_sent(alloc, out),
     }
-    Ok(())
 }
 
 /// Does what a line with words asks for, or prints its refusal; `text` is what is behind it.
@@ -34,13 +41,13 @@ pub(crate) fn run_words(
     words: &[&str],
     text: &[u8],
     out: &mut String,
-) -> Result<(), AllocError> {
-    let done = match line_in(alloc, words, text) {
+) -> Result<(), AllocError>
+    ensures { (v : LabValue) → IsBench bench.old v → OnOk result
+        (Does (words_done v (map (λ w. w.now) words.now) text.now) bench.new
+        (string_bytes out.old) (string_bytes out.new)) }
+{
+    match line_in(alloc, words, text) {
         Ok(line) => run_line(alloc, bench, line, out),
-        Err(fault) => Err(fault),
-    };
-    match done {
-        Ok(()) => Ok(()),
         Err(LineFault::Refused(code)) => push_refusal(alloc, out, code, 0),
         Err(LineFault::Memory) => Err(AllocError),
     }
@@ -66,9 +73,17 @@ fn is_followed(alloc: Global, words: &[&str]) -> Result<bool, AllocError>
 fn begin<'a>(
     alloc: Global,
     bench: &mut Bench,
-    words: Vec<&'a str>,
+    words: Option<Vec<&'a str>>,
     out: &mut String,
-) -> Result<Option<Waiting<'a>>, AllocError> {
+) -> Result<Option<Waiting<'a>>, AllocError>
+    ensures { (v : LabValue) → IsBench bench.old v → IfOk result (λ w. Steps
+        (at_words v (option_map (λ u. map (λ x. x.now) u.items) words.entry))
+        bench.new (option_map waiting_of w) (string_bytes out.old) (string_bytes out.new)) }
+{
+    let Some(words) = words else {
+        push_refusal(alloc, out, 40, 0)?;
+        return Ok(None);
+    };
     if words.is_empty() {
         return Ok(None);
     }
@@ -89,22 +104,27 @@ pub(crate) fn step<'a>(
     waiting: Option<Waiting<'a>>,
     line: Line<'a>,
     out: &mut String,
-) -> Result<Option<Waiting<'a>>, AllocError> {
-    let Some(waiting) = waiting else {
-        let Some(words) = words_in(alloc, line.content)? else {
-            push_refusal(alloc, out, 40, 0)?;
-            return Ok(None);
-        };
-        return begin(alloc, bench, words, out);
-    };
-    if line.content == b".".as_slice() {
-        run_words(alloc, bench, &waiting.words, &waiting.text, out)?;
-        return Ok(None);
+) -> Result<Option<Waiting<'a>>, AllocError>
+    ensures { (v : LabValue) → IsBench bench.old v → IfOk result (λ w. Steps
+        (stepped v (option_map waiting_of waiting.entry) (line_of line.entry))
+        bench.new (option_map waiting_of w) (string_bytes out.old) (string_bytes out.new)) }
+{
+    match waiting {
+        None => {
+            let words = words_in(alloc, line.content)?;
+            begin(alloc, bench, words, out)
+        }
+        Some(waiting) => {
+            if line.content == b".".as_slice() {
+                run_words(alloc, bench, &waiting.words, &waiting.text, out)?;
+                return Ok(None);
+            }
+            let mut text = waiting.text;
+            push_bytes(&mut text, line)?;
+            Ok(Some(Waiting {
+                words: waiting.words,
+                text,
+            }))
+        }
     }
-    let mut text = waiting.text;
-    push_bytes(&mut text, line)?;
-    Ok(Some(Waiting {
-        words: waiting.words,
-        text,
-    }))
 }

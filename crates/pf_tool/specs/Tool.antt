@@ -23,6 +23,7 @@ use Rattle.pf_eval.specs.Verdicts.{judgement}
 use Rattle.pf_eval.specs.Seen.{verdict_text}
 use Rattle.pf_scripts.specs.Lines.{lines, words_if}
 use Rattle.pf_scripts.specs.Ctl.{printed}
+use Rattle.pf_lab.specs.Scripts as lab
 use Rattle.cli_io.specs.declared.paragraph.Explanation.{Explanation}
 use Rattle.cli_io.specs.Explained.{paragraph, paragraphs}
 use Rattle.pf_tool.specs.declared.output.Ending.{Ending}
@@ -185,13 +186,12 @@ abbrev pub status_of : Ending → Status
 status_of Done = status.Done
 status_of Refused = status.Refused
 
--- What is asked for, over this input, with this table of refusals. Of a lab's script no more is said than how it ends:
--- which positions a node has applied is no part of the world.
+-- what is asked for, over this input, with this table of refusals
 abbrev pub IsAnswer : List Explanation → CallValue → List ℕ → Written → Type 0
 IsAnswer table (Test packets) input w = w ≡ test_output packets input
 IsAnswer table (Check place) input w = w ≡ check_output place input
 IsAnswer table Ctl input w = w ≡ record { text = printed input; ending = Done }
-IsAnswer table Lab input w = w.ending ≡ Done
+IsAnswer table Lab input w = w ≡ record { text = lab.printed input; ending = Done }
 IsAnswer table (Explain refusal) input w = w ≡ explained table refusal
 IsAnswer table (CheckFiles place quiet files) input w = AreChecked place quiet files input w
 IsAnswer table (TestFiles file more quiet packets) input w = AreTested file more quiet packets input w
@@ -200,7 +200,7 @@ IsAnswer table (TestFiles file more quiet packets) input w = AreTested file more
 abbrev pub Writes : Option (List ℕ) → Option (List ℕ) → Status → Written → Type 0
 Writes old new ending written = Appends old new written.text × (ending ≡ status_of written.ending)
 
--- What a run of a call may have written that failed: a front of its answer, or of `memory`. Nothing is a front of either.
+-- what a run of a call may have written that failed: a front of its answer, or of `memory`; nothing is one of either
 abbrev pub WroteFront : List Explanation → CallValue → (input old new : Option (List ℕ)) → Type 0
 WroteFront table call input old new = AppendsFront old new (line (codes "memory"))
     ⊎ IfSome input (λ bytes. (w : Written) × IsAnswer table call bytes w × AppendsFront old new w.text)

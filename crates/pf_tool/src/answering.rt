@@ -3,6 +3,7 @@
 ghost use Rattle.std.specs.Prelude.{◌≡◌, ◌∷◌, [], Some, None, IfOk, IfSome, map};
 ghost use Rattle.std.specs.Option.{option_copied};
 ghost use Rattle.pf_scripts.specs.Ctl.{printed};
+ghost use Rattle.pf_lab.specs.Scripts as lab;
 ghost use Rattle.pf_tool.specs.declared.output.Ending.TheVariants as ending;
 ghost use Rattle.pf_tool.specs.Tool.{IsAnswer, IsTested, AreChecked, AreTested, AreLines};
 ghost use Rattle.pf_tool.specs.Tool.{test_output, check_output, checked_texts, tested_texts, quieted};
@@ -108,7 +109,8 @@ fn ctl_input<R: Read>(
 
 /// `lab` over the input.
 fn lab_input<R: Read>(alloc: Global, reader: &mut R) -> Result<Output, RunFault>
-    ensures { IfOk result (λ o. (written o).ending ≡ ending.Done) }
+    ensures { IfOk result (λ o. IfSome (R.remaining reader.old)
+        (λ input. written o ≡ record { text = lab.printed input; ending = ending.Done })) }
 {
     let input = input_of(alloc, reader)?;
     let output = lab_output(alloc, &input)?;

@@ -2,6 +2,7 @@
 
 ghost use Rattle.std.specs.Prelude.{◌≡◌, IfOk};
 ghost use Rattle.pf_scripts.specs.Ctl.{printed};
+ghost use Rattle.pf_lab.specs.Scripts as lab;
 ghost use Rattle.pf_tool.specs.declared.output.Ending.TheVariants as ending;
 ghost use Rattle.pf_tool.specs.inner.Output.{written};
 
@@ -23,7 +24,7 @@ pub(crate) fn script_output(alloc: Global, input: &[u8]) -> Result<Output, Alloc
 
 /// What `lab` writes over this input: what the script's lines print over one lab.
 pub(crate) fn lab_output(alloc: Global, input: &[u8]) -> Result<Output, AllocError>
-    ensures { IfOk result (λ o. (written o).ending ≡ ending.Done) }
+    ensures { IfOk result (λ o. written o ≡ record { text = lab.printed input.now; ending = ending.Done }) }
 {
     let text = lab_script(alloc, input)?;
     Ok(Output {

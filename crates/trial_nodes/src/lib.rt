@@ -12,6 +12,8 @@ mod cluster;
 #[cfg(test)]
 mod ending;
 #[cfg(test)]
+mod hosting;
+#[cfg(test)]
 mod latest;
 #[cfg(test)]
 mod listing;

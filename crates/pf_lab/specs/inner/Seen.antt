@@ -9,9 +9,9 @@ use Rattle.pf_lab.specs.declared.fault.LineFault.{LineFault}
 use Rattle.pf_lab.specs.declared.fault.LineFault.TheVariants.{Memory, Refused}
 use Rattle.pf_lab.specs.declared.reading.LabLine.{LabLine}
 use Rattle.pf_lab.specs.declared.reading.LabLine.TheVariants as line
-use Rattle.pf_lab.specs.inner.LabLines.{ActionValue, Ask, Tick, Deliver, EventValue, Runs, StopBefore}
-use Rattle.pf_lab.specs.inner.LabLines.{StopAfter}
-use Rattle.pf_lab.specs.inner.LabLines.{Restart, LineValue, Happens, Run, Test, State, Log, Sent, Asked}
+use Rattle.pf_lab.specs.LabLines.{ActionValue, Ask, Tick, Deliver, EventValue, Runs, StopBefore}
+use Rattle.pf_lab.specs.LabLines.{StopAfter}
+use Rattle.pf_lab.specs.LabLines.{Restart, LineValue, Happens, Run, Test, State, Log, Sent, Asked}
 
 abbrev pub action_value : LabAction → ActionValue
 action_value (action.Ask m command) = Ask m (command_value command)

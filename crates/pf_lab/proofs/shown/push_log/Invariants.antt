@@ -1,6 +1,6 @@
 use Rattle.std.proofs.Common.{◌≡◌, ◌++◌, string_bytes}
 use Rattle.pf_node.specs.Nodes.{learned_by}
-use Rattle.pf_lab.specs.inner.Shown.{log_lines}
+use Rattle.pf_lab.specs.Shown.{log_lines}
 use Rattle.pf_lab.proofs.shown.push_log.Given as goal
 
 -- what the positions so far print

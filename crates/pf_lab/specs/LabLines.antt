@@ -4,8 +4,8 @@ use Rattle.std.specs.Prelude.{codes, bytes_eq, if◌then◌else◌}
 use Rattle.clap.specs.Words.{Text}
 use Rattle.pf_entry.specs.Entry as entry
 use Rattle.pf_scripts.specs.Ctl.{takes_text}
-use Rattle.pf_lab.specs.inner.Numbers.{number_of}
-use Rattle.pf_lab.specs.inner.Asking.{AskedChange, change_of}
+use Rattle.pf_lab.specs.Numbers.{number_of}
+use Rattle.pf_lab.specs.Asking.{AskedChange, change_of}
 
 pub data ActionValue : Type 0 where
   Ask : (node : ℕ) → (command : entry.Command) → ActionValue
