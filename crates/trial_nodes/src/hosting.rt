@@ -9,8 +9,8 @@ use std::test::Fail;
 
 /// A client's request to member 0 of 1 of cluster 7, with token 9: `-t bad -T add 10.0.0.1`.
 const ASK: [u8; 42] = [
-    0x50, 0x46, 0x58, 0x52, 1, 0, 0, 0, 7, 1, 255, 0, 8, 0, 0, 0, 25, 1, 255, 0, 0, 0, 0, 0, 0, 0, 9,
-    5, 0, 3, b'b', b'a', b'd', 0, 1, 0, 4, 0x20, 10, 0, 0, 1,
+    0x50, 0x46, 0x58, 0x52, 1, 0, 0, 0, 7, 1, 255, 0, 8, 0, 0, 0, 25, 1, 255, 0, 0, 0, 0, 0, 0, 0,
+    9, 5, 0, 3, b'b', b'a', b'd', 0, 1, 0, 4, 0x20, 10, 0, 0, 1,
 ];
 
 /// How a run of 30 turns ends, of a cluster of one to which the request comes.
@@ -46,6 +46,12 @@ fn ended(rt: HostRuntime) -> Result<Ended, Fail> {
 #[test]
 fn a_run_takes_what_comes(rt: HostRuntime) -> Result<(), Fail> {
     let ended = ended(rt)?;
-    assert!(rt; ended == Ended::Front { front: 1, applied: 1 });
+    assert!(rt;
+        ended
+            == Ended::Front {
+                front: 1,
+                applied: 1
+            }
+    );
     Ok(())
 }
