@@ -21,24 +21,24 @@ const LINES: u64 = 4_294_967_295;
 /// What help says of each option, and below them.
 const CONTROL: &str = "The Unix socket at which the node answers operators";
 
-const WAIT: &str = "Seconds to wait for what comes of it, 0 to 3600";
+const WAIT: &str = "Seconds to wait for the outcome, 0 to 3600";
 
-const AT: &str = "The node answers once it has applied so many positions, 0 to 1000000";
+const AT: &str = "The node answers once it has applied this many positions, 0 to 1000000";
 
 const UNCHECKED: &str =
-    "Words and a text are asked as they are; else what is wrong with them is told before the node is asked";
+    "Sends a change unchecked; by default it is checked before the node is asked";
 
 const SCRIPT: &str =
-    "A file (- the input) of changes in the form of ctl's, each asked once what came of the one before it is known";
+    "A file (- the input) of changes in the form of ctl's, each sent once the outcome of the one before is known";
 
-const FROM: &str = "With --script: the number of the first line that is asked";
+const FROM: &str = "With --script: the number of the first line that is sent";
 
-const BELOW: &str = "Words of a change, or of a listing; or, without pfctl's options:
+const BELOW: &str = "A change or a listing by pfctl's options; or, without these:
   test PACKET..    the verdicts for packets        request N.NUMBER  what became of a request
   log [FROM]       what was learned                status            how the node is
   health           ok, or what is wrong            metrics           numbers for Prometheus
-  sync             asks what changes nothing       stop              ends the node
-A refusal is refused CODE; 85 nobody answers at the control socket, 86 the answer is none.";
+  sync             a change without effect         stop              ends the node
+A refusal is refused CODE; 85 nobody answers at the control socket, 86 the answer isn't HTTP, or is cut short.";
 
 /// `--wait S`
 fn with_wait<'a>(alloc: Global, command: Command<'a>) -> Result<Command<'a>, AllocError>

@@ -15,17 +15,17 @@ const INTERFACES: &str =
     "With --nft: the machine's interfaces, a line each: its name, then its groups";
 
 const NO_GUARD: &str =
-    "With --nft: rules may drop what the members send each other, which cuts the node off from its cluster";
+    "With --nft: without the members' guard; rules may then cut the node off from its cluster";
 
 const PF: &str =
-    "A folder for texts for pfctl(8): main.conf, and anchor+NAME+NAME.conf for each path";
+    "A folder for rulesets for pfctl(8): main.conf, and anchor+NAME+NAME.conf for each path";
 
-const TURNS: &str = "How often the control socket is asked; without an end if it isn't said";
+const TURNS: &str = "Ends after this many requests at the control socket; by default never";
 
 const BELOW: &str =
     "Once the node has applied a command, and each time that what it applies changes the rules, they are
-written whole. With --nft: the sets of the position, all rules in place of those before, and the end of the sets and
-chains of the position written before. In front stands the members' guard: what members send each other from and to
+written whole. With --nft: the sets of the position, all rules in place of those before, and the deletion of the sets
+and chains of the position written before. In front stands the members' guard: what members send each other from and to
 their addresses and ports passes whatever the rules say, with later fragments, and for IPv6 neighbour discovery and
 packet too big. A control socket where nobody answers is asked again. Refusals are said on standard error: 87 and 88
 as for check --nft, what was written before stands; 89 the file of interfaces, 40 words that don't go together, and it

@@ -1,6 +1,6 @@
 //! The numbers of refusals that have names.
 
-/// A packet's text that is none.
+/// No packet in the form of `pfx test`.
 pub const NO_PACKET: u8 = 30;
 
 /// A command, since 64 wait.

@@ -101,9 +101,9 @@ pub const REFUSALS: [Explanation; 44] = [
     Explanation {
         code: 17,
         name: "set in an anchor",
-        meaning: "set in a text for an anchor",
+        meaning: "set in a ruleset for an anchor",
         after: TEXT_STAYS,
-        remedy: "Write set into the main ruleset's text alone.",
+        remedy: "Write set into the main ruleset alone.",
     },
     Explanation {
         code: 18,
@@ -151,17 +151,17 @@ pub const REFUSALS: [Explanation; 44] = [
     Explanation {
         code: 24,
         name: "bad path",
-        meaning: "a path that is none, a block deeper than 8 names",
+        meaning: "no path of an anchor, a block deeper than 8 names",
         after: "The command changes nothing.",
         remedy: "A path is 1 to 8 names between slashes, none of which begins with _.",
     },
     Explanation {
         code: NO_PACKET,
         name: "no packet",
-        meaning: "a packet's text that is none",
+        meaning: "no packet in the form of pfx test",
         after: "The verdicts before it are printed, and none behind it.",
         remedy: "Compare the packet with pfx test --help: one family, ports for tcp and\n         \
-            udp alone.",
+            udp alone, an icmp-type as a number.",
     },
     Explanation {
         code: 40,
@@ -253,7 +253,7 @@ pub const REFUSALS: [Explanation; 44] = [
     Explanation {
         code: 82,
         name: "bad address",
-        meaning: "an address that is none, or that the system refuses",
+        meaning: "no address, or one that the system refuses",
         after: "No socket is open, and the store stays as it was.",
         remedy: "Write 192.0.2.1:4711, [2001:db8::1]:4711 or host:4711, each of one\n         \
             family; see that the own port is free.",

@@ -9,20 +9,20 @@ use clap::{Arg, ArgAction, Command, value_parser};
 use cli_io::{flag, valued, with_option};
 use std::alloc::{AllocError, Global};
 
-const NFT: &str = "As what nft(8) loads";
+const NFT: &str = "As nft(8) loads it";
 
 const INTERFACES: &str = "The machine's interfaces, a line each: its name, then its groups";
 
 const MEMBERS: &str =
     "The cluster's members, each as ADDRESS:PORT: what they send each other passes whatever the rules say";
 
-const POSITION: &str = "The position of what is loaded, which names tell; 0 if it isn't said";
+const POSITION: &str = "The position of the ruleset, which names contain; 0 by default";
 
 const BELOW: &str =
-    "Standard input has the text, as for check. Three lines come, for nft -f one after the other: the sets; all rules in
-place of those loaded before; and, to be kept until another position's rules are loaded, the end of these sets and
-chains. A position is never used for two rulesets; behind another members' guard its sets are the same. A refusal is
-as for check, and
+    "Standard input has the ruleset, as for check. Three lines come, for nft -f one after the other: the sets; all rules
+in place of those loaded before; and, to be kept until another position's rules are loaded, the deletion of these sets
+and chains. A position is never used for two rulesets; behind another members' guard its sets are the same. A refusal
+is as for check, and
   40 a member is no ADDRESS:PORT, or there are more than 15
   87 an anchor rule leads back   88 a packet would meet more than 100000 rules   89 the file of interfaces";
 
@@ -60,7 +60,7 @@ fn check_command<'a>(alloc: Global) -> Result<Command<'a>, AllocError>
     ensures local { IfOk result (λ c. (out-Command c).has_globals ≡ false) }
 {
     let command = Command::new(alloc, "check")
-        .about("Shows a text of rules as what nft(8) loads on a machine")
+        .about("Prints a ruleset as nft(8) loads it on a machine")
         .after_help(BELOW);
     let command = with_option(command, flag(alloc, "nft", NFT))?;
     let command = with_option(command, interfaces(alloc))?;

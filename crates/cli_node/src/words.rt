@@ -11,17 +11,17 @@ use std::alloc::{AllocError, Global};
 
 /// What help says of each option, and below them.
 const CONFIG: &str =
-    "A file of settings in TOML, by these options' names, and members for the addresses; options given here go first";
+    "A file of settings in TOML, by these options' names, and members for the addresses; options override it";
 
 const ME: &str = "The node's number, from 0 on";
 
 const CLUSTER: &str = "The cluster's number, 0 to 4294967295";
 
 const STORE: &str =
-    "The file of its record; where there is none it is made, with settings of a file only if --new is given";
+    "The file of its record; a missing one is created, with settings of a file only if --new is given";
 
 const NEW: &str =
-    "Makes the store of a node that never ran, and is refused where one is: once, on each machine";
+    "Creates the store of a node that never ran, once on each machine; refused where a store is";
 
 const CHECK: &str =
     "Says what is wrong with settings, keys, addresses, sockets and store, and starts and changes nothing";
@@ -34,17 +34,17 @@ const KEY: &str =
     "A file with the cluster's key, 64 hexadecimal digits, that its owner alone may read; datagrams then carry its tag";
 
 const OTHER_KEY: &str =
-    "A file with a second key that is heard too, while the cluster's key is changed";
+    "A file with a second key that is accepted too, while the cluster's key is changed";
 
 const NEW_STARTS: &str =
     "Makes a missing file of starts beside a store that isn't new, as one that was lost or never had a key";
 
-const QUIET: &str = "Of what happens, only warnings and errors are said on standard error";
+const QUIET: &str = "Prints only warnings and errors on standard error";
 
 const UNSEALED: &str =
-    "Something below seals datagrams, as IPsec or WireGuard do: nothing is said of a missing key";
+    "Doesn't warn of a missing key: IPsec, WireGuard or the like authenticates datagrams";
 
-const CONTROL: &str = "A Unix socket at which operators ask, which is made";
+const CONTROL: &str = "A Unix socket for operators, which is created";
 
 const METRICS: &str =
     "A TCP address of this machine alone, as 127.0.0.1:9470, at which GET /metrics, /healthz and /readyz are answered";
@@ -80,7 +80,7 @@ const KEY_FILE: &str = "The file that is made";
 
 const ASK_BELOW: &str =
     "It writes asked NODE.NUMBER, no answer, or refused CODE; a node refuses with 60 (64 wait) or 62 (no number left).
-Asked is not yet learned: the nodes' logs tell.";
+Asked isn't yet learned: see the nodes' logs.";
 
 /// An option with a string.
 fn text<'a>(alloc: Global, name: &'a str, help: &'a str) -> Arg<'a>
@@ -294,7 +294,7 @@ fn ask_command<'a>(alloc: Global) -> Result<Command<'a>, AllocError>
     ensures local { IfOk result (λ c. (out-Command c).has_globals ≡ false) }
 {
     let ask = Command::new(alloc, "ask")
-        .about("Asks a node to take a command in, in pfctl's words of a change")
+        .about("Submits a change to a node, by pfctl's options")
         .after_help(ASK_BELOW);
     let command = with_option(ask, text(alloc, "to", TO))?;
     let command = with_option(command, large(alloc, "cluster", CLUSTER))?;

@@ -15,21 +15,21 @@ const POSITIONS: u64 = 1_000_000;
 /// What help says of each option, and below them.
 const STORE: &str = "The file of a node's record, which no node has open; it isn't changed";
 
-const NFT: &str = "The configuration as what nft(8) loads, three lines";
+const NFT: &str = "The configuration as nft(8) loads it, three lines";
 
 const INTERFACES: &str =
     "With --nft: the machine's interfaces, a line each: its name, then its groups";
 
-const PF: &str = "The rulesets as texts for pfctl(8), each behind the comment # pfctl -a PATH -f -";
+const PF: &str = "The rulesets for pfctl(8), each behind the comment # pfctl -a PATH -f -";
 
 const SCRIPT: &str =
     "A script in the form of ctl's that gives the configuration when it is asked of an empty cluster";
 
 const FROM: &str = "With log: the first position; else the last lines are shown";
 
-const COUNT: &str = "With log: how many lines at most; without --from 20 if it isn't said";
+const COUNT: &str = "With log: how many lines at most; without --from 20 by default";
 
-const BELOW: &str = "Words of a listing as pfctl's, or without its options:
+const BELOW: &str = "A listing by pfctl's options; or, without these:
   test PACKET..   the verdicts for packets       log   what was learned
 Without either how many positions are applied, and how many are left in the log.
 What is shown is of the configuration after the learned positions up to the first gap.

@@ -13,13 +13,14 @@ use cli_io::{flag, valued, with_option};
 use std::alloc::{AllocError, Global};
 
 /// What help says below its options.
-const WORDS_BELOW: &str = "pfx WORD --help says more of a word, pfx --version which program this is.
+const WORDS_BELOW: &str =
+    "pfx SUBCOMMAND --help describes a subcommand; pfx --version says which program this is.
 
 Status: 0 done; 1 refused, out of memory (memory is written), a failed read or write, or more than 16777216 bytes of
 input; 2 words that aren't understood.";
 
 const CHECK_BELOW: &str =
-    "A file, or standard input, has the text, in the language of pf.conf: rules, anchors and
+    "A file, or standard input, has the ruleset, in the language of pf.conf: rules, anchors and
 their blocks, tables, macros, set. Of several files each is shown in turn.
 
 A refusal is refused CAUSE line L, L being the line at which the statement begins; refused 90 is a file that can't be
@@ -31,7 +32,7 @@ read. pfx explain CAUSE says what to do:
 With --nft, --interfaces FILE and --position N it writes what nft loads: pfx check --nft --help.";
 
 const TEST_BELOW: &str =
-    "A file, or standard input, has the text, as for check. A packet is one word of the shell,
+    "A file, or standard input, has the ruleset, as for check. A packet is one word of the shell,
 or a line of a file; with -f and no packet the lines of standard input:
   in|out on IF {group IF} proto P from ADDR [port N] to ADDR [port N] [flags LETTERS] [icmp-type N]
 as
@@ -41,7 +42,7 @@ A line each: pass, block drop or block return with the place of the rule that de
 where none matches; pass skip. What is no packet gives refused 30 and ends the run.";
 
 const CTL_BELOW: &str = "Standard input has the script. A line is one of
-  pfctl [-a PATH] -f - [-n]                                      the text follows, up to a line with a dot
+  pfctl [-a PATH] -f - [-n]                                      the ruleset follows, up to a line with a dot
   pfctl [-a PATH] -F rules|Tables|all
   pfctl [-a PATH] -t TABLE -T add|delete|replace|flush|show|test ADDRESS..
   pfctl [-a PATH] -s rules|Tables|Anchors
@@ -52,24 +53,24 @@ and prints ok, ok ADDED REMOVED, what it lists, a verdict, or refused CODE, and 
 
 const LAB_BELOW: &str =
     "Standard input has the script. Its first line is members N, 1 to 15. A line is one of
-  ask NODE WORDS     pfctl's words of a change; with -f - its text follows, up to a line with a dot
+  ask NODE WORDS     pfctl's words of a change; with -f - its ruleset follows, up to a line with a dot
   tick NODE          deliver K          run                run delivers what was sent, four times
   stop-before EVENT  stop-after EVENT   restart NODE       an event is an ask, a tick or a delivery
   test NODE PACKET   state              log NODE           sent";
 
-const NAMED_BELOW: &str = "pfx WORD --help, with this word, says what its options are.";
+const NAMED_BELOW: &str = "pfx SUBCOMMAND --help, with this subcommand, describes its options.";
 
 /// What help says of each option.
-const ANCHOR: &str = "The text is one for an anchor, in which set is refused";
+const ANCHOR: &str = "The ruleset is for an anchor: set is refused";
 
-const QUIET: &str = "Writes nothing: the status tells";
+const QUIET: &str = "Prints nothing: the exit status reports";
 
 const VERBOSE: &str =
-    "Says on standard error what is refused, and where; a terminal is told anyway";
+    "Says on standard error what is refused, and where: the default on a terminal";
 
-const FILES: &str = "Files of rules; without one it is standard input that is read";
+const FILES: &str = "Files of rules; standard input by default";
 
-const RULES: &str = "The file of rules; without one it is standard input that is read";
+const RULES: &str = "The file of rules; standard input by default";
 
 const PACKETS: &str = "A file of packets, one a line";
 
@@ -145,7 +146,7 @@ fn test_command<'a>(alloc: Global) -> Result<Command<'a>, AllocError>
     ensures local { IfOk result (λ c. (out-Command c).has_globals ≡ false) }
 {
     let command = Command::new(alloc, "test")
-        .about("Answers what becomes of packets under a text of rules")
+        .about("Prints the verdicts of a ruleset for packets")
         .after_help(TEST_BELOW);
     let command = with_option(command, rules_file(alloc))?;
     let command = with_option(command, valued(alloc, "packets", PACKETS))?;
@@ -159,7 +160,7 @@ fn check_command<'a>(alloc: Global) -> Result<Command<'a>, AllocError>
     ensures local { IfOk result (λ c. (out-Command c).has_globals ≡ false) }
 {
     let command = Command::new(alloc, "check")
-        .about("Shows what a text of rules comes to, or why it is refused")
+        .about("Shows the rules that a ruleset expands to, or why it is refused")
         .after_help(CHECK_BELOW);
     let command = with_option(command, flag(alloc, "anchor", ANCHOR))?;
     let command = with_quiet(alloc, command)?;
@@ -172,7 +173,7 @@ fn ctl_command<'a>(alloc: Global) -> Result<Command<'a>, AllocError>
     ensures local { IfOk result (λ c. (out-Command c).has_globals ≡ false) }
 {
     let command = Command::new(alloc, "ctl")
-        .about("Runs a script of pfctl's words over one configuration, empty at first")
+        .about("Runs a script of pfctl commands over one configuration, empty at first")
         .after_help(CTL_BELOW);
     with_verbose(alloc, command)
 }
@@ -248,7 +249,7 @@ pub(crate) fn command<'a>(alloc: Global) -> Result<Command<'a>, AllocError>
         alloc,
         command,
         "ask",
-        "Asks a node to take a command in, or at its control socket what it holds",
+        "Submits a change to a node, or asks it at its control socket",
     )?;
     let command = with_named(alloc, command, "key", "Makes a cluster's key")?;
     let command = with_named(alloc, command, "show", "Shows what a node's store holds")?;
