@@ -126,9 +126,9 @@ HostedRuns G m hears given w v ended back =
 -- Steps of the model, one after the other, happened to the member from what its record held on, up to the call that
 -- failed, if one did. That is what the record holds then, unless a call on it failed; and whatever a stop leaves of it
 -- is that, or that with the change of the next step.
--- What went over the wire meanwhile are the member's moves: each message that came was given in its place, and what each
--- step sends was handed over after it, each datagram once, in order; and last what came for the call that failed and
--- after it, and what was handed over again.
+-- What went over the wire meanwhile are the member's moves: each message that came was given in its place, and what
+-- each step sends was handed over after it, each datagram once, in order; and last what came for the call that failed
+-- and after it, and what was handed over again.
 pub record LivedOver {R : Type 0} (G : Ghosts R) (m : Membership) (given back : R) (w v : List WireEvent) : Type 0 where
   pub moves : List Move
   pub then : NodeState Bytes

@@ -7,7 +7,8 @@ ghost use Rattle.std.specs.Str.Lines.{lines};
 ghost use Rattle.pf_arguments.specs.Answers.{Answers};
 ghost use Rattle.pf_arguments.specs.Asked.{Asked};
 ghost use Rattle.node_requests.specs.inner.Parameters.{pairs_of};
-ghost use Rattle.node_requests.specs.Routing.{is_newline, change_asked, lines_in, reads, routed_value, lists, looked_up};
+ghost use Rattle.node_requests.specs.Routing.{is_newline, change_asked, lines_in, reads, routed_value, lists};
+ghost use Rattle.node_requests.specs.Routing.{looked_up};
 ghost use Rattle.node_requests.specs.Routing.{test_asked, log_asked, entries_asked, asked_at, target_asked};
 ghost use Rattle.node_requests.specs.Routing.{plain_asked, request_number, standing_asked, behind, routed, read_value};
 

@@ -15,8 +15,8 @@ const KEYS_MIN: usize = 16;
 /// 2^64 divided by the golden ratio (Knuth, The Art of Computer Programming, 6.4).
 const RATIO: u64 = 11_400_714_819_323_198_485;
 
-/// A bit for each key that was inserted, which other keys may share; none while the keys are few. Insertions are counted
-/// since it was rebuilt, also of keys that are removed again, so that it is rebuilt where keys come and go.
+/// A bit for each key that was inserted, which other keys may share; none while the keys are few. Insertions are
+/// counted since it was rebuilt, also of keys that are removed again, so that it is rebuilt where keys come and go.
 #[derive(Drop)]
 pub(crate) struct BloomFilter {
     bits: Vec<bool>,

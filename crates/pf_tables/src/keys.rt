@@ -35,7 +35,8 @@ pub(crate) fn keys_of(alloc: Global, entries: &[TableEntry]) -> Result<Vec<u128>
 }
 
 #[tactic(auto, using(crate::proofs::OneEdit::undone, crate::proofs::OneEdit::keys_insert, crate::proofs::OneEdit::keys_long, crate::proofs::Filtering::all_insert, crate::proofs::Filtering::all_kept))]
-/// Inserts an entry and its number at an index, and the number into the filter. An error leaves both lists as they were.
+/// Inserts an entry and its number at an index, and the number into the filter. An error leaves both lists as they
+/// were.
 pub(crate) fn insert_at(
     entries: &mut Vec<TableEntry>,
     keys: &mut Vec<u128>,

@@ -167,8 +167,8 @@ proposes from e = record {
   sends = three 0 (Accept 512 0 e);
 }
 
--- a member's promise counts once, for its ballot and position alone, though a proposal that it reports again is accepted; at
--- a majority phase 2 begins, or the attempt ends where nothing is to be proposed
+-- a member's promise counts once, for its ballot and position alone, though a proposal that it reports again is
+-- accepted; at a majority phase 2 begins, or the attempt ends where nothing is to be proposed
 pub record APromiseCountsOnce : Type 0 where
   pub again : does (numbers 2 1 0) (prepared 4 None counted) (Comes 1 (PromiseAll 512 0 9 None)) ≡
       Planned (idle (prepared 4 None (put counted 1 true)))

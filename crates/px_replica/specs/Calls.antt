@@ -80,8 +80,8 @@ pub record Call {R : Type 0} {G : Ghosts R} (s t : Replica R G) (x : Input Bytes
   -- 80 comes from a failed member and from no other, and nothing changes then
   pub failed : (answered ≡ Some fault.Failed) ↔ (has_failed s ≡ true)
   pub still : has_failed s ≡ true → t ≡ s
-  -- 70 and 72 make it a failed one: 70 comes where a call on the record failed and nowhere else, 72 only where a bad row
-  -- was read; where a row that the input reads is bad, the answer is one of these, or out of memory
+  -- 70 and 72 make it a failed one: 70 comes where a call on the record failed and nowhere else, 72 only where a bad
+  -- row was read; where a row that the input reads is bad, the answer is one of these, or out of memory
   pub fails : has_failed s ≡ false → ((has_failed t ≡ true) ↔ IsOfTheStore answered)
   pub counts : has_failed s ≡ false → ((answered ≡ Some fault.Store) ↔ (0 < G.failed (records_of t)))
   pub bad : G.is_honest (records_of t) → answered ≡ Some fault.BadStore →

@@ -185,8 +185,8 @@ impl<R: Records> Replica<R> {
     /// The member that a restart makes of its record: it has what the record has as learned, and nothing else.
     ///
     /// A refusal gives the record back: `Store`, `BadStore` for a row that no commit writes or an entry that has no
-    /// spelling, or `Memory`; but for `Store` the record is then as it was. A record of which a row that is read is such
-    /// a one isn't opened.
+    /// spelling, or `Memory`; but for `Store` the record is then as it was. A record of which a row that is read is
+    /// such a one isn't opened.
     pub fn open(alloc: Global, m: Membership, records: R) -> Result<Replica<R>, (NodeFault, R)>
         requires members { R.members records ≡ m.members }
         requires here { m.me < m.members }

@@ -1,4 +1,5 @@
--- What goes over a wire of packets, step by step: a step is at most one event over the wire below, and at most one here.
+-- What goes over a wire of packets, step by step: a step is at most one event over the wire below, and at most one
+-- here.
 use Rattle.std.specs.Prelude.{◌≡◌, ◌⊎◌, ◌<◌, ◌^◌, ℕ, ◌==◌, ◌&&◌, Bool, true, List, [], ◌∷◌, ◌++◌, length}
 use Rattle.std.specs.Prelude.{if◌then◌else◌}
 use Rattle.px_transport.specs.Wires.{WireEvent, Gave, Handed}
