@@ -1,14 +1,11 @@
 -- What goes over a wire and over its socket.
-use Rattle.std.proofs.Common.{◌≡◌, ◌∙◌, ◌⊎◌, inl, inr, ℕ, zero, suc, ◌≤◌, List, [], ◌∷◌, ◌++◌, Option, Some, None, refl, sym, ap, subst, map, take, length, arith}
+use Rattle.std.proofs.Common.{◌≡◌, ◌∙◌, ◌⊎◌, inl, inr, ℕ, zero, suc, ◌≤◌, List, [], ◌∷◌, ◌++◌, refl, sym, ap, subst, take, length, arith}
 use Rattle.std.specs.List.{AllByRecursion}
-use Rattle.std.specs.Prelude.{slice_get}
 use Rattle.std.specs.declared.net.socket_addr.SocketAddr.{SocketAddr}
-use Rattle.std.proofs.lemmas.List.{append-nil}
-use Rattle.px_transport.specs.Wires.{WireEvent, Gave, Handed, Adds, IsQuiet}
+use Rattle.px_transport.specs.Wires.{Gave, Handed, Adds, IsQuiet}
 use Rattle.px_transport.proofs.Traffic.{adds_none}
 use Rattle.node_udp.specs.Members.{peers_of, me_of}
 use Rattle.node_udp.specs.Sockets.{SocketEvent, Came, Went, Passage, Hears, Sends, Loses, below_in, above_in, GoesTo, HasNoAddress, IsSound, WentOver, IsStill}
-use Rattle.node_udp.specs.declared.address.Address.{Address}
 use Rattle.node_udp.specs.declared.udp.UdpWire.{UdpWire}
 
 below_append : (xs ys : List Passage) → below_in (xs ++ ys) ≡ below_in xs ++ below_in ys

@@ -1,5 +1,5 @@
 -- what was heard so far was passed over
-use Rattle.std.proofs.Common.{◌≡◌, ◌-◌, List, ℕ}
+use Rattle.std.proofs.Common.{◌≡◌, ◌-◌, List}
 use Rattle.px_transport.specs.Wires.{WireEvent, Moves}
 use Rattle.px_wire.specs.Message.{group}
 use Rattle.node_udp.specs.declared.answer.AskAnswer.{AskAnswer}
