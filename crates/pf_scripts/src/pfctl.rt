@@ -68,7 +68,7 @@ pub fn file_in<'a>(matches: &ArgMatches<'a>) -> Option<&'a str>
     matches.get_str("file")
 }
 
-/// Whether a ruleset follows words with these matches, none where `clap` refuses the words.
+/// Whether a ruleset follows words that have these matches, `None` where `clap` refused the words.
 pub(crate) fn takes_text_by(words: &[&str], matches: Option<&ArgMatches<'_>>) -> bool
     ensures { result ≡ takes_text_by (map (λ w. w.now) words.now) (rows_matched (option_copied matches.entry)) }
 {

@@ -23,7 +23,7 @@ use pf_grammar::{ParseFault, Place, Profile, parse};
 use pf_rules::Name;
 use std::alloc::{AllocError, Global};
 
-/// The action that matches ask for, with the text of the file; none are there where `clap` refuses the words.
+/// The action that matches ask for, with the text of the file; matches are `None` where `clap` refused the words.
 #[tactic(auto, using(crate::proofs::Acted::fault_numbered))]
 fn action_of(
     alloc: Global,
