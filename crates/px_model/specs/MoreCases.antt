@@ -99,7 +99,8 @@ voted = record nothing_volatile { kept = keep (keep (λ p m. 0) 5 0 256) 5 1 256
 -- where an entry is learned, neither a vote nor being told changes anything
 pub record NothingIsLearnedTwice : Type 0 where
   pub vote : does_with (learned_at 5) voted (Comes 2 (Vote 256 5 (entry 1 0 8))) ≡ Planned (idle voted)
-  pub hears_learned : does_with (learned_at 5) (waits []) (Comes 2 (Learned 5 (entry 1 0 8))) ≡ Planned (idle (waits []))
+  pub hears_learned : does_with (learned_at 5) (waits []) (Comes 2 (Learned 5 (entry 1 0 8)))
+      ≡ Planned (idle (waits []))
 
 -- a promise at one position alone binds there, and leaves the proposal accepted there as it was
 pub record APromiseHereBindsToo : Type 0 where
