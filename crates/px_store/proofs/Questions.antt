@@ -14,11 +14,12 @@ use Rattle.px_store.specs.Tables.{schema_3}
 use Rattle.px_store.specs.Seen.{seen, meta_columns, slot_columns, floor_columns, learned_columns, has_ballot, any_row}
 use Rattle.px_store.specs.inner.Seen.{IsLast}
 use Rattle.px_store.specs.inner.Effect.{IsAlike, IsStill, LeavesOld, Serves}
-use Rattle.px_store.specs.inner.Ahead.{AreAlike}
+use Rattle.px_store.specs.inner.Ahead.{AreAlike, IsAhead}
 use Rattle.px_store.specs.Formats.{schema_at, has_table, trees_at}
 use Rattle.px_store.specs.inner.Store.{OnlyReads}
 use Rattle.px_store.specs.Ready.{stored_of}
 use Rattle.px_store.specs.inner.Ready.{IsMeta}
+use Rattle.px_store.specs.declared.ahead.Ahead.{Ahead}
 use Rattle.px_store.specs.declared.calls.Identity.{Identity}
 use Rattle.px_store.specs.Adopting.{Began}
 use Rattle.px_store.specs.inner.Questions.{asked_by, given_with, table_of, Answers, Looked}
@@ -148,3 +149,7 @@ pub read_ready : (id : Identity) (m : kept.Meta) (old new : State) → old.now.s
     → (new.now.schema ≡ schema_3) × ((new.in_transaction ≡ false) × ((new.is_open ≡ true) × IsMeta id m new.committed.trees))
 read_ready id m old new has is s =
     (ap (λ (d : Database). d.schema) s.now ∙ has, (s.auto, (s.is_open, subst (λ (d : Database). IsMeta id m d.trees) (sym s.committed) is)))
+
+-- what was read ahead
+pub still_ahead : (a : Ahead) (old new : State) → IsStill old new → IsAhead a.next a.end (old.committed.trees 3) a.rows.items → IsAhead a.next a.end (new.committed.trees 3) a.rows.items
+still_ahead a old new s h = subst (λ (d : Database). IsAhead a.next a.end (d.trees 3) a.rows.items) (sym s.committed) h

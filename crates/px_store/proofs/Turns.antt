@@ -1,6 +1,6 @@
 -- Rows that are read ahead of a reader that asks them in turn.
 use Rattle.std.proofs.Common.{◌≡◌, ◌≢◌, inl, inr, ℕ, ◌+◌, ◌≤◌, ◌<◌, pos, List, [], ◌∷◌, map, filter, Bool, true, false, cond, ◌&&◌, Ordering, Less, Equal, Greater, refl, sym, ap, subst, ◌∙◌, length, arith, nat_eq}
-use Rattle.std.specs.Prelude.{nat_le, nat_lt}
+use Rattle.std.specs.Prelude.{nat_le, nat_lt, drop, Option, None, Some, option_to_list, ◌++◌}
 use Rattle.std.specs.List.{list_all}
 use Rattle.std.specs.List.Sorted.{IsPermutation}
 use Rattle.std.specs.Ordering.{is_eq, int_cmp}
@@ -161,3 +161,15 @@ pass_none n end table (r ∷ more) within (up, same) not_it =
     let at_least = h.1 in
     let on : rises (n + 1) (r ∷ more) ≡ true = and_from _ _ number (and_from _ _ (le-leb (n + 1) (key_of r) (omega (arith, at_least, ne))) h.2) in
     (same n (omega arith) within ∙ none_below (n + 1) n (r ∷ more) on (omega arith), (on, λ p low high. same p (omega (arith, low)) high))
+
+-- what `pop_front` gives and leaves
+pub pass_first : (n end : ℕ) (table rows : List Row) (row : Option Row) (more : List Row) → n < end → IsAhead n end table rows → has_first n rows ≡ true → rows ≡ option_to_list row ++ more → more ≡ drop 1 rows
+    → (seen learned_columns table n ≡ option_to_list row) × IsAhead (n + 1) end table more
+pass_first n end table [] row more within ahead first items rest = absurd cc
+pass_first n end table (r ∷ rows) None more within ahead first items rest = absurd (let e = ap length (items ∙ rest) in omega (arith, e))
+pass_first n end table (r ∷ rows) (Some x) more within ahead first items rest = pass_some n end table x more within (subst (IsAhead n end table) items ahead) (subst (λ (xs : List Row). has_first n xs ≡ true) items first)
+
+-- ---- the test
+
+pub rises_more : (n k : ℕ) (r : Row) (more : List Row) → is_number (column r 0) ≡ true → number_in (column r 0) ≡ k → n ≤ k → rises (k + 1) more ≡ true → rises n (r ∷ more) ≡ true
+rises_more n k r more number is low up = and_from _ _ number (and_from _ _ (le-leb n (key_of r) (omega (arith, is, low))) (subst (λ (k : ℕ). rises (k + 1) more ≡ true) (sym is) up))

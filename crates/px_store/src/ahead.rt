@@ -28,6 +28,7 @@ fn is_at(row: &Row, position: u32) -> bool
 }
 
 /// Whether the keys are numbers from `first` up to `end`, each above the one before.
+#[tactic(auto, using(crate::proofs::Turns::rises_more))]
 fn are_rising(rows: &[Row], first: u32, end: u32) -> bool
     ensures { IsTrue result → rises first rows.now ≡ true }
 {
