@@ -61,6 +61,7 @@ mod Above
 mod Gets
 mod Kept
 mod Tops
+mod Turns
 mod Questions
 mod Stored
 mod NewRows

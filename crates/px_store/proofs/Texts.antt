@@ -8,7 +8,7 @@ use Rattle.sqlite.specs.Command.{Command}
 use Rattle.sqlite.specs.Command.TheVariants.{InsertOr, Select}
 use Rattle.sqlite_schema.specs.declared.command.Conflict.TheVariants.{Replace}
 use Rattle.sqlite_sql.specs.declared.ops.BinaryOp.TheVariants.{Compare}
-use Rattle.sqlite_sql.specs.declared.ops.CompareOp.TheVariants.{Eq, Gt}
+use Rattle.sqlite_sql.specs.declared.ops.CompareOp.TheVariants.{Eq, Lt, Gt, Ge}
 use Rattle.sqlite.specs.Schema.{Schema}
 use Rattle.sqlite.specs.Source.TheVariants.{Values}
 use Rattle.sqlite_tied.specs.Compute.{everything}
@@ -16,7 +16,7 @@ use Rattle.sqlite.specs.Listing.{understood, reads_listing}
 use Rattle.sqlite.proofs.Callers.{IsPlain, command_of}
 use Rattle.px_store.specs.Tables.{schema_3}
 use Rattle.px_store.specs.inner.Tables.{put_meta, put_slot, put_floor, put_learned, get_meta, get_slot, get_floor}
-use Rattle.px_store.specs.inner.Tables.{get_learned, get_top, get_end, get_last}
+use Rattle.px_store.specs.inner.Tables.{get_learned, get_span, get_top, get_end, get_last}
 use Rattle.px_store.specs.Formats.{schema_at, has_table}
 use Rattle.px_store.specs.declared.formats.Format.{Format}
 use Rattle.px_store.specs.declared.formats.Format.TheVariants.{One, Two, Three}
@@ -60,10 +60,10 @@ learned_put = record { is = refl; plain = (refl, refl) }
 
 -- ---- reads
 
-abbrev pub by_key : (tree : ℕ) → List Term → Query
-by_key tree project = record {
+abbrev pub rows_by : (tree : ℕ) → (filter project : List Term) → Query
+rows_by tree filter project = record {
   from = inner tree end;
-  filter = op2 (Compare Eq Binary) (col 1 0) (col 0 0) ∷ [];
+  filter = filter;
   group = None;
   project = project;
   distinct = false;
@@ -72,6 +72,17 @@ by_key tree project = record {
   limit = lit (Int (negsuc 0));
   offset = lit (Int (pos 0));
 }
+
+-- the rows of a key
+abbrev pub with_key : List Term
+with_key = op2 (Compare Eq Binary) (col 1 0) (col 0 0) ∷ []
+
+abbrev pub by_key : (tree : ℕ) → List Term → Query
+by_key tree project = rows_by tree with_key project
+
+-- the rows of the keys from one on and below another
+abbrev pub in_span : List Term
+in_span = op2 (Compare Ge Binary) (col 1 0) (col 0 0) ∷ op2 (Compare Lt Binary) (col 1 0) (col 0 1) ∷ []
 
 abbrev pub select : Query → List (List ℕ) → Command
 select q names = Select (record { lets = []; body = q }) names
@@ -146,6 +157,12 @@ unfolding understood everything
 learned_asks One has = absurd cc
 learned_asks Two has = absurd cc
 learned_asks Three has = record { means = record { is = refl; plain = (refl, refl) }; unlisted = refl }
+
+pub span_asks : (f : Format) → has_table 3 f ≡ true → Asks (schema_at f) get_span (rows_by 3 in_span pair_project) learned_names
+unfolding understood everything
+span_asks One has = absurd cc
+span_asks Two has = absurd cc
+span_asks Three has = record { means = record { is = refl; plain = (refl, refl) }; unlisted = refl }
 
 pub top_asks : (f : Format) → Asks (schema_at f) get_top (last_row 1 with_ballot) top_names
 unfolding understood everything

@@ -1,4 +1,5 @@
 -- What only code and proofs use: no contract of a public function needs it.
+pub mod Ahead
 pub mod Bytes
 pub mod Making
 pub mod NewRows

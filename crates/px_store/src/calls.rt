@@ -163,6 +163,8 @@ pub(crate) enum Question {
     Floor,
     Slot { position: u32 },
     Learned { position: u32 },
+    /// The learned entries of the positions from `first` up to `end`, without that.
+    Span { first: u32, end: u32 },
     /// The key of the last slot with a proposal.
     Top,
     /// The key of the last learned entry.
@@ -181,6 +183,7 @@ impl Question {
             Question::Floor => 2,
             Question::Slot { position: _ } => 1,
             Question::Learned { position: _ } => 3,
+            Question::Span { first: _, end: _ } => 3,
             Question::Top => 1,
             Question::End => 3,
             Question::LastSlot => 1,
@@ -213,6 +216,10 @@ fn ask<S: Alter>(conn: &mut Connection<S>, question: Question) -> Result<Vec<Row
         Question::Learned { position } => conn.query_all(
             "SELECT position, entry FROM learned WHERE position = ?1",
             params![position],
+        ),
+        Question::Span { first, end } => conn.query_all(
+            "SELECT position, entry FROM learned WHERE position >= ?1 AND position < ?2",
+            params![first, end],
         ),
         Question::Top => conn.query_all(
             "SELECT position FROM slots WHERE ballot > 0 ORDER BY position DESC LIMIT 1",

@@ -63,6 +63,7 @@
 #![tactic(auto)]
 
 mod adopt;
+mod ahead;
 mod calls;
 mod fault;
 mod finding;

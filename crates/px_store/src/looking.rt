@@ -10,11 +10,15 @@ ghost use Rattle.px_store.specs.inner.Seen.{slot_with, EndsAt};
 ghost use Rattle.px_store.specs.inner.Store.{OnlyReads};
 ghost use Rattle.px_store.specs.View.{view_of};
 
+use crate::ahead::Ahead;
 use crate::calls::{Question, Trouble, get};
 use crate::keeper::SqlRecords;
 use crate::reading::{ReadFault, SlotRow, end_in_rows, entry_in_rows, slot_in_rows};
 use px_records::StoreFault;
 use sqlite::{Alter, Row};
+
+/// How many positions one statement reads ahead.
+const SPAN: u32 = 64;
 
 impl<S: Alter> SqlRecords<S> {
     /// The rows that answer a question.
@@ -89,6 +93,56 @@ impl<S: Alter> SqlRecords<S> {
                 Err(ReadFault::Bad) => Err(StoreFault::BadStore),
             },
             Err(fault) => Err(fault),
+        }
+    }
+
+    /// Where this position comes next and the rows that were read ahead are passed, reads those of the positions from
+    /// it on. Whether that is done shows in `failures` alone.
+    fn read_ahead(&mut self, position: u32)
+        ensures reads { OnlyReads (view_of S.Store self.old) (view_of S.Store self.new) }
+        ensures later { 0 < self.old.failures → self.new ≡ self.old }
+        ensures same_identity { self.new.identity ≡ self.old.identity }
+    {
+        if position != self.ahead.next || position != self.ahead.end {
+            return;
+        }
+        let end = position.saturating_add(SPAN);
+        let question = Question::Span {
+            first: position,
+            end,
+        };
+        if let Ok(rows) = self.look(question) {
+            self.ahead = Ahead::of(self.alloc, position, end, rows);
+        }
+    }
+
+    /// As `entry_at`. Where positions are asked in turn one statement reads the rows of several.
+    #[tactic(auto, using(crate::proofs::Stored::alike_entry, crate::proofs::Stored::not_alike_entry))]
+    pub(crate) fn entry_in_turn(&mut self, position: u32) -> Result<Option<Vec<u8>>, StoreFault>
+        ensures good { (view_of S.Store self.new).is_honest →
+            OnOk result ((view_of S.Store self.new).is_good (EntryAt position)) }
+        ensures value { (view_of S.Store self.new).is_honest →
+            IfOk result (λ e. read_in e ≡ (view_of S.Store self.new).kept.learned position) }
+        ensures fits { IfOk result (λ e. is_entry_in self.old.identity.members e ≡ true) }
+        ensures bad { (view_of S.Store self.new).is_honest → result ≡ Err StoreFault.BadStore →
+            (view_of S.Store self.old).is_good (EntryAt position) → ⊥ }
+        ensures reads { OnlyReads (view_of S.Store self.old) (view_of S.Store self.new) }
+        ensures counts { (result ≡ Err StoreFault.Failed) ↔ (0 < self.new.failures) }
+        ensures later { 0 < self.old.failures → self.new ≡ self.old }
+        ensures same_identity { self.new.identity ≡ self.old.identity }
+    {
+        self.read_ahead(position);
+        if self.failures > 0 {
+            return Err(StoreFault::Failed);
+        }
+        if position != self.ahead.next || position >= self.ahead.end {
+            return self.entry_at(position);
+        }
+        let row = self.ahead.pass();
+        match entry_in_rows(row.as_slice(), self.identity.members, position) {
+            Ok(entry) => Ok(entry),
+            Err(ReadFault::Memory) => Err(StoreFault::Memory),
+            Err(ReadFault::Bad) => Err(StoreFault::BadStore),
         }
     }
 

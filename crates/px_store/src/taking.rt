@@ -10,6 +10,7 @@ ghost use Rattle.px_store.specs.Judging.{refusal, IsOwn};
 ghost use Rattle.px_store.specs.View.{connection_of, connection_after, IsOpened};
 
 use crate::adopt::bring;
+use crate::ahead::Ahead;
 use crate::calls::Identity;
 use crate::fault::AdoptFault;
 use crate::formats::Format;
@@ -81,6 +82,7 @@ impl<S: Alter> SqlRecords<S> {
                 identity,
                 meta,
                 failures: 0,
+                ahead: Ahead::none(alloc),
                 alloc,
             }),
             Err(fault) => Err((fault, conn)),
@@ -138,6 +140,7 @@ impl<S: Alter> SqlRecords<S> {
             identity: _,
             meta: _,
             failures: _,
+            ahead: _,
             alloc: _,
         } = self;
         conn

@@ -16,6 +16,7 @@ ghost use Rattle.px_store.specs.View.{view_of};
 ghost use Rattle.px_store.specs.inner.NewRows.{AreIntegers, HasFloor, Replaces, IsGoodRow, with_row, meta_with};
 ghost use Rattle.px_store.specs.declared.reading.TheConstants.{NUMBERS, INTEGERS};
 
+use crate::ahead::Ahead;
 use crate::calls::{NewRow, Trouble, put};
 use crate::keeper::SqlRecords;
 use crate::reading::SlotRow;
@@ -43,6 +44,7 @@ impl<S: Alter> SqlRecords<S> {
         ensures counts { (result ≡ Err StoreFault.Failed) ↔ (0 < self.new.failures) }
         ensures same_identity { self.new.identity ≡ self.old.identity }
     {
+        self.ahead = Ahead::none(self.alloc);
         match put(&mut self.conn, self.identity, row, bytes) {
             Ok(()) => {
                 self.meta = meta;

@@ -16,6 +16,8 @@ use Rattle.px_records.specs.inner.Props.{MetaFits-prop}
 use Rattle.px_store.specs.Tables.{schema_3}
 use Rattle.px_store.specs.Seen.{seen, meta_columns, meta_row, number_at, floor_columns}
 use Rattle.px_store.specs.inner.Seen.{floor_rows}
+use Rattle.px_store.specs.inner.Ahead.{IsAhead}
+use Rattle.px_store.specs.declared.ahead.Ahead.{Ahead}
 use Rattle.px_store.specs.declared.calls.Identity.{Identity}
 
 -- what the rows for the whole node show: whom the store belongs to, and these numbers
@@ -57,3 +59,12 @@ IsOwned id s = HasCleanDisk s → (db : Trees) → s.may_leave db → IsNamed id
 pub IsOwned-prop : (id : Identity) (s : State) → IsProp (IsOwned id s)
 IsOwned-prop id s =
     Π_prop (λ _. Π_prop (λ _. Π_prop (λ _. Coded-set (coded_list (coded_list value.the_row.coded)) _ _)))
+
+-- while no call has failed and the disk returned what was written, the rows that were read ahead are the table's
+abbrev pub AreAhead : ℕ → Ahead → State → Type 0
+AreAhead failures a s = failures ≡ 0 → HasCleanDisk s → IsAhead a.next a.end (s.committed.trees 3) a.rows.items
+
+pub AreAhead-prop : (failures : ℕ) (a : Ahead) (s : State) → IsProp (AreAhead failures a s)
+AreAhead-prop failures a s =
+    Π_prop (λ _. Π_prop (λ _. ×_prop (Bool-set _ _) (Π_prop (λ _. Π_prop (λ _. Π_prop (λ _. Coded-set (coded_list
+    (coded_list value.the_row.coded)) _ _))))))

@@ -54,6 +54,9 @@ get_floor = codes "SELECT id, ballot FROM floor WHERE id = ?1"
 abbrev pub get_learned : List ℕ
 get_learned = codes "SELECT position, entry FROM learned WHERE position = ?1"
 
+abbrev pub get_span : List ℕ
+get_span = codes "SELECT position, entry FROM learned WHERE position >= ?1 AND position < ?2"
+
 abbrev pub get_top : List ℕ
 get_top = codes "SELECT position FROM slots WHERE ballot > 0 ORDER BY position DESC LIMIT 1"
 
@@ -80,3 +83,6 @@ learned_params p e = Int (pos p) ∷ Bytes e ∷ []
 
 abbrev pub key_params : ℕ → Row
 key_params p = Int (pos p) ∷ []
+
+abbrev pub span_params : (first end : ℕ) → Row
+span_params first end = Int (pos first) ∷ Int (pos end) ∷ []

@@ -36,6 +36,7 @@ pub invariant_of-result : goal.invariant_of-result
 invariant_of-result g c = record {
   bounds = c.in-Ok.ensures.bounds;
   ready = c.in-Ok.ensures.ready;
+  ahead_is = λ none clean. c.none.ensures _;
   owned = λ clean db left.
       let r = c.in-Ok.ensures.ready refl clean in
       let same = g.met.S.Store.settled c.read_again.new.conn.store db r.1.1.0 left in
