@@ -6,6 +6,7 @@ ghost use Rattle.cli_ask.specs.Sending.{has_control, change_body};
 
 use crate::sending::{change_body, has_control, have_control, lines_of};
 use clap::ArgMatches;
+use cli_io::values_in;
 use percent_encoding::{NON_ALPHANUMERIC, utf8_percent_encode};
 use std::alloc::{AllocError, Global};
 
@@ -141,14 +142,6 @@ fn change_args<'m>(
     Ok(args)
 }
 
-/// The words, none where there are none.
-fn or_none<'m, 'a>(words: Option<&'m [&'a str]>) -> &'m [&'a str] {
-    match words {
-        Some(words) => words,
-        None => &[],
-    }
-}
-
 /// What a listing sends; none where the words ask for no listing.
 fn listing(
     alloc: Global,
@@ -269,6 +262,6 @@ pub(crate) fn call_in(
     text: &[u8],
     at: u32,
 ) -> Result<Option<Call>, AllocError> {
-    let rest = or_none(matches.get_strs("address"));
+    let rest = values_in(matches, "address");
     call_with(alloc, matches, rest, text, at)
 }
