@@ -27,6 +27,8 @@
 --   serves all, and two lemmas say what a table shows that a format has, and what one that it lacks (`Adopts.with_table`,
 --   `without_table`).
 -- - `SELECT .. ORDER BY position DESC LIMIT 1` has one proof for any filter (`Tops.antt`).
+-- - Rows that are read ahead (`Turns.antt`): the code tests that their keys rise, so no order of the answer is needed. The
+--   clauses of `Ahead` speak of any table (`IsAhead`), and a ghost field of the keeper names the store's.
 -- - **What a stop leaves while a store is taken**: `LeavesOr`, what was left before, or a store of format 3, whole
 --   (`IsMade`, `IsBrought`), whose rows are `AreBrought`; `Adopts.whole_from` makes the record of an older format's rows
 --   of it, and the clauses of `adopt` are over both answers by `connection_after`.

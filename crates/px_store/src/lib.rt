@@ -7,7 +7,7 @@
 //!   new, which must have its tables; [`SqlRecords::release`] gives its connection back (`taking`).
 //! - [`SqlRecords`] keeps [`Records`](px_records::Records) (`sql`): reads by a position (`looking`), writes of one row
 //!   each (`writing`), over one call that puts a row and one that asks for rows (`calls`). What rows say is in
-//!   `reading`.
+//!   `reading`; `ahead` has rows of learned entries for a reader that asks them in turn.
 //! - Of px_records: [`Records`], what a node asks of whoever keeps its record, [`MemoryRecords`] and [`FaultyRecords`].
 //! - `specs/Tables.antt` has the tables, `inner/Tables.antt` the statements, `Seen.antt` the record that rows show,
 //!   `Formats.antt` that of an older format.
@@ -60,6 +60,10 @@
 //! - **`read_top` reads the last position with a ballot, `read_learned_end` the last learned one**, from the end of the
 //!   table to the first row that serves; a top passes over slots that only promise. There is no index beside the keys.
 //! - Round, number and floor are kept beside the connection, and read without a statement.
+//! - **Learned entries that are asked in turn, from position 0 on, come of one statement for 64 positions**, as a node
+//!   asks them when it starts. The rows are used if their keys rise, so that a position has one at most; else, or where
+//!   memory runs out, each position is asked alone. A bad row is refused when its position is asked, and a commit drops
+//!   what was read ahead.
 #![tactic(auto)]
 
 mod adopt;
