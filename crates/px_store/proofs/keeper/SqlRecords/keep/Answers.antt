@@ -4,6 +4,7 @@ use Rattle.px_store.specs.declared.calls.Trouble.{Trouble}
 use Rattle.px_store.specs.declared.calls.Trouble.TheVariants.{Memory, Failed}
 use Rattle.px_store.specs.inner.NewRows.{Wrote}
 use Rattle.px_store.proofs.NewRows.{changed, still_ready, still_owned}
+use Rattle.px_store.proofs.Questions.{read_ready}
 use Rattle.px_store.proofs.Good.{rows_stay}
 use Rattle.px_store.proofs.keeper.SqlRecords.keep.Goals as goal
 
@@ -46,3 +47,12 @@ returns-in-Ok-clause-rows g c = λ honest none good fit.
 
 pub returns-in-Err-Memory-clause-rows : goal.returns-in-Err-Memory-clause-rows
 returns-in-Err-Memory-clause-rows g c = λ honest none good fit. ((returns-in-Err-Memory-clause-changed g c honest good).memory refl).rows
+
+pub invariant_of-self-in-Err-Memory-clause-ahead_is : goal.invariant_of-self-in-Err-Memory-clause-ahead_is
+invariant_of-self-in-Err-Memory-clause-ahead_is g c = λ none clean. c.none.ensures _
+
+pub invariant_of-self-in-Err-Memory-clause-ready : goal.invariant_of-self-in-Err-Memory-clause-ready
+invariant_of-self-in-Err-Memory-clause-ready g c = λ none clean.
+    let r = c.args.self.now.ready none (c.in-Err-Memory.ensures.clean clean) in
+    let w = c.in-Err-Memory.ensures.wrote clean (record { schema = r.0; auto = r.1.0 }) r.1.1.0 in
+    read_ready c.args.self.now.identity c.args.self.now.meta (state g.S.Store c.args.self.now.conn) (state g.S.Store c.put.new.conn) r.0 r.1.1.1 (w.memory (let e = c.in-Err-Memory.field-0-is in cc))
