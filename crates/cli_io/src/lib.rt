@@ -7,7 +7,7 @@
 //! - [`open_regular`], [`make_private`]: a file that isn't waited for, and one that its owner alone may read;
 //!   [`knock`]: why nobody answers at a socket.
 //! - [`Shown`]: a foreign string for people.
-//! - [`flag`], [`valued`], [`with_option`]: the options of a subcommand.
+//! - [`flag`], [`valued`], [`with_option`]: the options of a subcommand; [`values_in`]: the values of one.
 //! - [`write_bytes`]: all of an output, or a front of it; [`misused`], [`out_of_memory`]: what is written of arguments
 //!   that aren't understood, and of out of memory.
 //! - [`REFUSALS`]: the table, which has each refusal that the program answers once, by its number. [`explanation`],
@@ -39,7 +39,7 @@ pub use files::{knock, make_private, open_regular};
 pub use input::{InputFault, read_all};
 pub use lookup::{explain_all, explanation, named};
 pub use numbers::{NO_PACKET, NO_SCRIPT, POSITIONS_SPENT, ROUNDS_SPENT, UNREADABLE, WAITING_FULL};
-pub use options::{flag, valued, with_option};
+pub use options::{flag, valued, values_in, with_option};
 pub use paragraph::Explanation;
 pub use remark::Remark;
 pub use shown::Shown;

@@ -1,11 +1,11 @@
 //! The options of subcommands, as `clap` reads them.
 
-ghost use Rattle.std.specs.Prelude.{◌≡◌, IfOk, false};
-ghost use Rattle.clap.specs.Words.{app_of, rule_of, with_rule};
+ghost use Rattle.std.specs.Prelude.{◌≡◌, [], IfOk, false, map, option_map, unwrap_or};
+ghost use Rattle.clap.specs.Words.{app_of, rule_of, with_rule, found_of, rows_of, all_of};
 ghost use Rattle.clap.specs.declared.builder.command.Command.TheViews.{out-Command};
 ghost use Rattle.cli_io.specs.Options.{flag_rule, value_rule};
 
-use clap::{Arg, ArgAction, Command};
+use clap::{Arg, ArgAction, ArgMatches, Command};
 use std::alloc::{AllocError, Global};
 
 /// `--NAME`, with what help says of it.
@@ -38,4 +38,22 @@ pub fn with_option<'a>(command: Command<'a>, arg: Arg<'a>) -> Result<Command<'a>
     ensures local { IfOk result (λ c. (out-Command c).has_globals ≡ false) }
 {
     command.arg(arg)
+}
+
+/// The values, none where there are none.
+fn or_none<'m, 'a>(values: Option<&'m [&'a str]>) -> &'m [&'a str]
+    ensures { map (λ w. w.now) result.now
+        ≡ unwrap_or (option_map (λ s. map (λ w. w.now) s.now) values.entry) [] }
+{
+    match values {
+        Some(values) => values,
+        None => &[],
+    }
+}
+
+/// The values of an argument that may be given several times, none where it isn't given.
+pub fn values_in<'m, 'a>(matches: &'m ArgMatches<'a>, id: &str) -> &'m [&'a str]
+    ensures { map (λ w. w.now) result.now ≡ unwrap_or (all_of id.now (rows_of (found_of matches.now))) [] }
+{
+    or_none(matches.get_strs(id))
 }

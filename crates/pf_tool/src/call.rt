@@ -1,14 +1,14 @@
 //! What the words ask for.
 
-ghost use Rattle.std.specs.Prelude.{◌≡◌, [], Some, map, option_map, unwrap_or};
+ghost use Rattle.std.specs.Prelude.{◌≡◌, Some, map, option_map};
 ghost use Rattle.std.specs.Option.{option_copied};
-ghost use Rattle.clap.specs.Words.{found_of, rows_of, first_of, all_of, subcommand_rows_of};
-ghost use Rattle.pf_tool.specs.Words.{place_for, is_given, words_of, check_call, test_call, words_call, explain_as};
+ghost use Rattle.clap.specs.Words.{found_of, rows_of, first_of, subcommand_rows_of};
+ghost use Rattle.pf_tool.specs.Words.{place_for, is_given, check_call, test_call, words_call, explain_as};
 ghost use Rattle.pf_tool.specs.Words.{called_by, called};
 ghost use Rattle.pf_tool.specs.inner.Calls.{asked};
 
 use clap::ArgMatches;
-use cli_io::{Explanation, named};
+use cli_io::{Explanation, named, values_in};
 use pf_grammar::Place;
 
 /// What the words ask for.
@@ -65,29 +65,11 @@ fn place_for(anchor: Option<&str>) -> Place
     }
 }
 
-/// The words, none where there are none.
-fn or_none<'m, 'a>(words: Option<&'m [&'a str]>) -> &'m [&'a str]
-    ensures { map (λ w. w.now) result.now
-        ≡ unwrap_or (option_map (λ s. map (λ w. w.now) s.now) words.entry) [] }
-{
-    match words {
-        Some(words) => words,
-        None => &[],
-    }
-}
-
 /// The value of an option.
 fn value_in<'a>(matches: &ArgMatches<'a>, id: &str) -> Option<&'a str>
     ensures { option_copied result ≡ first_of id.now (rows_of (found_of matches.now)) }
 {
     matches.get_str(id)
-}
-
-/// The values of any number of words.
-fn words_in<'m, 'a>(matches: &'m ArgMatches<'a>, id: &str) -> &'m [&'a str]
-    ensures { map (λ w. w.now) result.now ≡ words_of id.now (rows_of (found_of matches.now)) }
-{
-    or_none(matches.get_strs(id))
 }
 
 /// What `check` asks for.
@@ -96,7 +78,7 @@ fn check_call<'m, 'a>(inner: &'m ArgMatches<'a>) -> Call<'m, 'a>
 {
     let place = place_for(value_in(inner, "anchor"));
     let quiet = is_given(value_in(inner, "quiet"));
-    let files = words_in(inner, "file");
+    let files = values_in(inner, "file");
     match files {
         [] => {
             if quiet {
@@ -143,7 +125,7 @@ fn test_call<'m, 'a>(inner: &'m ArgMatches<'a>) -> Option<Call<'m, 'a>>
     let file = value_in(inner, "file");
     let more = value_in(inner, "packets");
     let quiet = is_given(value_in(inner, "quiet"));
-    let packets = words_in(inner, "packet");
+    let packets = values_in(inner, "packet");
     let files = Call::TestFiles {
         file,
         more,
