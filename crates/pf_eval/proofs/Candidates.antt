@@ -10,15 +10,17 @@ use Rattle.pf_config.specs.Orders.{may_stop, is_other, candidate_at, candidates,
 use Rattle.pf_rules.specs.Items.{AnyRule, FilterRule, AnchorRule, Heading, Target, conditions_of}
 use Rattle.pf_rules.specs.declared.item.Item.{Item}
 use Rattle.pf_rules.specs.Seen.{rule_of}
+use Rattle.pf_eval.specs.declared.walk.Walk.{Walk}
+use Rattle.pf_eval.specs.declared.walk.Walk.TheVariants.{Stops, Others}
 use Rattle.pf_eval.specs.Packets.{PacketValue}
 use Rattle.pf_eval.specs.Matching.{Tables, matches}
 use Rattle.pf_eval.specs.Verdicts.{Spot, tables_in}
 use Rattle.pf_eval.specs.inner.Sieves.{key_of, passes}
 use Rattle.pf_eval.specs.inner.TwoWalks.{first_some, last_some, first_rule, last_rule, some_rule, candidate_spot, ending, is_quiet, shallow, called_stop, called_last, rule_stop, rule_last}
-use Rattle.pf_eval.specs.inner.TwoWalks.{first_walk, second_walk, stop_at, last_at, target_stop, target_last, IsAnchorOf}
+use Rattle.pf_eval.specs.inner.TwoWalks.{first_walk, second_walk, stop_at, last_at, target_stop, target_last, IsAnchorOf, walked, rule_at, candidates_of}
 use Rattle.pf_eval.proofs.Anchors.{own_rules, below_is, below_names, shallow_none, no_rules_below, no_kids_below}
 use Rattle.pf_eval.proofs.Sieves.{not_matched}
-use Rattle.pf_eval.proofs.Walks.{first_at, second_at, first_none, none_ending}
+use Rattle.pf_eval.proofs.Walks.{first_at, second_at, first_none, second_none, none_ending}
 
 -- ---- a rule by its index
 
@@ -153,6 +155,15 @@ others_are_last depth c k t found at some is =
     first_turned (candidate_spot (last_at (depth - 1) c k t.names) (rules_at c t.names) k) (candidates is_other 0 (rules_at c t.names)) ∙
     last_from is_other (last_at (depth - 1) c k t.names) k (rules_at c t.names) 0 (rules_at c t.names) (last_quiet (tables_in c t.names) (target_last (second_walk (depth - 1) c k) c t.names) k t.names) (rest_all (rules_at c t.names)) ∙
     sym (second_at depth c k t.names some)
+
+pub candidates_are : (w : Walk) (depth : ℕ) (c : Configuration) (k : PacketValue) (t : AnchorTree) (found : List Candidate) → IsAnchorOf c t → 0 < depth → found ≡ candidates_of w (rules_in (anchor_at t.names t.anchors)) →
+    first_some (candidate_spot (rule_at w (depth - 1) c k t.names) (rules_at c t.names) k) found ≡ walked w depth c k t.names
+candidates_are Stops = stops_are_first
+candidates_are Others = others_are_last
+
+pub walked_none : (w : Walk) (c : Configuration) (k : PacketValue) (p : Path) → walked w 0 c k p ≡ None
+walked_none Stops = first_none
+walked_none Others = second_none
 
 -- ---- anchor rules that yield nothing
 

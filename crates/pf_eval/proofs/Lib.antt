@@ -27,7 +27,7 @@
 --   walk one look-up. `IsAnchorOf c t` says that it is the configuration's; `Anchors` keeps it on each step.
 -- - A loop from the back: invariant `last_rule f left (map rule_of (drop left items)) ≡ None`; its turns close with no
 --   answer, and the return of a find wants one (`rule_back`, `kid_back`). Of a `&[Rc<Anchor>]` the element is rewritten by
---   `c.deref.ensures`. Two cycles (`stops`, `others`) are two proofs, by `9 * depth + rank` and `8 * depth + rank`.
+--   `c.deref.ensures`. Both walks are one cycle, with the walk as an argument, by `11 * depth + rank`.
 -- - The walks go over candidates (`Anchor::stops`, `Anchor::others`, the second from the last rule on), each an index and
 --   a sieve. `Candidates` says that this gives the same as the walk over all rules: those left out, and those that a sieve refuses,
 --   yield nothing (`IsQuiet`). A sieve has one lemma a field (`Sieves`).

@@ -9,10 +9,9 @@ ghost use Rattle.pf_eval.specs.inner.TwoWalks.{spot_in};
 use crate::answer::{Spot, Verdict};
 use crate::flat::deciding_flat;
 use crate::hit::Hit;
-use crate::others::last_other;
 use crate::packet::Packet;
 use crate::skipping;
-use crate::stops::first_stop;
+use crate::walk::{Walk, found};
 use pf_config::Config;
 use pf_rules::{Action, InterfaceName, Ruleset};
 
@@ -43,9 +42,9 @@ fn deciding<'c>(config: &'c Config, packet: &Packet) -> Option<Hit<'c>>
     ensures { spot_in result ≡ last_spot (hits 9 config.now packet.now []) }
 {
     let main = config.anchor(&[])?;
-    match first_stop(config, main, packet, NESTED) {
+    match found(Walk::Stops, config, main, packet, NESTED) {
         Some(hit) => Some(hit),
-        None => last_other(config, main, packet, NESTED),
+        None => found(Walk::Others, config, main, packet, NESTED),
     }
 }
 

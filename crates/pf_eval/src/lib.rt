@@ -22,14 +22,13 @@ mod hit;
 mod key;
 mod laws;
 mod matching;
-mod others;
 mod packet;
 mod reading;
 mod scope;
 mod show;
 mod sieving;
 mod skipping;
-mod stops;
+mod walk;
 mod word;
 
 pub use answer::{Spot, Verdict};

@@ -6,8 +6,11 @@ use Rattle.pf_rules.specs.Names.{begins_below}
 use Rattle.pf_rules.specs.Items.{AnyRule, FilterRule, AnchorRule, Target}
 use Rattle.pf_config.specs.Map.{Configuration, Path, rules_at, kids, followed_by, or_else}
 use Rattle.pf_config.specs.Trees.{AnchorTree, anchor_in, last_name}
+use Rattle.pf_config.specs.Orders.{stops_of, others_of}
 use Rattle.pf_config.specs.declared.candidate.Candidate.{Candidate}
 use Rattle.pf_eval.specs.declared.hit.Hit as code
+use Rattle.pf_eval.specs.declared.walk.Walk.{Walk}
+use Rattle.pf_eval.specs.declared.walk.Walk.TheVariants.{Stops, Others}
 use Rattle.pf_eval.specs.Packets.{PacketValue}
 use Rattle.pf_eval.specs.Matching.{Tables, matches}
 use Rattle.pf_eval.specs.inner.Sieves.{key_of, passes}
@@ -137,6 +140,25 @@ stop_at depth c k p i rule = rule_stop (tables_in c p) (target_stop (first_walk 
 -- the last hit of a rule at a path, none if it is quick
 abbrev pub last_at : (depth : ℕ) → Configuration → PacketValue → Path → ℕ → AnyRule → Option Spot
 last_at depth c k p i rule = rule_last (tables_in c p) (target_last (second_walk depth c k) c p) k p i rule
+
+-- ---- either walk
+
+abbrev pub walked : Walk → (depth : ℕ) → Configuration → PacketValue → Path → Option Spot
+walked Stops = first_walk
+walked Others = second_walk
+
+abbrev pub rule_at : Walk → (depth : ℕ) → Configuration → PacketValue → Path → ℕ → AnyRule → Option Spot
+rule_at Stops = stop_at
+rule_at Others = last_at
+
+abbrev pub called : Walk → (Path → Option Spot) → Configuration → (q : Path) → (children : Bool) → Option Spot
+called Stops = called_stop
+called Others = called_last
+
+-- what it goes over, of these rules
+abbrev pub candidates_of : Walk → List AnyRule → List Candidate
+candidates_of Stops = stops_of
+candidates_of Others = others_of
 
 -- ---- rules that stand alone, with nothing in any anchor
 
