@@ -1,13 +1,16 @@
 -- What a verdict of the code stands for, and how it is shown.
-use Rattle.std.specs.Prelude.{ℕ, List, [], ◌∷◌, ◌++◌, Some, None, codes, decimal}
+use Rattle.std.specs.Prelude.{ℕ, List, [], ◌∷◌, ◌++◌, Option, Some, None, option_map, codes, decimal}
 use Rattle.std.specs.List.{flat_map}
 use Rattle.pf_rules.specs.declared.rule.Action.{Action}
 use Rattle.pf_rules.specs.declared.rule.Action.TheVariants as act
 use Rattle.pf_rules.specs.Names.{Name}
+use Rattle.pf_config.specs.Map.{Configuration}
 use Rattle.pf_eval.specs.declared.answer.Spot as code
 use Rattle.pf_eval.specs.declared.answer.Verdict.{Verdict}
 use Rattle.pf_eval.specs.declared.answer.Verdict.TheVariants as verdict
-use Rattle.pf_eval.specs.Verdicts.{Judgement, Skipped, Decided, Spot}
+use Rattle.pf_eval.specs.Packets.{PacketValue}
+use Rattle.pf_eval.specs.PacketTexts.{packet_of}
+use Rattle.pf_eval.specs.Verdicts.{Judgement, Skipped, Decided, Spot, judgement}
 
 -- where a rule of this action stands, as the code names it: the path of its anchor and its place there
 abbrev pub spot_of : Action → code.Spot → Spot
@@ -42,3 +45,7 @@ abbrev pub verdict_text : Judgement → List ℕ
 verdict_text Skipped = codes "pass skip"
 verdict_text (Decided None) = codes "pass default"
 verdict_text (Decided (Some s)) = action_text s.action ++ shown_spot s
+
+-- the verdict for a packet's text as it is shown, none where it is no packet
+unfoldable pub verdict_for : Configuration → List ℕ → Option (List ℕ)
+verdict_for c packet = option_map (λ (k : PacketValue). verdict_text (judgement c k)) (packet_of packet)

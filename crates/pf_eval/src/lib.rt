@@ -4,7 +4,7 @@
 //!
 //! - `Packet` and `parse_packet`: a packet as a record, and its text; `packets_as_spelled`: which strings spell one.
 //! - `verdict`: the verdict of a configuration; `verdict_flat`: that of one ruleset alone.
-//! - `show_verdict`: a verdict as text.
+//! - `show_verdict`: a verdict as text; `verdict_for`: that for a packet's text.
 //!
 //! # Why
 //!
@@ -37,5 +37,5 @@ pub use fault::PacketFault;
 pub use laws::packets_as_spelled;
 pub use packet::Packet;
 pub use reading::parse_packet;
-pub use show::show_verdict;
+pub use show::{show_verdict, verdict_for};
 pub use word::words as words_between_blanks;

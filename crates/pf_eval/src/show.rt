@@ -1,9 +1,13 @@
 //! Verdicts as text.
 
-ghost use Rattle.std.specs.Prelude.{◌≡◌, IfOk, Some, string_bytes};
-ghost use Rattle.pf_eval.specs.Seen.{judgement_of, path_text, shown_spot, spot_of, verdict_text};
+ghost use Rattle.std.specs.Prelude.{◌≡◌, IfOk, Some, option_map, string_bytes};
+ghost use Rattle.pf_eval.specs.Seen.{judgement_of, path_text, shown_spot, spot_of, verdict_text, verdict_for};
 
 use crate::answer::{Spot, Verdict};
+use crate::decide::verdict;
+use crate::fault::PacketFault;
+use crate::reading::parse_packet;
+use pf_config::Config;
 use pf_rules::Name;
 use std::alloc::{AllocError, Global};
 use std::fmt;
@@ -89,4 +93,24 @@ pub fn show_verdict(alloc: Global, verdict: &Verdict<'_>) -> Result<String, Allo
     ensures { IfOk result (λ text. string_bytes text ≡ verdict_text (judgement_of verdict.now)) }
 {
     format!(in alloc; "{verdict}")
+}
+
+/// The verdict of a configuration for a packet's text, as text; none where it is no packet.
+#[tactic(auto, unfolding(crate::specs::Seen::verdict_for))]
+pub fn verdict_for(
+    alloc: Global,
+    config: &Config,
+    packet: &str,
+) -> Result<Option<String>, AllocError>
+    ensures { IfOk result (λ found. option_map string_bytes found ≡ verdict_for config.now packet.now) }
+{
+    match parse_packet(alloc, packet) {
+        Ok(packet) => {
+            let found = verdict(config, &packet);
+            let shown = show_verdict(alloc, &found)?;
+            Ok(Some(shown))
+        }
+        Err(PacketFault::Memory) => Err(AllocError),
+        Err(PacketFault::BadPacket) => Ok(None),
+    }
 }
