@@ -1,8 +1,8 @@
 //! A run of `check --nft`.
 
-ghost use Rattle.std.specs.Prelude.{◌≡◌, [], IfOk, IfSome, map, option_map, unwrap_or, bytes_eq, codes};
+ghost use Rattle.std.specs.Prelude.{◌≡◌, IfOk, IfSome, map, option_map, bytes_eq, codes};
 ghost use Rattle.std.specs.List.{list_any};
-ghost use Rattle.clap.specs.Words.{found_of, rows_of, all_of, one_of, subcommand_rows_of};
+ghost use Rattle.clap.specs.Words.{found_of, rows_of, one_of, subcommand_rows_of};
 ghost use Rattle.cli_nft.specs.Words.{named_in, position_text, IsPosition};
 ghost use Rattle.cli_nft.specs.Running.{asks_nft, Wrote, Ran};
 
@@ -10,7 +10,7 @@ use crate::members::members_in;
 use crate::outputs::nft_output;
 use crate::words::command;
 use clap::ArgMatches;
-use cli_io::{InputFault, Status, misused, out_of_memory, read_all, write_bytes};
+use cli_io::{InputFault, Status, misused, out_of_memory, read_all, values_in, write_bytes};
 use nft_rules::Member;
 use std::alloc::{AllocError, Global};
 use std::convert::AsStr;
@@ -59,25 +59,6 @@ fn words_of<'a>(matches: &ArgMatches<'a>) -> Option<(&'a str, u32)>
     }
 }
 
-/// The words, none where there are none.
-fn or_none<'m, 'a>(words: Option<&'m [&'a str]>) -> &'m [&'a str]
-    ensures { map (λ w. w.now) result.now
-        ≡ unwrap_or (option_map (λ s. map (λ w. w.now) s.now) words.entry) [] }
-{
-    match words {
-        Some(words) => words,
-        None => &[],
-    }
-}
-
-/// The strings behind `--members`.
-fn member_texts<'m, 'a>(inner: &'m ArgMatches<'a>) -> &'m [&'a str]
-    ensures { map (λ w. w.now) result.now
-        ≡ unwrap_or (all_of (codes "members") (rows_of (found_of inner.now))) [] }
-{
-    or_none(inner.get_strs("members"))
-}
-
 /// The members that the words name, none where they are no members of a cluster.
 fn members_of(alloc: Global, matches: &ArgMatches<'_>) -> Result<Option<Vec<Member>>, AllocError>
     ensures { IfOk result (λ o. option_map (λ v. v.items) o ≡ named_in (subcommand_rows_of matches.now)) }
@@ -85,7 +66,7 @@ fn members_of(alloc: Global, matches: &ArgMatches<'_>) -> Result<Option<Vec<Memb
     match matches.subcommand() {
         Some((word, inner)) => {
             if word == "check" {
-                return members_in(alloc, member_texts(inner));
+                return members_in(alloc, values_in(inner, "members"));
             }
             Ok(None)
         }

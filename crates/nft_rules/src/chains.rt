@@ -2,8 +2,8 @@
 
 ghost use Rattle.std.specs.Prelude.{◌≡◌, ◌≤◌, ◌+◌, ◌++◌, IfOk, OnOk, length, map};
 ghost use Rattle.nft_rules.specs.Rendering.{alternatives, outcome_of, filter_rules, anchor_chains, forward_rule};
-ghost use Rattle.nft_rules.specs.Rendering.{backward_rule, forward_rules, backward_rules, forward_chain};
-ghost use Rattle.nft_rules.specs.Rendering.{backward_chain};
+ghost use Rattle.nft_rules.specs.Rendering.{backward_rule};
+ghost use Rattle.nft_rules.specs.inner.Rendering.{rule_in, rules_in, chain_in};
 ghost use Rattle.pf_config.specs.declared.config.TheConstants.{RULES_MAX};
 ghost use Rattle.pf_rules.specs.Items.{AnchorRule};
 ghost use Rattle.pf_rules.specs.Seen.{heading_of, rule_of};
@@ -137,113 +137,79 @@ fn push_backward_anchor<'c>(
     push_jumps(place.alloc, rules, &asked, &chains)
 }
 
-/// Puts what may end the evaluation at a rule behind the rules that are there.
-#[tactic(auto, using(crate::proofs::Targeted::forward_filter, crate::proofs::Targeted::forward_anchor))]
-fn push_forward_rule<'c>(
+/// Puts what a rule gives in this pass behind the rules that are there: what may end the evaluation, or the rest.
+#[tactic(auto, using(crate::proofs::Targeted::forward_filter, crate::proofs::Targeted::forward_anchor, crate::proofs::Targeted::backward_filter, crate::proofs::Targeted::backward_anchor))]
+fn push_rule<'c>(
     place: Place<'c>,
+    pass: Pass,
     index: u32,
     item: &'c Item,
     rules: &mut Vec<NftRule<'c>>,
 ) -> Result<(), AllocError>
     ensures { OnOk result (map nft_rule_of rules.new.items ≡ map nft_rule_of rules.old.items
-        ++ forward_rule place.entry.config.now (machine_of place.entry.machine.now) place.entry.direction
+        ++ rule_in pass place.entry.config.now (machine_of place.entry.machine.now) place.entry.direction
         place.entry.path.now index (rule_of item.now)) }
 {
-    match item {
-        Item::Filter(rule) => {
+    match (pass, item) {
+        (Pass::Forward, Item::Filter(rule)) => {
             if !rule.quick {
                 return Ok(());
             }
             push_filter(place, index, rule, rules)
         }
-        Item::Anchor(anchor) => push_forward_anchor(place, index, &anchor.heading, rules),
-    }
-}
-
-/// Puts what doesn't end the evaluation at a rule behind the rules that are there.
-#[tactic(auto, using(crate::proofs::Targeted::backward_filter, crate::proofs::Targeted::backward_anchor))]
-fn push_backward_rule<'c>(
-    place: Place<'c>,
-    index: u32,
-    item: &'c Item,
-    rules: &mut Vec<NftRule<'c>>,
-) -> Result<(), AllocError>
-    ensures { OnOk result (map nft_rule_of rules.new.items ≡ map nft_rule_of rules.old.items
-        ++ backward_rule place.entry.config.now (machine_of place.entry.machine.now) place.entry.direction
-        place.entry.path.now index (rule_of item.now)) }
-{
-    match item {
-        Item::Filter(rule) => {
+        (Pass::Backward, Item::Filter(rule)) => {
             if rule.quick {
                 return Ok(());
             }
             push_filter(place, index, rule, rules)
         }
-        Item::Anchor(anchor) => push_backward_anchor(place, index, &anchor.heading, rules),
+        (Pass::Forward, Item::Anchor(anchor)) => {
+            push_forward_anchor(place, index, &anchor.heading, rules)
+        }
+        (Pass::Backward, Item::Anchor(anchor)) => {
+            push_backward_anchor(place, index, &anchor.heading, rules)
+        }
     }
 }
 
-/// Puts what may end the evaluation at these rules, of which the first has this index, behind the rules that are there.
-pub(crate) fn push_forward_rules<'c>(
+/// Puts what these rules give in this pass, of which the first has this index, behind the rules that are there: the
+/// first rule's first forwards, the last one's first backwards.
+fn push_rules_in<'c>(
     place: Place<'c>,
+    pass: Pass,
     index: u32,
     items: &'c [Item],
     rules: &mut Vec<NftRule<'c>>,
 ) -> Result<(), AllocError>
     requires { index + length items.now ≤ RULES_MAX }
     ensures { OnOk result (map nft_rule_of rules.new.items ≡ map nft_rule_of rules.old.items
-        ++ forward_rules (forward_rule place.entry.config.now (machine_of place.entry.machine.now)
+        ++ rules_in pass (rule_in pass place.entry.config.now (machine_of place.entry.machine.now)
         place.entry.direction place.entry.path.now) index (map rule_of items.now)) }
 {
     let [item, rest @ ..] = items else {
         return Ok(());
     };
-    push_forward_rule(place, index, item, rules)?;
-    push_forward_rules(place, index + 1, rest, rules)
+    match pass {
+        Pass::Forward => {
+            push_rule(place, pass, index, item, rules)?;
+            push_rules_in(place, pass, index + 1, rest, rules)
+        }
+        Pass::Backward => {
+            push_rules_in(place, pass, index + 1, rest, rules)?;
+            push_rule(place, pass, index, item, rules)
+        }
+    }
 }
 
-/// Puts what doesn't end the evaluation at these rules, the last one's first, behind the rules that are there.
-pub(crate) fn push_backward_rules<'c>(
-    place: Place<'c>,
-    index: u32,
-    items: &'c [Item],
-    rules: &mut Vec<NftRule<'c>>,
-) -> Result<(), AllocError>
-    requires { index + length items.now ≤ RULES_MAX }
-    ensures { OnOk result (map nft_rule_of rules.new.items ≡ map nft_rule_of rules.old.items
-        ++ backward_rules (backward_rule place.entry.config.now (machine_of place.entry.machine.now)
-        place.entry.direction place.entry.path.now) index (map rule_of items.now)) }
-{
-    let [item, rest @ ..] = items else {
-        return Ok(());
-    };
-    push_backward_rules(place, index + 1, rest, rules)?;
-    push_backward_rule(place, index, item, rules)
-}
-
-/// The chain of a path that holds what may end the evaluation.
-pub(crate) fn forward_chain<'c>(place: Place<'c>) -> Result<Chain<'c>, AllocError>
-    ensures { IfOk result (λ v. chain_of v ≡ forward_chain place.entry.config.now (machine_of place.entry.machine.now)
+/// The chain of a path in this pass.
+pub(crate) fn chain_in<'c>(place: Place<'c>, pass: Pass) -> Result<Chain<'c>, AllocError>
+    ensures { IfOk result (λ v. chain_of v ≡ chain_in pass place.entry.config.now (machine_of place.entry.machine.now)
         place.entry.direction place.entry.path.now) }
 {
     let mut rules = Vec::new(place.alloc);
-    push_forward_rules(place, 0, place.config.items(place.path), &mut rules)?;
+    push_rules_in(place, pass, 0, place.config.items(place.path), &mut rules)?;
     let name = ChainName::At {
-        pass: Pass::Forward,
-        path: place.path,
-    };
-    Ok(Chain { name, rules })
-}
-
-/// The chain of a path that holds the rest.
-pub(crate) fn backward_chain<'c>(place: Place<'c>) -> Result<Chain<'c>, AllocError>
-    ensures { IfOk result (λ v. chain_of v ≡ backward_chain place.entry.config.now (machine_of place.entry.machine.now)
-        place.entry.direction place.entry.path.now) }
-{
-    let mut rules = Vec::new(place.alloc);
-    push_backward_rules(place, 0, place.config.items(place.path), &mut rules)?;
-    let name = ChainName::At {
-        pass: Pass::Backward,
+        pass,
         path: place.path,
     };
     Ok(Chain { name, rules })

@@ -6,6 +6,7 @@
 //! - [`MachineInterface`]: an interface of the machine for which it is written, with its groups.
 //! - [`render`]: the ruleset of a configuration, or why there is none.
 //! - [`Member`]: a member of the cluster, for the guard that is before the ruleset.
+//! - [`top`], [`address`]: the greatest address of a family, and the address of a number.
 //! - [`rendered_as_judged`], [`sets_hold_tables`], [`guard_passes_members`]: what the ruleset of a configuration
 //!   decides, what its sets hold, and what the guard lets through.
 //!
@@ -62,6 +63,7 @@ mod sets;
 mod subset;
 mod targets;
 
+pub use elements::{address, top};
 pub use guard::Member;
 pub use laws::{guard_passes_members, rendered_as_judged, sets_hold_tables};
 pub use machine::MachineInterface;

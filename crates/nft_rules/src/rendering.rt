@@ -4,7 +4,8 @@ ghost use Rattle.std.specs.Prelude.{◌≡◌, ◌++◌, IfOk, List, OnOk, map, 
 ghost use Rattle.std.specs.List.{list_any};
 ghost use Rattle.pf_rules.specs.Seen.{rule_of};
 ghost use Rattle.pf_config.specs.Map.{rules_at, paths_in};
-ghost use Rattle.nft_rules.specs.Rendering.{rendered, chains_of, sets_of, forward_chain, backward_chain};
+ghost use Rattle.nft_rules.specs.Rendering.{rendered, chains_of, sets_of};
+ghost use Rattle.nft_rules.specs.inner.Rendering.{chain_in};
 ghost use Rattle.nft_rules.specs.Deciding.{DecidesAs, DecidesBehindGuard, leads_back, some_leads_back};
 ghost use Rattle.nft_rules.specs.Guard.{Member};
 ghost use Rattle.nft_rules.specs.Refusing.{Renders, render, is_costly, fault_code};
@@ -13,10 +14,10 @@ ghost use Rattle.nft_rules.specs.Seen.{chain_of, named_set_of, ruleset_of, machi
 
 use crate::asking::left_after;
 use crate::base::base_chain;
-use crate::chains::{Place, backward_chain, forward_chain};
+use crate::chains::{Place, chain_in};
 use crate::machine::MachineInterface;
 use crate::sets::sets_of;
-use crate::subset::{Chain, ChainName, NftRuleset};
+use crate::subset::{Chain, ChainName, NftRuleset, Pass};
 use pf_config::Config;
 use pf_rules::{Direction, Item, Name};
 use std::alloc::{AllocError, AllocFailed, Global};
@@ -94,46 +95,26 @@ fn some_leads_back(config: &Config, paths: &[&[Name]]) -> bool
     false
 }
 
-/// Puts the chains of these paths that hold what may end the evaluation behind those that are there.
-fn push_forward_chains<'c>(
+/// Puts the chains of these paths in this pass behind those that are there.
+fn push_chains<'c>(
     place: Place<'c>,
+    pass: Pass,
     paths: &[&'c [Name]],
     chains: &mut Vec<Chain<'c>>,
 ) -> Result<(), AllocError>
     ensures { OnOk result (map chain_of chains.new.items ≡ map chain_of chains.old.items
-        ++ map (forward_chain place.entry.config.now (machine_of place.entry.machine.now) place.entry.direction)
+        ++ map (chain_in pass place.entry.config.now (machine_of place.entry.machine.now) place.entry.direction)
         (map (λ p. p.now) paths.now)) }
 {
     for path in paths {
-        chains.push(forward_chain(Place {
+        let here = Place {
             alloc: place.alloc,
             config: place.config,
             machine: place.machine,
             direction: place.direction,
             path,
-        })?)?;
-    }
-    Ok(())
-}
-
-/// Puts the chains of these paths that hold the rest behind those that are there.
-fn push_backward_chains<'c>(
-    place: Place<'c>,
-    paths: &[&'c [Name]],
-    chains: &mut Vec<Chain<'c>>,
-) -> Result<(), AllocError>
-    ensures { OnOk result (map chain_of chains.new.items ≡ map chain_of chains.old.items
-        ++ map (backward_chain place.entry.config.now (machine_of place.entry.machine.now) place.entry.direction)
-        (map (λ p. p.now) paths.now)) }
-{
-    for path in paths {
-        chains.push(backward_chain(Place {
-            alloc: place.alloc,
-            config: place.config,
-            machine: place.machine,
-            direction: place.direction,
-            path,
-        })?)?;
+        };
+        chains.push(chain_in(here, pass)?)?;
     }
     Ok(())
 }
@@ -148,8 +129,8 @@ fn rendered<'c>(place: Place<'c>, paths: &[&'c [Name]]) -> Result<NftRuleset<'c>
     let sets = sets_of(place.alloc, place.config, paths)?;
     let mut chains = Vec::new(place.alloc);
     chains.push(base_chain(place.alloc, place.config, place.machine)?)?;
-    push_forward_chains(place, paths, &mut chains)?;
-    push_backward_chains(place, paths, &mut chains)?;
+    push_chains(place, Pass::Forward, paths, &mut chains)?;
+    push_chains(place, Pass::Backward, paths, &mut chains)?;
     Ok(NftRuleset { sets, chains })
 }
 

@@ -1,32 +1,11 @@
 //! Addresses from their numbers.
 
-ghost use Rattle.std.specs.Prelude.{◌≡◌, ◌≤◌, Some};
-ghost use Rattle.nft_rules.specs.Cuts.{address, top};
+ghost use Rattle.std.specs.Prelude.{Some};
 ghost use Rattle.nft_text.specs.Texts.{number_text, interval_text};
 
-use pf_addr::{Addr, Family};
+use nft_rules::{address, top};
+use pf_addr::Family;
 use std::fmt::{self, Display};
-
-/// The greatest address.
-fn top(family: Family) -> u128
-    ensures { result ≡ top family }
-{
-    match family {
-        Family::Inet => 4_294_967_295,
-        Family::Inet6 => u128::MAX,
-    }
-}
-
-/// The address of that number.
-fn address(family: Family, number: u128) -> Addr
-    requires { number ≤ top family }
-    ensures { result ≡ address family number }
-{
-    match family {
-        Family::Inet => Addr::V4(number as u32),
-        Family::Inet6 => Addr::V6(number),
-    }
-}
 
 /// The address of a number, if the family has one.
 #[derive(Clone, Copy)]
