@@ -1,12 +1,9 @@
 -- What is answered: HTTP's status and a body.
-use Rattle.std.specs.Prelude.{ℕ, Bool, List, [], ◌∷◌, ◌++◌, ◌==◌, ◌||◌, Option, Some, None, option_map, string_bytes}
+use Rattle.std.specs.Prelude.{ℕ, Bool, List, [], ◌∷◌, ◌++◌, ◌==◌, ◌||◌, Option, Some, None, string_bytes}
 use Rattle.std.specs.Prelude.{Result, Ok, Err, if◌then◌else◌}
 use Rattle.clap.specs.Words.{Text}
 use Rattle.pf_config.specs.Map.{Configuration}
-use Rattle.pf_eval.specs.Packets.{PacketValue}
-use Rattle.pf_eval.specs.PacketTexts.{packet_of}
-use Rattle.pf_eval.specs.Verdicts.{judgement}
-use Rattle.pf_eval.specs.Seen.{verdict_text}
+use Rattle.pf_eval.specs.Seen.{verdict_for}
 use Rattle.pf_scripts.specs.Lines.{line, refused_line}
 use Rattle.node_requests.specs.declared.answer.Answer.{Answer}
 
@@ -55,10 +52,6 @@ behind text later = record { code = later.code; body = text ++ later.body }
 abbrev pub put_verdict : Option (List ℕ) → AnswerValue → AnswerValue
 put_verdict None later = refused 30 0
 put_verdict (Some verdict) later = behind (line verdict) later
-
--- the verdict for a packet's text, none where it is no packet
-unfoldable pub verdict_for : Configuration → Text → Option (List ℕ)
-verdict_for c packet = option_map (λ (k : PacketValue). verdict_text (judgement c k)) (packet_of packet)
 
 -- a line for each packet's text in turn
 abbrev pub verdicts : Configuration → List Text → AnswerValue

@@ -1,31 +1,15 @@
 //! Verdicts for packets.
 
-ghost use Rattle.std.specs.Prelude.{◌≡◌, ◌++◌, IfOk, map, option_map, string_bytes};
-ghost use Rattle.node_requests.specs.Answers.{answer_value, verdicts, verdict_for};
+ghost use Rattle.std.specs.Prelude.{◌≡◌, IfOk, map};
+ghost use Rattle.node_requests.specs.Answers.{answer_value, verdicts};
 ghost use Rattle.node_requests.specs.Bounded.{verdicts_within};
 
 use crate::answer::Answer;
 use crate::bounded::fitting;
 use pf_config::Config;
-use pf_eval::{PacketFault, parse_packet, show_verdict, verdict};
+use pf_eval::verdict_for;
 use pf_scripts::{push_line, push_refusal};
 use std::alloc::{AllocError, Global};
-
-/// The verdict for a packet's text, none where it is no packet.
-#[tactic(auto, unfolding(crate::specs::Answers::verdict_for))]
-fn verdict_for(alloc: Global, config: &Config, packet: &str) -> Result<Option<String>, AllocError>
-    ensures { IfOk result (λ found. option_map string_bytes found ≡ verdict_for config.now packet.now) }
-{
-    match parse_packet(alloc, packet) {
-        Ok(packet) => {
-            let found = verdict(config, &packet);
-            let shown = show_verdict(alloc, &found)?;
-            Ok(Some(shown))
-        }
-        Err(PacketFault::Memory) => Err(AllocError),
-        Err(PacketFault::BadPacket) => Ok(None),
-    }
-}
 
 /// A verdict line for each packet's text in turn, up to the first that is no packet, which is 30.
 fn verdicts(alloc: Global, config: &Config, packets: &[&str]) -> Result<Answer, AllocError>

@@ -26,7 +26,7 @@ mod waiting;
 mod words_read;
 
 pub use acting::push_counts;
-pub use lines::{Line, cut_line, push_bytes, spaced, words_in};
+pub use lines::{Line, cut_line, push_bytes, spaced, texts, words_in};
 pub use listing::list;
 pub use pfctl::{file_in, is_standard, matches_in, takes_text};
 pub use printing::{push_line, push_number, push_refusal};

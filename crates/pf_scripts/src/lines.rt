@@ -81,7 +81,7 @@ fn text_of(word: &[u8]) -> Option<&str>
 }
 
 /// The words as text, none where one of them isn't UTF-8.
-fn texts<'a>(alloc: Global, found: &[&'a [u8]]) -> Result<Option<Vec<&'a str>>, AllocError>
+pub fn texts<'a>(alloc: Global, found: &[&'a [u8]]) -> Result<Option<Vec<&'a str>>, AllocError>
     ensures { IfOk result (λ words. option_map (λ v. map (λ w. w.now) v.items) words
         ≡ words_if (map (λ w. w.now) found.now)) }
 {

@@ -1,7 +1,8 @@
 -- A packet text that is no packet ends the lines.
 use Rattle.std.proofs.Common.{◌≡◌, ℕ, ◌+◌, ◌<◌, List, ◌∷◌, None, length, map, drop, get_or, drop-cons, add-one, refl, Bor}
 use Rattle.pf_config.specs.Map.{Configuration}
-use Rattle.pf_tool.specs.Tool.{behind, refused_packet, verdict_for, verdict_lines}
+use Rattle.pf_eval.specs.Seen.{verdict_for}
+use Rattle.pf_tool.specs.Tool.{behind, refused_packet, verdict_lines}
 
 pub line_refused : (c : Configuration) (packets : List (Bor (List ℕ))) (i : ℕ) (d : Bor (List ℕ)) (text : List ℕ) → i < length packets
     → verdict_for c (get_or packets i d).now ≡ None

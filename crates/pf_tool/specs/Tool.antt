@@ -1,7 +1,7 @@
 -- What the program writes.
 use Rattle.std.specs.Prelude.{◌≡◌, ◌⊎◌, ℕ, Bool, true, false, List, [], ◌∷◌, ◌++◌, Option, Some, None}
 use Rattle.std.specs.Prelude.{Result, Ok, Err}
-use Rattle.std.specs.Prelude.{IfSome, codes, decimal, length, map, option_map, if◌then◌else◌}
+use Rattle.std.specs.Prelude.{IfSome, codes, decimal, length, map, if◌then◌else◌}
 use Rattle.std.specs.List.{flat_map, list_any}
 use Rattle.std.specs.Io.KnownBytes.{Appends}
 use Rattle.clap.specs.Words.{Text}
@@ -13,14 +13,11 @@ use Rattle.pf_expansion.specs.Causes.{cause_code}
 use Rattle.pf_rules.specs.Rulesets.{RulesetValue}
 use Rattle.pf_grammar.specs.Reading.{reading}
 use Rattle.pf_show.specs.Shown.{shown}
-use Rattle.pf_eval.specs.Packets.{PacketValue}
-use Rattle.pf_eval.specs.PacketTexts.{packet_of}
 use Rattle.pf_config.specs.declared.fault.ConfigFault.{ConfigFault}
 use Rattle.pf_config.specs.Map.{Configuration}
 use Rattle.pf_config.specs.Changes.{load_ruleset}
 use Rattle.pf_config.specs.Codes.{fault_code}
-use Rattle.pf_eval.specs.Verdicts.{judgement}
-use Rattle.pf_eval.specs.Seen.{verdict_text}
+use Rattle.pf_eval.specs.Seen.{verdict_for}
 use Rattle.pf_scripts.specs.Lines.{lines, words_if}
 use Rattle.pf_scripts.specs.Ctl.{printed}
 use Rattle.pf_lab.specs.Scripts as lab
@@ -47,10 +44,6 @@ behind text written = record { text = text ++ written.text; ending = written.end
 -- a line that is no packet
 abbrev pub refused_packet : Written
 refused_packet = record { text = line (codes "refused 30"); ending = Refused }
-
--- the verdict for a packet text, none where it is no packet
-unfoldable pub verdict_for : Configuration → Text → Option (List ℕ)
-verdict_for c packet = option_map (λ (k : PacketValue). verdict_text (judgement c k)) (packet_of packet)
 
 -- the verdict line before what follows; a line that is no packet ends it
 abbrev pub put_verdict : Option (List ℕ) → Written → Written

@@ -1,11 +1,10 @@
 //! The packets of a file, one a line.
 
-ghost use Rattle.std.specs.Prelude.{◌≡◌, IfOk, Some, None, map, option_map, if◌then◌else◌};
-ghost use Rattle.std.specs.Str.{is_utf8};
-ghost use Rattle.pf_scripts.specs.Lines.{lines, words_if};
+ghost use Rattle.std.specs.Prelude.{◌≡◌, IfOk, map, option_map};
+ghost use Rattle.pf_scripts.specs.Lines.{lines};
 ghost use Rattle.pf_tool.specs.Tool.{packet_texts};
 
-use pf_scripts::cut_line;
+use pf_scripts::{cut_line, texts};
 use std::alloc::{AllocError, Global};
 
 /// The lines of a file without their newlines.
@@ -19,32 +18,6 @@ fn contents<'a>(alloc: Global, bytes: &'a [u8]) -> Result<Vec<&'a [u8]>, AllocEr
         left = rest;
     }
     Ok(found)
-}
-
-/// A line as text, none where it isn't UTF-8.
-#[tactic(auto, using(crate::proofs::Utf8::utf8_text, crate::proofs::Utf8::no_text))]
-fn text_of(line: &[u8]) -> Option<&str>
-    ensures { option_map (λ s. s.now) result ≡ (if is_utf8 line.now then Some line.now else None) }
-{
-    match str::from_utf8(line) {
-        Ok(text) => Some(text),
-        Err(_) => None,
-    }
-}
-
-/// The lines as text, none where one of them isn't UTF-8.
-fn texts<'a>(alloc: Global, found: &[&'a [u8]]) -> Result<Option<Vec<&'a str>>, AllocError>
-    ensures { IfOk result (λ texts. option_map (λ v. map (λ t. t.now) v.items) texts
-        ≡ words_if (map (λ l. l.now) found.now)) }
-{
-    let mut texts = Vec::new(alloc);
-    for line in found {
-        match text_of(line) {
-            Some(text) => texts.push(text)?,
-            None => return Ok(None),
-        }
-    }
-    Ok(Some(texts))
 }
 
 /// The packets of a file, one a line; none where a line isn't UTF-8.

@@ -1,10 +1,9 @@
 //! The subcommand `test`: the verdicts of a ruleset's rules for packets.
 
-ghost use Rattle.std.specs.Prelude.{◌≡◌, ◌++◌, [], Some, IfOk, OnOk, map, option_map, string_bytes};
+ghost use Rattle.std.specs.Prelude.{◌≡◌, [], Some, IfOk, map, option_map, string_bytes};
 ghost use Rattle.std.specs.Option.{option_copied};
 ghost use Rattle.pf_rules.specs.Rulesets.{ruleset_of};
-ghost use Rattle.cli_io.specs.Written.{line};
-ghost use Rattle.pf_tool.specs.Tool.{refusal_line, verdict_for, verdict_lines, tested_over, nothing_loaded};
+ghost use Rattle.pf_tool.specs.Tool.{refusal_line, verdict_lines, tested_over, nothing_loaded};
 ghost use Rattle.pf_tool.specs.Tool.{refused_load, test_output, tested_lines, tested_texts};
 ghost use Rattle.pf_config.specs.Changes.{load_ruleset};
 ghost use Rattle.pf_tool.specs.inner.Output.{written};
@@ -12,9 +11,10 @@ ghost use Rattle.pf_tool.specs.inner.Output.{written};
 use crate::output::{Ending, Output, unread};
 use crate::packets::packet_texts;
 use pf_config::Config;
-use pf_eval::{PacketFault, parse_packet, show_verdict, verdict};
+use pf_eval::verdict_for;
 use pf_grammar::{ParseFault, Place, Profile, Refusal, parse};
 use pf_rules::{Path, Ruleset};
+use pf_scripts::push_line;
 use std::alloc::{AllocError, Global};
 
 /// The line of a refused text.
@@ -28,30 +28,6 @@ pub(crate) fn refusal_line(alloc: Global, refusal: Refusal) -> Result<String, Al
     text.push_str(refusal.line.to_string(alloc)?.as_str())?;
     text.push('\n')?;
     Ok(text)
-}
-
-/// Puts a line behind the text.
-fn push_line(text: &mut String, shown: &str) -> Result<(), AllocError>
-    ensures { OnOk result (string_bytes text.new ≡ string_bytes text.old ++ line shown.now) }
-{
-    text.push_str(shown)?;
-    text.push('\n')
-}
-
-/// The verdict for a packet text, none where it is no packet.
-#[tactic(auto, unfolding(crate::specs::Tool::verdict_for))]
-fn verdict_for(alloc: Global, config: &Config, packet: &str) -> Result<Option<String>, AllocError>
-    ensures { IfOk result (λ found. option_map string_bytes found ≡ verdict_for config.now packet.now) }
-{
-    match parse_packet(alloc, packet) {
-        Ok(packet) => {
-            let found = verdict(config, &packet);
-            let shown = show_verdict(alloc, &found)?;
-            Ok(Some(shown))
-        }
-        Err(PacketFault::Memory) => Err(AllocError),
-        Err(PacketFault::BadPacket) => Ok(None),
-    }
 }
 
 /// A verdict line for each packet text in turn, up to the first that is no packet.
