@@ -15,7 +15,7 @@ fn identity_of(word: &str) -> Option<Identity>
     ensures { IfSome result (λ i. i.members ≡ 3) }
 {
     let (cluster, node) = match word {
-        "take" => (7, 0),
+        "take" | "again" => (7, 0),
         "other" => (8, 0),
         "second" => (7, 1),
         _ => return None,
@@ -39,6 +39,22 @@ pub(crate) fn adopted<S: Alter + Drop>(
     SqlRecords::adopt(alloc, conn, identity)
 }
 
+/// The same, of a store that isn't new where it is taken `again`.
+fn found<S: Alter + Drop>(
+    alloc: Global,
+    conn: Connection<S>,
+    identity: Identity,
+    word: &str,
+) -> Result<SqlRecords<S>, (AdoptFault, Connection<S>)>
+    requires { identity.members ≡ 3 }
+    ensures { IfOk result (λ r. ⟦<SqlRecords<S> as Records>⟧.members r ≡ 3) }
+{
+    if word == "again" {
+        return SqlRecords::reopen(alloc, conn, identity);
+    }
+    adopted(alloc, conn, identity)
+}
+
 /// Reports why a store isn't taken.
 fn say_refused(out: &mut String, fault: AdoptFault) -> bool {
     match fault.code() {
@@ -52,12 +68,13 @@ fn take<S: Alter + Drop>(
     alloc: Global,
     conn: Connection<S>,
     identity: Identity,
+    word: &str,
     steps: &str,
     out: &mut String,
 ) -> (bool, Connection<S>)
     requires { identity.members ≡ 3 }
 {
-    match adopted(alloc, conn, identity) {
+    match found(alloc, conn, identity, word) {
         Ok(mut records) => {
             let is_written = follow(alloc, &mut records, steps, out);
             (is_written, records.release())
@@ -83,7 +100,7 @@ fn take_node<S: Alter + Drop>(
     match adopted(alloc, conn, identity) {
         Ok(records) => {
             let (is_written, records) = walked(alloc, records, steps, out);
-            let (is_shown, conn) = take(alloc, records.release(), identity, look, out);
+            let (is_shown, conn) = take(alloc, records.release(), identity, "take", look, out);
             (is_written && is_shown, conn)
         }
         Err((fault, conn)) => (say_refused(out, fault), conn),
@@ -134,7 +151,7 @@ fn do_task<S: Alter + Drop>(
         return take_node(alloc, conn, rest, out);
     }
     match identity_of(word) {
-        Some(identity) => take(alloc, conn, identity, rest, out),
+        Some(identity) => take(alloc, conn, identity, word, rest, out),
         None => {
             let is_written = handle(&mut conn, word, rest, out);
             (is_written, conn)
