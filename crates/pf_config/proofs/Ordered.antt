@@ -29,7 +29,7 @@ neither Less h k = cc
 neither Equal h k = refl
 neither Greater h k = cc
 
-same : (x y : Name) → is_before x y ≡ false → is_before y x ≡ false → x ≡ y
+pub same : (x y : Name) → is_before x y ≡ false → is_before y x ≡ false → x ≡ y
 same x y h k = exact_bytes x y (neither _ h (ap is_lt (sym (turned x y)) ∙ k))
 
 -- ---- tables behind a name
@@ -37,7 +37,7 @@ same x y h k = exact_bytes x y (neither _ h (ap is_lt (sym (turned x y)) ∙ k))
 abbrev pub above : Name → List (Name × TableValue) → Bool
 above n ts = list_all (λ (u : Name × TableValue). is_before n u.0) ts
 
-above_chain : (m n : Name) (ts : List (Name × TableValue)) → is_before m n ≡ true → above n ts ≡ true → above m ts ≡ true
+pub above_chain : (m n : Name) (ts : List (Name × TableValue)) → is_before m n ≡ true → above n ts ≡ true → above m ts ≡ true
 above_chain m n [] h k = refl
 above_chain m n (t ∷ ts) h k = let both = both_true (is_before n t.0) (above n ts) k in rw (name_chain m n t.0 h both.0) (above_chain m n ts h both.1)
 

@@ -4,7 +4,8 @@ ghost use Rattle.std.specs.Prelude.{◌≡◌, [], IfOk, fold, map};
 ghost use Rattle.std.specs.List.{list_any};
 ghost use Rattle.pf_config.specs.Changes.{placed, defined, defined_table, is_too_deep, loaded, without_unnamed};
 ghost use Rattle.pf_config.specs.Ordered.{AreOrdered};
-ghost use Rattle.pf_config.specs.inner.Texts.{definition_of};
+ghost use Rattle.pf_config.specs.inner.Texts.{definition_of, of_name};
+ghost use Rattle.pf_rules.specs.Names.{Name};
 ghost use Rattle.pf_config.specs.inner.Trees.{with_text};
 
 use crate::anchor::{Anchor, with_entry};
@@ -69,7 +70,48 @@ fn defined_table(
     }
 }
 
-/// The tables with each definition in its turn.
+/// The definitions, lent one by one.
+fn lent(alloc: Global, definitions: &[TableDef]) -> Result<Vec<&TableDef>, AllocError>
+    ensures { IfOk result (λ v. map (λ d. d.now) v.items ≡ definitions.now) }
+{
+    let mut list = Vec::with_capacity(alloc, definitions.len())?;
+    for definition in definitions {
+        list.push(definition)?;
+    }
+    Ok(list)
+}
+
+/// The definitions in the order of their names, those of one name as they stand.
+fn rising(alloc: Global, definitions: &[TableDef]) -> Result<Vec<&TableDef>, AllocError>
+    ensures { IfOk result (λ v. (n : Name) → of_name n (map (λ d. definition_of d.now) v.items) ≡
+        of_name n (map definition_of definitions.now)) }
+{
+    let mut list = lent(alloc, definitions)?;
+    list.sort_by(|a, b| a.name.as_bytes().cmp(b.name.as_bytes()))?;
+    Ok(list)
+}
+
+/// The tables once more with each definition in its turn.
+fn with_each(
+    alloc: Global,
+    tables: &[(TableName, Table)],
+    definitions: &[&TableDef],
+) -> Result<Vec<(TableName, Table)>, AllocError>
+    requires { AreOrdered tables.now }
+    ensures ordered { IfOk result (λ v. AreOrdered v.items) }
+    ensures all { IfOk result (λ v. v.items ≡
+        fold defined tables.now (map (λ d. definition_of d.now) definitions.now)) }
+{
+    let mut next = copied_tables(alloc, tables)?;
+    for definition in definitions {
+        let table = defined_table(alloc, definition, &next)?;
+        put_among(alloc, &mut next, &definition.name, table)?;
+    }
+    Ok(next)
+}
+
+/// The tables with each definition in its turn. They come in by name, since what stands behind a new table is moved.
+#[tactic(auto, using(crate::proofs::Definitions::in_any_order))]
 pub(crate) fn with_definitions(
     alloc: Global,
     tables: Tables,
@@ -80,11 +122,8 @@ pub(crate) fn with_definitions(
     if definitions.is_empty() {
         return Ok(tables);
     }
-    let mut next = copied_tables(alloc, tables.list())?;
-    for definition in definitions {
-        let table = defined_table(alloc, definition, &next)?;
-        put_among(alloc, &mut next, &definition.name, table)?;
-    }
+    let rising = rising(alloc, definitions)?;
+    let next = with_each(alloc, tables.list(), &rising)?;
     Tables::of(alloc, next)
 }
 

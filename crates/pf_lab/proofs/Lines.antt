@@ -38,6 +38,7 @@ use Rattle.pf_lab.specs.inner.Benches.{IsBench, Does}
 use Rattle.pf_lab.specs.Labs.{IsWorld, cluster_of}
 use Rattle.pf_lab.specs.declared.bench.Bench.{Bench}
 use Rattle.pf_lab.specs.declared.state.Lab.{Lab}
+use Rattle.px_replica.proofs.Sending.{are_length}
 use Rattle.px_replica.proofs.Telling.{sent_at}
 use Rattle.pf_scripts.specs.declared.waiting.Waiting.{Waiting}
 use Rattle.pf_scripts.specs.inner.Seen.{waiting_of}
@@ -164,13 +165,6 @@ party n from to (node.Message.Ask t c) h = or_left _ _ (lt-ltb to n h.1)
 party n from to (Asked t k) h = client_party n to h.1
 party n from to (AskRefused t c) h = client_party n to h.1
 
--- as many datagrams as messages
-pub as_many : (g : Group) (xs : List (Envelope Bytes)) (ds : List Datagram) → AreSpelled g xs ds → length xs ≡ length ds
-as_many g [] [] a = refl
-as_many g (x ∷ xs) (d ∷ ds) a = ap suc (as_many g xs ds a.1)
-as_many g [] (d ∷ ds) a = absurd a
-as_many g (x ∷ xs) [] a = absurd a
-
 -- ---- the lab of the code is the definition's
 
 pub in_world : (b : Bench) (v : LabValue) (l : Lab) (w : World Bytes) → IsBench b v →
@@ -275,7 +269,7 @@ pub pass_done : (b b' : Bench) (v : LabValue) (n : ℕ) (ds : Vec ℕ Global) �
     IsBench b' (with_world v (delivered_below v n)) → n ≡ length b.lab.sent.items → ds.items ≡ [] →
     IsBench (record b' { passed = n; delivered = ds }) (all_delivered v)
 pass_done b b' v n ds is now all none =
-    let sent : n ≡ length v.world.sent = all ∙ sym (as_many (cluster_of v.members) v.world.sent b.lab.sent.items is.world.is_spelled) in
+    let sent : n ≡ length v.world.sent = all ∙ are_length (cluster_of v.members) v.world.sent b.lab.sent.items is.world.is_spelled in
     record {
       world = subst (λ (k : ℕ). IsWorld b'.lab (cluster_of v.members) (delivered_below v k)) sent now.world;
       members = now.members;
@@ -355,7 +349,7 @@ pub all_are_shown : (v : LabValue) (b : Bench) (k : ℕ) (before out : List ℕ)
     out ≡ before ++ sent_lines v.world.sent v.shown k → out ≡ before ++ sent_lines v.world.sent v.shown (length v.world.sent)
 all_are_shown v b k before out is all so =
     so ∙ ap (λ (j : ℕ). before ++ sent_lines v.world.sent v.shown j)
-    (all ∙ sym (as_many (cluster_of v.members) v.world.sent b.lab.sent.items is.world.is_spelled))
+    (all ∙ are_length (cluster_of v.members) v.world.sent b.lab.sent.items is.world.is_spelled)
 
 -- and count as shown
 pub shows_all : (b : Bench) (v : LabValue) (n : ℕ) → IsBench b v → n ≡ length b.lab.sent.items → IsBench (record b { shown = n }) (all_shown v)
@@ -364,7 +358,7 @@ shows_all b v n is all = record {
   members = is.members;
   passed = is.passed;
   delivered = is.delivered;
-  shown = all ∙ sym (as_many (cluster_of v.members) v.world.sent b.lab.sent.items is.world.is_spelled);
+  shown = all ∙ are_length (cluster_of v.members) v.world.sent b.lab.sent.items is.world.is_spelled;
   some = is.some;
   few = is.few;
 }

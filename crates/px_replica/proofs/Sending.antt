@@ -87,7 +87,7 @@ to_all_length (suc n) me x =
     let all : length (to_all n me x ++ envelope me n x ∷ []) ≡ length (to_all n me x) + 1 = length-append (to_all n me x) (envelope me n x ∷ []) in
     omega (arith, rest, all)
 
-are_length : (g : Group) (xs : List (Envelope Bytes)) (ds : List Datagram) → AreSpelled g xs ds → length ds ≡ length xs
+pub are_length : (g : Group) (xs : List (Envelope Bytes)) (ds : List Datagram) → AreSpelled g xs ds → length ds ≡ length xs
 are_length g [] [] a = refl
 are_length g (x ∷ xs) (d ∷ ds) a = ap suc (are_length g xs ds a.1)
 are_length g [] (d ∷ ds) a = absurd a
