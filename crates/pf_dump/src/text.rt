@@ -83,12 +83,15 @@ fn push_names(out: &mut String, names: &[InterfaceName]) -> Result<(), AllocErro
 fn push_skip(out: &mut String, names: &[InterfaceName]) -> Result<(), AllocError>
     ensures { OnOk result (string_bytes out.new ≡ string_bytes out.old ++ skip_text names.now) }
 {
-    if names.is_empty() {
-        return Ok(());
+    match names {
+        [] => Ok(()),
+        [_, ..] => {
+            out.push_str("set skip on {")?;
+            push_names(out, names)?;
+            out.push_str(" }\n")?;
+            Ok(())
+        }
     }
-    out.push_str("set skip on {")?;
-    push_names(out, names)?;
-    out.push_str(" }\n")
 }
 
 /// Puts an entry behind the text, with a blank before it.
@@ -354,7 +357,8 @@ fn push_without(alloc: Global, out: &mut String, name: &Name, line: &str) -> Res
     match line.strip_prefix(front.as_str()) {
         Some(rest) => {
             out.push_str("anchor")?;
-            out.push_str(rest)
+            out.push_str(rest)?;
+            Ok(())
         }
         None => out.push_str(line),
     }
