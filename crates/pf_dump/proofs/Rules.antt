@@ -1,6 +1,7 @@
 -- The rules of a path as they are written.
 use Rattle.std.proofs.Common.{◌≡◌, ◌≢◌, ◌∙◌, sym, ap, subst, refl, ℕ, zero, suc, ◌<◌, ◌≤◌, ◌-◌, ◌+◌, Bool, true, false, List, [], ◌∷◌, ◌++◌, None, map, take, drop, length, slice_get, get_or, option_map, Some, append_assoc, arith, bytes_eq, codes, ⊎_elim, take-append-drop}
 use Rattle.std.specs.List.{flat_map}
+use Rattle.std.specs.Str.{trim_end}
 use Rattle.std.specs.Str.Pattern.{FindsTextPrefix, StripsPrefix}
 use Rattle.std.proofs.lemmas.Bool.{cases_Bool}
 use Rattle.std.proofs.lemmas.List.{append-nil, take-map}
@@ -16,7 +17,7 @@ use Rattle.pf_dump.specs.Texts.{Text, text_paths}
 use Rattle.pf_dump.specs.Seen.{text_of}
 use Rattle.pf_dump.specs.declared.path_texts.PathText.{PathText}
 use Rattle.pf_dump.specs.Written.{skip_text, skip_word, line_at, without_name, anchor_front, rules_below, rules_text, rule_text, text_at, texts_of}
-use Rattle.pf_dump.specs.Written.{Opens, opens, opens_at, counted, unnamed_below, names_in, heading_in, heading_at}
+use Rattle.pf_dump.specs.Written.{Opens, Unnamed, Named, opens, opens_at, counted, unnamed_below, names_in, heading_in, heading_at}
 
 -- the line of one rule
 pub line_one : (items : List Item) (at : ℕ) → at < length items → shown_items (map rule_of (take 1 (drop at items))) ≡ line_at (slice_get (map rule_of items) at)
@@ -94,14 +95,40 @@ paths_are c ts h = sym (paths_of ts) ∙ ap (map (λ (t : Text). t.path)) h ∙ 
 
 -- ---- one rule more
 
+four : (o a b d e t x y z : List ℕ) → t ≡ o ++ a → x ≡ t ++ b → y ≡ x ++ d → z ≡ y ++ e → z ≡ o ++ (a ++ b ++ d ++ e)
+four o a b d e t x y z f g h k = two o (a ++ b ++ d) e y z (three o a b d t x y f g h) k
+
+-- a block behind the line of an unnamed anchor, and of another
+pub unnamed_text : (v : Opens) (name : Name) (line trimmed block inner s t x y z : List ℕ) → v ≡ Unnamed name → trimmed ≡ trim_end line → inner ≡ block →
+    t ≡ s ++ without_name name trimmed → x ≡ t ++ codes " {\n" → y ≡ x ++ inner → z ≡ y ++ codes "}\n" → z ≡ s ++ rule_text v line block
+unnamed_text v name line trimmed block inner s t x y z opened cut same f g h k =
+    four s (without_name name trimmed) (codes " {\n") inner (codes "}\n") t x y z f g h k
+    ∙ ap (λ l. s ++ (without_name name l ++ codes " {\n" ++ inner ++ codes "}\n")) cut
+    ∙ ap (λ l. s ++ (without_name name (trim_end line) ++ codes " {\n" ++ l ++ codes "}\n")) same
+    ∙ ap (λ u. s ++ rule_text u line block) (sym opened)
+
+pub named_text : (v : Opens) (line trimmed block inner s t x y z : List ℕ) → v ≡ Named → trimmed ≡ trim_end line → inner ≡ block →
+    t ≡ s ++ trimmed → x ≡ t ++ codes " {\n" → y ≡ x ++ inner → z ≡ y ++ codes "}\n" → z ≡ s ++ rule_text v line block
+named_text v line trimmed block inner s t x y z opened cut same f g h k =
+    four s trimmed (codes " {\n") inner (codes "}\n") t x y z f g h k
+    ∙ ap (λ l. s ++ (l ++ codes " {\n" ++ inner ++ codes "}\n")) cut
+    ∙ ap (λ l. s ++ (trim_end line ++ codes " {\n" ++ l ++ codes "}\n")) same
+    ∙ ap (λ u. s ++ rule_text u line block) (sym opened)
+
 pub got_at : (items : List Item) (x : Item) (n : ℕ) → n < length items → x ≡ get_or items n x → slice_get items n ≡ Some x
 got_at [] x n h e = absurd (omega (arith, h))
 got_at (y ∷ ys) x zero h e = ap Some (sym e)
 got_at (y ∷ ys) x (suc n) h e = got_at ys x n (omega (arith, h)) e
 
-pub heading_here : (items : List Item) (x : Item) (n : ℕ) → slice_get items n ≡ Some x →
+heading_here : (items : List Item) (x : Item) (n : ℕ) → slice_get items n ≡ Some x →
     heading_at (slice_get (map rule_of items) n) ≡ heading_in (rule_of x)
 heading_here items x n is = ap heading_at (slice_get-map rule_of items n ∙ ap (option_map rule_of) is)
+
+-- the anchor rule that the rule at a place is
+pub heading_at_rule : (c : Configuration) (p : Path) (items : List Item) (x : Item) (n : ℕ) → map rule_of items ≡ rules_at c p → n < length items →
+    x ≡ get_or items n x → heading_at (slice_get (rules_at c p) n) ≡ heading_in (rule_of x)
+heading_at_rule c p items x n rules inside is =
+    ap (λ rs. heading_at (slice_get rs n)) (sym rules) ∙ heading_here items x n (got_at items x n inside is)
 
 -- what the rule at a place opens, after k unnamed blocks
 pub opens_here : (c : Configuration) (p : Path) (hidden : Bool) (items : List Item) (x : Item) (n k : ℕ) (w : Opens) →
