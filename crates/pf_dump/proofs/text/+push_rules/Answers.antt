@@ -1,10 +1,10 @@
-use Rattle.std.proofs.Common.{◌≡◌, ◌∙◌, ◌<◌, ◌++◌, ◌+◌, ◌-◌, ◌≤◌, Some, sym, ap, true, map, take, length, slice_get, string_bytes, arith, rules}
+use Rattle.std.proofs.Common.{◌≡◌, ◌∙◌, ◌<◌, ◌++◌, ◌-◌, Some, sym, ap, true, length, slice_get, string_bytes, arith, rules}
 use Rattle.std.proofs.lemmas.List.{append-nil, length-map}
 use Rattle.std.specs.Str.{trim_end}
 use Rattle.pf_rules.specs.Seen.{rule_of}
 use Rattle.pf_config.specs.Map.{rules_at}
 use Rattle.pf_dump.specs.inner.Seen.{opens_of}
-use Rattle.pf_dump.specs.Written.{Opens, Closed, Unnamed, Named, opens_at, rule_text, rules_below, rules_text, unnamed_below, counted, line_at, names_in, heading_in, heading_at}
+use Rattle.pf_dump.specs.Written.{Opens, opens_at, rule_text, rules_below, rules_text, counted, line_at, names_in, heading_at}
 use Rattle.pf_dump.proofs.Rules.{deeper, shallow, opens_here, heading_at_rule, got_at, more_text, more_unnamed, unnamed_text, named_text}
 use Rattle.pf_dump.proofs.text.+push_rules.Goals as goal
 use Rattle.pf_dump.proofs.text.+push_rules.Goals.{in-Closed+in_ok-push_str-in-Closed, in-Unnamed+in_ok-push_without-in-Unnamed+in_ok-push_str-in-Unnamed+in_ok-inner-in-Unnamed+in_ok-push_rules-in-Unnamed+in_ok-push_str-in-Unnamed-2, in-Named+in_ok-push_str-in-Named+in_ok-push_str-in-Named-2+in_ok-inner-in-Named+in_ok-push_rules-in-Named+in_ok-push_str-in-Named-3}

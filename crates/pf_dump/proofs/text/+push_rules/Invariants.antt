@@ -1,6 +1,4 @@
-use Rattle.std.proofs.Common.{◌≡◌, ◌≤◌, ◌++◌, ◌-◌, true, map, string_bytes}
-use Rattle.pf_rules.specs.Seen.{rule_of}
-use Rattle.pf_config.specs.Map.{rules_at}
+use Rattle.std.proofs.Common.{◌≡◌, ◌≤◌, ◌++◌, ◌-◌, true, string_bytes}
 use Rattle.pf_dump.specs.Written.{rules_below, rules_text, unnamed_below}
 use Rattle.pf_dump.proofs.text.+push_rules.Given as goal
 
