@@ -106,6 +106,7 @@ shown_value s = record { bytes = s.bytes.items; refused = s.refused }
 abbrev pub none_shown : ShownValue
 none_shown = refused 91 0
 
--- what is shown is that, or that there is none
-abbrev pub OrNone : Shown → (List ℕ → Type 0) → Type 0
-OrNone s gives = (s.refused ≡ false → gives s.bytes.items) × (s.refused ≡ true → shown_value s ≡ none_shown)
+-- what is shown is that, or that there is none, where there is none
+abbrev pub OrNone : Shown → (gives : List ℕ → Type 0) → (is_there : Type 0) → Type 0
+OrNone s gives is_there = (s.refused ≡ false → gives s.bytes.items)
+    × (s.refused ≡ true → (shown_value s ≡ none_shown) × (is_there → ⊥))

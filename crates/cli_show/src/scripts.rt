@@ -2,6 +2,8 @@
 
 ghost use Rattle.std.specs.Prelude.{◌≡◌, true, false, IfOk, IfSome};
 ghost use Rattle.pf_dump.specs.Scripts.{Gives};
+ghost use Rattle.pf_dump.specs.Done.{IsDoneTo};
+ghost use Rattle.pf_dump.specs.Written.{script_of};
 ghost use Rattle.pf_node.specs.Nodes.{config_of};
 ghost use Rattle.cli_show.specs.Writing.{OrNone};
 
@@ -66,7 +68,8 @@ fn log_dump<R: Records>(
 /// A script that gives the node's configuration: one load a path, and where a path's rules are too long for that the
 /// commands of the log that weren't refused. 91 where neither gives it.
 pub(crate) fn show_script<R: Records>(alloc: Global, node: &Node<R>) -> Result<Shown, AllocError>
-    ensures { IfOk result (λ s. OrNone s (λ script. Gives script (config_of node.now))) }
+    ensures { IfOk result (λ s. OrNone s (λ script. Gives script (config_of node.now))
+        (IsDoneTo (script_of (config_of node.now)) (config_of node.now))) }
 {
     let config = node.config();
     if let Some(bytes) = dump(alloc, config)? {

@@ -1,7 +1,9 @@
 //! Rulesets as pfctl(8) loads them.
 
 ghost use Rattle.std.specs.Prelude.{◌≡◌, ◌++◌, OnOk, IfOk, map, string_bytes};
+ghost use Rattle.pf_dump.specs.Done.{AreDoneTo};
 ghost use Rattle.pf_dump.specs.Seen.{text_of};
+ghost use Rattle.pf_dump.specs.Written.{texts_of};
 ghost use Rattle.cli_show.specs.Texts.{shown_text, shown_texts, ShowsTexts};
 ghost use Rattle.cli_show.specs.Writing.{OrNone};
 
@@ -36,7 +38,7 @@ fn joined_texts(alloc: Global, texts: &[PathText<'_>]) -> Result<String, AllocEr
 /// The rulesets of all paths that a command may load, main's last: before each a comment that is the command which
 /// loads it, `# pfctl -a PATH -f -`. 91 where they don't give the configuration.
 pub(crate) fn show_texts(alloc: Global, config: &Config) -> Result<Shown, AllocError>
-    ensures { IfOk result (λ s. OrNone s (ShowsTexts config.now)) }
+    ensures { IfOk result (λ s. OrNone s (ShowsTexts config.now) (AreDoneTo (texts_of config.now) config.now)) }
 {
     match texts(alloc, config)? {
         Some(texts) => {

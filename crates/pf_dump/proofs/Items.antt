@@ -13,7 +13,7 @@ head_only : (h : Heading) (o : Option (List ItemValue)) → rule_in (with_block 
 head_only h None = refl
 head_only h (Some items) = refl
 
-anchor_rule : (a : anchored.AnchorRule) → rule_of (item.Anchor a) ≡ AnchorRule (heading_of a.heading)
+pub anchor_rule : (a : anchored.AnchorRule) → rule_of (item.Anchor a) ≡ AnchorRule (heading_of a.heading)
 anchor_rule a = ap rule_in (anchor_is a) ∙ head_only (heading_of a.heading) (option_map (λ v. items_of v.value.items) a.block)
 
 pub same_filters : (x y : Item) (a b : Rule) → x ≡ item.Filter a → y ≡ item.Filter b → a ≡ b → rule_of x ≡ rule_of y

@@ -1,12 +1,16 @@
--- A script of which each line is a change.
-use Rattle.std.specs.Prelude.{ℕ, List, [], ◌∷◌, ◌++◌, Option, Some, None, codes}
+-- A script, or rulesets, of which each line or ruleset is a change that is made.
+use Rattle.std.specs.Prelude.{ℕ, List, [], ◌∷◌, ◌++◌, Option, Some, None, Result, Ok, Err, codes}
 use Rattle.std.specs.Prelude.{bytes_eq, if◌then◌else◌}
-use Rattle.pf_config.specs.Map.{Configuration}
+use Rattle.pf_rules.specs.declared.profile.Profile.TheVariants.{Two}
+use Rattle.pf_rules.specs.Names.{path_if}
+use Rattle.pf_config.specs.Map.{Configuration, Path}
+use Rattle.pf_entry.specs.Entry.{load}
 use Rattle.pf_entry.specs.Owned.{is_over}
-use Rattle.pf_command.specs.Effect.{after_command, empty}
+use Rattle.pf_command.specs.Effect.{Effect, RefusedCommand, effect, after_command, empty}
 use Rattle.pf_scripts.specs.Lines.{ScriptLine, lines, bytes_of, words_in}
 use Rattle.pf_scripts.specs.Ctl.{WaitingWords, WordsValue, Asks, Refuses, Shows, words_read, takes_text}
 use Rattle.pf_dump.specs.Contents.{IsSame}
+use Rattle.pf_dump.specs.Texts.{Text}
 
 -- ---- scripts
 
@@ -79,3 +83,29 @@ IsSameIf (Some d) c = IsSame d c
 -- each line of the script is a change, and it gives this configuration
 abbrev pub IsDoneTo : List ℕ → Configuration → Type 0
 IsDoneTo script c = IsSameIf (script_done script) c
+
+-- ---- rulesets
+
+-- a ruleset that is loaded, none where it is refused
+abbrev pub loaded_if : Result Effect RefusedCommand → Option Configuration
+loaded_if (Ok e) = Some e.configuration
+loaded_if (Err refused) = None
+
+abbrev pub load_done : Configuration → Option Path → List ℕ → Option Configuration
+load_done c None text = None
+load_done c (Some p) text = loaded_if (effect c (load p Two text))
+
+abbrev pub text_done : Configuration → Text → Option Configuration
+text_done c t = load_done c (path_if t.path) t.text
+
+-- the configuration behind rulesets; none where one of them is refused
+abbrev pub texts_done_from : Configuration → List Text → Option Configuration
+texts_done_from c [] = Some c
+texts_done_from c (t ∷ ts) = followed (text_done c t) (λ (d : Configuration). texts_done_from d ts)
+
+unfoldable pub texts_done : List Text → Option Configuration
+texts_done ts = texts_done_from empty ts
+
+-- each ruleset is loaded, and they give this configuration
+abbrev pub AreDoneTo : List Text → Configuration → Type 0
+AreDoneTo ts c = IsSameIf (texts_done ts) c

@@ -1,5 +1,5 @@
 -- rulesets for pfctl(8), one for each path.
-use Rattle.std.specs.Prelude.{◌≡◌, ◌++◌, ◌||◌, ℕ, Bool, false, List, [], ◌∷◌, fold, map, filter, not, if◌then◌else◌}
+use Rattle.std.specs.Prelude.{◌++◌, ◌||◌, ℕ, Bool, false, List, [], ◌∷◌, fold, filter, not, if◌then◌else◌}
 use Rattle.std.specs.List.{list_any, list_all}
 use Rattle.pf_rules.specs.declared.profile.Profile.TheVariants.{Two}
 use Rattle.pf_rules.specs.Names.{is_path_name}

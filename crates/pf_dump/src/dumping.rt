@@ -1,8 +1,9 @@
 //! A configuration as a script.
 
-ghost use Rattle.std.specs.Prelude.{◌≡◌, true, IfOk, IfSome};
+ghost use Rattle.std.specs.Prelude.{◌≡◌, true, IfOk, IfSome, IfNone};
 ghost use Rattle.pf_dump.specs.Scripts.{Gives};
 ghost use Rattle.pf_dump.specs.Done.{IsDoneTo};
+ghost use Rattle.pf_dump.specs.Written.{script_of};
 
 use crate::replay::replayed;
 use crate::same::is_same;
@@ -24,10 +25,13 @@ pub fn gives(alloc: Global, script: &[u8], config: &Config) -> Result<bool, Allo
 }
 
 /// A script that gives the configuration: one load a path, and before it the entries of its tables where its text would
-/// be too long with them. None where a path's rules are too long for an entry as they are shown.
+/// be too long with them. None exactly where that script doesn't give it: where a path's rules are too long for an
+/// entry as they are shown.
 pub fn dump(alloc: Global, config: &Config) -> Result<Option<Vec<u8>>, AllocError>
     ensures gives { IfOk result (λ o. IfSome o (λ s. Gives s.items config.now)) }
     ensures done { IfOk result (λ o. IfSome o (λ s. IsDoneTo s.items config.now)) }
+    ensures script { IfOk result (λ o. IfSome o (λ s. s.items ≡ script_of config.now)) }
+    ensures none { IfOk result (λ o. IfNone o (IsDoneTo (script_of config.now) config.now → ⊥)) }
 {
     let script = script_of(alloc, config)?;
     if gives(alloc, &script, config)? {

@@ -1,6 +1,9 @@
 //! A configuration as rulesets for pfctl(8).
 
-ghost use Rattle.std.specs.Prelude.{◌≡◌, ◌++◌, true, IfOk, IfSome, map};
+ghost use Rattle.std.specs.Prelude.{◌≡◌, ◌++◌, true, IfOk, IfSome, IfNone, map};
+ghost use Rattle.pf_dump.specs.Done.{text_done, texts_done, AreDoneTo};
+ghost use Rattle.pf_dump.specs.Written.{texts_of};
+ghost use Rattle.pf_dump.specs.inner.Seen.{IsDone};
 ghost use Rattle.pf_dump.specs.Texts.{is_anchor, text_paths, after_text, after_texts, GivenBy};
 ghost use Rattle.pf_command.specs.Effect.{place_at};
 ghost use Rattle.pf_rules.specs.Names.{is_path_name};
@@ -101,8 +104,10 @@ fn load_text(
     path: &[Name],
     text: &[u8],
 ) -> Result<bool, AllocError>
-    ensures { IfOk result (λ b. b ≡ true →
+    ensures after { IfOk result (λ b. b ≡ true →
         config.new ≡ after_text config.old (record { path = path.now; text = text.now })) }
+    ensures done { IfOk result (λ b. IsDone
+        (text_done config.old (record { path = path.now; text = text.now })) b config.new) }
 {
     let Some(named) = Path::new(copied(alloc, path)?) else {
         return Ok(false);
@@ -119,21 +124,25 @@ fn load_text(
 }
 
 /// The configuration that rulesets make of an empty one, in their order; none where one is refused.
+#[tactic(auto, unfolding(crate::specs::Done::texts_done))]
 fn loaded(alloc: Global, texts: &[PathText<'_>]) -> Result<Option<Config>, AllocError>
-    ensures { IfOk result (λ o. IfSome o (λ c. c ≡ after_texts (map text_of texts.now))) }
+    ensures after { IfOk result (λ o. IfSome o (λ c. c ≡ after_texts (map text_of texts.now))) }
+    ensures done { IfOk result (λ o. o ≡ texts_done (map text_of texts.now)) }
 {
     let mut config = Config::new(alloc)?;
-    for text in texts {
+    let mut left = texts;
+    while let [text, rest @ ..] = left {
         if !load_text(alloc, &mut config, text.path, text.text.as_bytes())? {
             return Ok(None);
         }
+        left = rest;
     }
     Ok(Some(config))
 }
 
 /// The rulesets of a configuration, before they are tried.
 fn written(alloc: Global, config: &Config) -> Result<Vec<PathText<'_>>, AllocError>
-    ensures { IfOk result (λ ts. map (λ t. t.path.now) ts.items ≡ text_paths config.now) }
+    ensures { IfOk result (λ ts. map text_of ts.items ≡ texts_of config.now) }
 {
     let mut texts = Vec::new(alloc);
     let paths = text_paths(alloc, config)?;
@@ -148,10 +157,12 @@ fn written(alloc: Global, config: &Config) -> Result<Vec<PathText<'_>>, AllocErr
 }
 
 /// A configuration as rulesets for pfctl(8), one for each path that a command may load, main's last: loaded one after
-/// the other into an empty configuration they give this one. None where they don't.
+/// the other into an empty configuration they give this one. None exactly where they don't.
 pub fn texts(alloc: Global, config: &Config) -> Result<Option<Vec<PathText<'_>>>, AllocError>
     ensures paths { IfOk result (λ o. IfSome o (λ ts. map (λ t. t.path.now) ts.items ≡ text_paths config.now)) }
     ensures given { IfOk result (λ o. IfSome o (λ ts. GivenBy (map text_of ts.items) config.now)) }
+    ensures texts { IfOk result (λ o. IfSome o (λ ts. map text_of ts.items ≡ texts_of config.now)) }
+    ensures none { IfOk result (λ o. IfNone o (AreDoneTo (texts_of config.now) config.now → ⊥)) }
 {
     let texts = written(alloc, config)?;
     match loaded(alloc, &texts)? {

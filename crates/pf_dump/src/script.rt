@@ -1,10 +1,18 @@
 //! The commands of a script.
 
+ghost use Rattle.std.specs.Prelude.{◌≡◌, ◌++◌, false, IfOk, OnOk, string_bytes};
+ghost use Rattle.pf_dump.specs.declared.script.TheConstants.{ADDRESSES};
+ghost use Rattle.std.specs.Option.{option_copied};
+ghost use Rattle.pf_entry.specs.Owned.{command_value};
+ghost use Rattle.pf_dump.specs.Written.{is_open_after, load_lines, table_command, addresses_text, entries_lines};
+ghost use Rattle.pf_dump.specs.Written.{entries_lines_if, all_entries_lines, path_lines, script_of, change_lines};
+ghost use Rattle.pf_dump.specs.Written.{words_line};
+
 use crate::path_texts::text_paths;
-use crate::text::{push_path, push_text};
+use crate::text::{push_entry, push_path, push_text};
 use pf_arguments::Command;
 use pf_command::push_command;
-use pf_config::Config;
+use pf_config::{Config, Table};
 use pf_rules::{Name, TableEntry};
 use std::alloc::{AllocError, Global};
 
@@ -14,39 +22,102 @@ const TEXT_MAX: usize = 32_000;
 /// How many addresses a command has at most, so that an entry has room for them.
 const ADDRESSES: usize = 1_600;
 
+/// Whether a text doesn't end with a newline; not of an empty one.
+fn is_open(text: &[u8]) -> bool
+    ensures { result ≡ is_open_after false text.now }
+{
+    let mut pending = false;
+    let mut left = text;
+    while let [byte, rest @ ..] = left {
+        pending = *byte != b'\n';
+        left = rest;
+    }
+    pending
+}
+
 /// Puts the line of a load and its text behind a script.
 fn push_load(
     alloc: Global,
     script: &mut Vec<u8>,
     path: &[Name],
     text: &[u8],
-) -> Result<(), AllocError> {
+) -> Result<(), AllocError>
+    ensures { OnOk result (script.new.items ≡ script.old.items ++ load_lines path.now text.now) }
+{
     let mut line = String::from_str(alloc, "pfctl ")?;
     push_path(&mut line, path)?;
     line.push_str("-f -\n")?;
     script.extend_from_slice(line.as_bytes())?;
     script.extend_from_slice(text)?;
-    if let Some(last) = text.last() {
-        if *last != b'\n' {
-            script.push(b'\n')?;
-        }
+    if is_open(text) {
+        script.extend_from_slice(b"\n")?;
     }
     script.extend_from_slice(b".\n")
 }
 
 /// Puts a command behind a script, as a line of it: with the text of a load and a line `.` behind it.
-pub fn push_change(
-    alloc: Global,
-    script: &mut Vec<u8>,
-    command: &Command,
-) -> Result<(), AllocError> {
-    if let Command::Load { path, text, .. } = command {
-        return push_load(alloc, script, path.names(), text);
+pub fn push_change(alloc: Global, script: &mut Vec<u8>, command: &Command) -> Result<(), AllocError>
+    ensures { OnOk result (script.new.items ≡ script.old.items ++ change_lines (command_value command.now)) }
+{
+    match command {
+        Command::Load { path, text, .. } => push_load(alloc, script, path.names(), text),
+        Command::FlushRules { .. } => push_words(alloc, script, command),
+        Command::FlushTables { .. } => push_words(alloc, script, command),
+        Command::FlushAll { .. } => push_words(alloc, script, command),
+        Command::Add { .. } => push_words(alloc, script, command),
+        Command::Delete { .. } => push_words(alloc, script, command),
+        Command::Replace { .. } => push_words(alloc, script, command),
+        Command::FlushTable { .. } => push_words(alloc, script, command),
     }
+}
+
+/// Puts a command's words behind a script, as a line of it.
+fn push_words(alloc: Global, script: &mut Vec<u8>, command: &Command) -> Result<(), AllocError>
+    ensures { OnOk result (script.new.items ≡ script.old.items ++ words_line (command_value command.now)) }
+{
     let mut line = String::from_str(alloc, "pfctl ")?;
     push_command(alloc, &mut line, command)?;
     line.push('\n')?;
     script.extend_from_slice(line.as_bytes())
+}
+
+/// Puts a command on a table behind the text, up to its addresses.
+fn push_begin(out: &mut String, path: &[Name], name: &str, word: &str) -> Result<(), AllocError>
+    ensures { OnOk result (string_bytes out.new
+        ≡ string_bytes out.old ++ table_command path.now name.now word.now) }
+{
+    out.push_str("pfctl ")?;
+    push_path(out, path)?;
+    out.push_str("-t ")?;
+    out.push_str(name)?;
+    out.push_str(" -T ")?;
+    out.push_str(word)
+}
+
+/// Puts addresses behind the text, with a new command where one has no room for more.
+fn push_addresses(
+    alloc: Global,
+    out: &mut String,
+    path: &[Name],
+    name: &str,
+    entries: &[TableEntry],
+) -> Result<(), AllocError>
+    ensures { OnOk result (string_bytes out.new
+        ≡ string_bytes out.old ++ addresses_text path.now name.now ADDRESSES entries.now) }
+{
+    let mut room = ADDRESSES;
+    let mut left = entries;
+    while let [entry, rest @ ..] = left {
+        if room == 0 {
+            out.push('\n')?;
+            push_begin(out, path, name, "add")?;
+            room = ADDRESSES;
+        }
+        push_entry(alloc, out, entry)?;
+        room -= 1;
+        left = rest;
+    }
+    out.push('\n')
 }
 
 /// Puts the lines behind a script that give a table its entries: a replacement, and where they are too many additions.
@@ -55,33 +126,48 @@ fn push_entries(
     script: &mut Vec<u8>,
     path: &[Name],
     name: &str,
-    entries: &[TableEntry],
-) -> Result<(), AllocError> {
-    let mut word = "replace";
-    let mut left = entries;
-    for _command in 0..entries.len() / ADDRESSES + 1 {
-        let (now, later) = left.split_at(left.len().min(ADDRESSES));
-        let mut line = String::from_str(alloc, "pfctl ")?;
-        push_path(&mut line, path)?;
-        line.push_str("-t ")?;
-        line.push_str(name)?;
-        line.push_str(" -T ")?;
-        line.push_str(word)?;
-        for entry in now {
-            line.push(' ')?;
-            if entry.negated {
-                line.push('!')?;
-            }
-            let shown = entry.prefix.to_string(alloc)?;
-            line.push_str(shown.as_str())?;
-        }
-        line.push('\n')?;
-        script.extend_from_slice(line.as_bytes())?;
-        if later.is_empty() {
-            return Ok(());
-        }
-        word = "add";
-        left = later;
+    table: &Table,
+) -> Result<(), AllocError>
+    ensures { OnOk result (script.new.items ≡ script.old.items ++ entries_lines path.now name.now table.now.entries) }
+{
+    let entries = table.entries(alloc)?;
+    let mut line = String::new(alloc);
+    push_begin(&mut line, path, name, "replace")?;
+    push_addresses(alloc, &mut line, path, name, &entries)?;
+    script.extend_from_slice(line.as_bytes())
+}
+
+/// The same where there may be no such table.
+fn push_entries_if(
+    alloc: Global,
+    script: &mut Vec<u8>,
+    path: &[Name],
+    name: &str,
+    table: Option<&Table>,
+) -> Result<(), AllocError>
+    ensures { OnOk result (script.new.items
+        ≡ script.old.items ++ entries_lines_if path.now name.now (option_copied table.entry)) }
+{
+    match table {
+        Some(table) => push_entries(alloc, script, path, name, table),
+        None => Ok(()),
+    }
+}
+
+/// The same of all tables of a path.
+fn push_all_entries(
+    alloc: Global,
+    script: &mut Vec<u8>,
+    config: &Config,
+    path: &[Name],
+) -> Result<(), AllocError>
+    ensures { OnOk result (script.new.items ≡ script.old.items ++ all_entries_lines config.now path.now) }
+{
+    let names = config.table_names(path)?;
+    let mut left = names.as_slice();
+    while let [name, rest @ ..] = left {
+        push_entries_if(alloc, script, path, name, config.table(path, name))?;
+        left = rest;
     }
     Ok(())
 }
@@ -93,28 +179,31 @@ fn push_lines(
     script: &mut Vec<u8>,
     config: &Config,
     path: &[Name],
-) -> Result<(), AllocError> {
+) -> Result<(), AllocError>
+    ensures { OnOk result (script.new.items ≡ script.old.items ++ path_lines config.now path.now) }
+{
     let mut text = String::new(alloc);
     push_text(alloc, &mut text, config, path, true)?;
     if text.as_bytes().len() <= TEXT_MAX {
         return push_load(alloc, script, path, text.as_bytes());
     }
-    for name in config.table_names(path)? {
-        if let Some(table) = config.table(path, name) {
-            push_entries(alloc, script, path, name, &table.entries(alloc)?)?;
-        }
-    }
-    let mut text = String::new(alloc);
-    push_text(alloc, &mut text, config, path, false)?;
-    push_load(alloc, script, path, text.as_bytes())
+    push_all_entries(alloc, script, config, path)?;
+    let mut rules = String::new(alloc);
+    push_text(alloc, &mut rules, config, path, false)?;
+    push_load(alloc, script, path, rules.as_bytes())
 }
 
 /// The script of a configuration: the lines of each path that a command may load, main last, so that a table of main
 /// isn't taken away before the rules that name it are there.
-pub(crate) fn script_of(alloc: Global, config: &Config) -> Result<Vec<u8>, AllocError> {
+pub(crate) fn script_of(alloc: Global, config: &Config) -> Result<Vec<u8>, AllocError>
+    ensures { IfOk result (λ s. s.items ≡ script_of config.now) }
+{
     let mut script = Vec::new(alloc);
-    for path in text_paths(alloc, config)? {
+    let paths = text_paths(alloc, config)?;
+    let mut left = paths.as_slice();
+    while let [path, rest @ ..] = left {
         push_lines(alloc, &mut script, config, path)?;
+        left = rest;
     }
     Ok(script)
 }

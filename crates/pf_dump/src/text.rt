@@ -1,37 +1,34 @@
 //! The text of a path.
 
-ghost use Rattle.std.specs.Prelude.{◌≡◌, ◌++◌, OnOk, string_bytes};
+ghost use Rattle.std.specs.Prelude.{◌≡◌, ◌++◌, ◌<◌, IfOk, OnOk, map, length, slice_get, option_map, string_bytes};
+ghost use Rattle.std.specs.List.{flat_map};
+ghost use Rattle.std.specs.Option.{option_copied};
+ghost use Rattle.pf_rules.specs.Seen.{heading_of, rule_of, target_of};
+ghost use Rattle.pf_config.specs.Map as configs;
 ghost use Rattle.pf_command.specs.Arguments.{joined, path_words};
+ghost use Rattle.pf_dump.specs.Written as text;
+ghost use Rattle.pf_dump.specs.Written.{if_said, entry_word, entry_words, listed_text, table_text, table_text_if};
+ghost use Rattle.pf_dump.specs.Written.{tables_text, skip_word, skip_text, heading_in, block_name, is_on};
+ghost use Rattle.pf_dump.specs.Written.{has_rules, without_name, rules_text, skip_at, path_text};
+ghost use Rattle.pf_dump.specs.inner.Seen.{opens_of};
 
 use pf_config::{Config, Table};
-use pf_rules::{AnchorHeading, Item, Name};
+use pf_rules::{AnchorHeading, InterfaceName, Item, Name, TableEntry};
 use pf_show::show_items;
 use std::alloc::{AllocError, Global};
 
-/// How many steps a ruleset has at most: one for each rule of each path, and one for the end of each block.
-const STEPS: u32 = 4_000_000;
+/// How deep rulesets are in one another at most: a path has at most 8 names.
+const DEPTH: u32 = 10;
 
-/// Where a ruleset is in the rules of a path.
+/// What a rule opens.
 #[derive(Drop)]
-struct Level {
-    path: Vec<Name>,
-    /// The next rule.
-    at: usize,
-    /// How many unnamed blocks came before it.
-    unnamed: usize,
-    /// Whether the path is below an unnamed block, so that no command names it.
-    is_hidden: bool,
-}
-
-/// What a step has done.
-#[derive(Drop)]
-enum Stepped {
-    /// A rule is written.
-    Rule,
-    /// The rules are all written.
-    End,
-    /// The heading of a block is written; its rules follow.
-    Opens(Level),
+enum Opens<'c> {
+    /// Nothing.
+    Closed,
+    /// The unnamed block of this name.
+    Unnamed(&'c Name),
+    /// The block of an anchor that no command names.
+    Named,
 }
 
 /// Puts names behind the text, with slashes between them.
@@ -61,31 +58,84 @@ pub fn push_path(out: &mut String, path: &[Name]) -> Result<(), AllocError>
     out.push(' ')
 }
 
-/// Puts the line of the skipped interfaces behind the text, if there are any.
-fn push_skip(out: &mut String, config: &Config) -> Result<(), AllocError> {
-    let names = config.skip();
-    if names.is_empty() {
-        return Ok(());
+/// Puts a word behind the text, if it is said.
+fn push_if(out: &mut String, said: bool, word: &str) -> Result<(), AllocError>
+    ensures { OnOk result (string_bytes out.new ≡ string_bytes out.old ++ if_said said word.now) }
+{
+    if said {
+        return out.push_str(word);
     }
-    out.push_str("set skip on {")?;
+    Ok(())
+}
+
+/// Puts names behind the text, each with a blank before it.
+fn push_names(out: &mut String, names: &[InterfaceName]) -> Result<(), AllocError>
+    ensures { OnOk result (string_bytes out.new ≡ string_bytes out.old ++ flat_map skip_word names.now) }
+{
     for name in names {
         out.push(' ')?;
         out.push_str(name.as_str())?;
     }
-    out.push_str(" }\n")
+    Ok(())
 }
 
-/// Puts a table's entries behind the text, each with a blank before it.
-fn push_entries(alloc: Global, out: &mut String, table: &Table) -> Result<(), AllocError> {
-    for entry in table.entries(alloc)? {
-        out.push(' ')?;
-        if entry.negated {
-            out.push('!')?;
+/// Puts the line of the skipped interfaces behind the text, if there are any.
+fn push_skip(out: &mut String, names: &[InterfaceName]) -> Result<(), AllocError>
+    ensures { OnOk result (string_bytes out.new ≡ string_bytes out.old ++ skip_text names.now) }
+{
+    match names {
+        [] => Ok(()),
+        [_, ..] => {
+            out.push_str("set skip on {")?;
+            push_names(out, names)?;
+            out.push_str(" }\n")?;
+            Ok(())
         }
-        let shown = entry.prefix.to_string(alloc)?;
-        out.push_str(shown.as_str())?;
+    }
+}
+
+/// Puts an entry behind the text, with a blank before it.
+pub(crate) fn push_entry(
+    alloc: Global,
+    out: &mut String,
+    entry: &TableEntry,
+) -> Result<(), AllocError>
+    ensures { OnOk result (string_bytes out.new ≡ string_bytes out.old ++ entry_word entry.now) }
+{
+    out.push(' ')?;
+    if entry.negated {
+        out.push('!')?;
+    }
+    let shown = entry.prefix.to_string(alloc)?;
+    out.push_str(shown.as_str())
+}
+
+/// Puts entries behind the text, each with a blank before it.
+fn push_entries(alloc: Global, out: &mut String, entries: &[TableEntry]) -> Result<(), AllocError>
+    ensures { OnOk result (string_bytes out.new ≡ string_bytes out.old ++ entry_words entries.now) }
+{
+    for entry in entries {
+        push_entry(alloc, out, entry)?;
     }
     Ok(())
+}
+
+/// Puts a table's entries in braces behind the text, if they are listed.
+fn push_listed(
+    alloc: Global,
+    out: &mut String,
+    table: &Table,
+    is_listed: bool,
+) -> Result<(), AllocError>
+    ensures { OnOk result (string_bytes out.new ≡ string_bytes out.old ++ listed_text is_listed table.now.entries) }
+{
+    if !is_listed {
+        return Ok(());
+    }
+    let entries = table.entries(alloc)?;
+    out.push_str(" {")?;
+    push_entries(alloc, out, &entries)?;
+    out.push_str(" }")
 }
 
 /// Puts the line that defines a table behind the text, with its entries if they are listed.
@@ -95,22 +145,33 @@ fn push_table(
     name: &str,
     table: &Table,
     is_listed: bool,
-) -> Result<(), AllocError> {
+) -> Result<(), AllocError>
+    ensures { OnOk result (string_bytes out.new ≡ string_bytes out.old ++ table_text is_listed name.now table.now) }
+{
     out.push_str("table <")?;
     out.push_str(name)?;
     out.push('>')?;
-    if table.persist() {
-        out.push_str(" persist")?;
-    }
-    if table.is_const() {
-        out.push_str(" const")?;
-    }
-    if is_listed {
-        out.push_str(" {")?;
-        push_entries(alloc, out, table)?;
-        out.push_str(" }")?;
-    }
+    push_if(out, table.persist(), " persist")?;
+    push_if(out, table.is_const(), " const")?;
+    push_listed(alloc, out, table, is_listed)?;
     out.push('\n')
+}
+
+/// The same where there may be none.
+fn push_table_if(
+    alloc: Global,
+    out: &mut String,
+    name: &str,
+    table: Option<&Table>,
+    is_listed: bool,
+) -> Result<(), AllocError>
+    ensures { OnOk result (string_bytes out.new
+        ≡ string_bytes out.old ++ table_text_if is_listed name.now (option_copied table.entry)) }
+{
+    match table {
+        Some(table) => push_table(alloc, out, name, table, is_listed),
+        None => Ok(()),
+    }
 }
 
 /// Puts the lines that define the tables of a path behind the text.
@@ -120,17 +181,22 @@ fn push_tables(
     config: &Config,
     path: &[Name],
     is_listed: bool,
-) -> Result<(), AllocError> {
-    for name in config.table_names(path)? {
-        if let Some(table) = config.table(path, name) {
-            push_table(alloc, out, name, table, is_listed)?;
-        }
+) -> Result<(), AllocError>
+    ensures { OnOk result (string_bytes out.new ≡ string_bytes out.old ++ tables_text is_listed config.now path.now) }
+{
+    let names = config.table_names(path)?;
+    let mut left = names.as_slice();
+    while let [name, rest @ ..] = left {
+        push_table_if(alloc, out, name, config.table(path, name), is_listed)?;
+        left = rest;
     }
     Ok(())
 }
 
 /// A path and the names behind it.
-fn joined(alloc: Global, path: &[Name], names: &[Name]) -> Result<Vec<Name>, AllocError> {
+fn joined(alloc: Global, path: &[Name], names: &[Name]) -> Result<Vec<Name>, AllocError>
+    ensures { IfOk result (λ v. v.items ≡ path.now ++ names.now) }
+{
     let mut all = Vec::new(alloc);
     for name in path {
         all.push(name.copied(alloc)?)?;
@@ -141,137 +207,230 @@ fn joined(alloc: Global, path: &[Name], names: &[Name]) -> Result<Vec<Name>, All
     Ok(all)
 }
 
-/// Whether the target is the unnamed block of this number.
-fn is_block(alloc: Global, heading: &AnchorHeading, number: usize) -> Result<bool, AllocError> {
-    let name = format!(in alloc; "_{number}")?;
+/// The anchor rule that a rule is.
+#[tactic(auto, using(crate::proofs::Items::anchor_rule))]
+fn heading_in(item: &Item) -> Option<&AnchorHeading>
+    ensures { option_map (λ h. heading_of h.now) result ≡ heading_in (rule_of item.now) }
+{
+    match item {
+        Item::Filter(_) => None,
+        Item::Anchor(anchor) => Some(&anchor.heading),
+    }
+}
+
+/// The name, if the target is the unnamed block of this number.
+fn block_name<'c>(
+    alloc: Global,
+    heading: &'c AnchorHeading,
+    number: usize,
+) -> Result<Option<&'c Name>, AllocError>
+    ensures { IfOk result (λ o. option_copied o ≡ block_name (target_of heading.now.target) number) }
+{
+    if heading.target.children {
+        return Ok(None);
+    }
     match heading.target.names.as_slice() {
-        [own] => Ok(!heading.target.children && own.as_str() == name.as_str()),
-        _ => Ok(false),
+        [own] => {
+            let name = format!(in alloc; "_{number}")?;
+            if own.as_bytes() == name.as_bytes() {
+                Ok(Some(own))
+            } else {
+                Ok(None)
+            }
+        }
+        _ => Ok(None),
     }
 }
 
 /// Whether two lists of names are the same.
-fn are_same(a: &[Name], b: &[Name]) -> bool {
-    if a.len() != b.len() {
-        return false;
-    }
-    for i in 0..a.len() {
-        if a[i].as_str() != b[i].as_str() {
+fn are_same(a: &[Name], b: &[Name]) -> bool
+    ensures { result ≡ configs.path_eq a.now b.now }
+{
+    let mut left = a;
+    let mut right = b;
+    while let [x, xs @ ..] = left {
+        let [y, ys @ ..] = right else {
+            return false;
+        };
+        if x.as_bytes() != y.as_bytes() {
             return false;
         }
+        left = xs;
+        right = ys;
     }
-    true
+    right.is_empty()
 }
 
-/// Whether one of the rules is an anchor rule on that target itself.
-fn has_target(items: &[Item], names: &[Name]) -> bool {
-    for item in items {
-        if let Item::Anchor(anchor) = item {
-            let target = &anchor.heading.target;
-            if !target.children && are_same(&target.names, names) {
-                return true;
-            }
+/// Whether a rule is an anchor rule on these names themselves.
+fn is_on(item: &Item, names: &[Name]) -> bool
+    ensures { result ≡ is_on names.now (heading_in (rule_of item.now)) }
+{
+    match heading_in(item) {
+        Some(heading) => !heading.target.children && are_same(&heading.target.names, names),
+        None => false,
+    }
+}
+
+/// Whether one of the rules is an anchor rule on these names themselves.
+fn has_target(items: &[Item], names: &[Name]) -> bool
+    ensures { result ≡ text.has_target names.now (map rule_of items.now) }
+{
+    let mut left = items;
+    while let [item, rest @ ..] = left {
+        if is_on(item, names) {
+            return true;
         }
+        left = rest;
     }
     false
 }
 
-/// Puts the heading of a block behind the text: the rule's line without the name of an unnamed block, and a brace.
-fn push_heading(
-    alloc: Global,
-    out: &mut String,
-    item: &[Item],
-    name: Option<&str>,
-) -> Result<(), AllocError> {
-    let line = show_items(alloc, item)?;
-    let mut rest = line.as_str().trim_end();
-    if let Some(name) = name {
-        let before = format!(in alloc; "anchor \"{name}\"")?;
-        if let Some(behind) = rest.strip_prefix(before.as_str()) {
-            out.push_str("anchor")?;
-            rest = behind;
-        }
+/// Whether there are rules at a path.
+fn has_rules(config: &Config, path: &[Name]) -> bool
+    ensures { result ≡ has_rules (configs.rules_at config.now path.now) }
+{
+    match config.items(path) {
+        [] => false,
+        [_, ..] => true,
     }
-    out.push_str(rest)?;
-    out.push_str(" {\n")
 }
 
-/// Writes the next rule of a level.
-fn step(
+/// Whether a rule of a hidden path carries the rules of its anchor: it is the first on it.
+fn carries(
     alloc: Global,
-    out: &mut String,
     config: &Config,
-    level: &mut Level,
-) -> Result<Stepped, AllocError> {
-    let items = config.items(level.path.as_slice());
-    let at = level.at;
-    let Some(item) = items.get(at) else {
-        return Ok(Stepped::End);
-    };
-    level.at = at + 1;
-    let one = &items[at..at + 1];
-    if let Item::Anchor(anchor) = item {
-        let heading = &anchor.heading;
-        let names = heading.target.names.as_slice();
-        let path = joined(alloc, level.path.as_slice(), names)?;
-        if is_block(alloc, heading, level.unnamed.saturating_add(1))? {
-            level.unnamed = level.unnamed.saturating_add(1);
-            push_heading(alloc, out, one, names.first().map(|it| it.as_str()))?;
-            return Ok(Stepped::Opens(Level {
-                path,
-                at: 0,
-                unnamed: 0,
-                is_hidden: true,
-            }));
-        }
-        let is_first = !heading.target.children && !has_target(&items[..at], names);
-        if level.is_hidden && is_first && !config.items(path.as_slice()).is_empty() {
-            push_heading(alloc, out, one, None)?;
-            return Ok(Stepped::Opens(Level {
-                path,
-                at: 0,
-                unnamed: 0,
-                is_hidden: true,
-            }));
-        }
+    path: &[Name],
+    is_hidden: bool,
+    before: &[Item],
+    heading: &AnchorHeading,
+) -> Result<bool, AllocError>
+    ensures { IfOk result (λ b. b
+        ≡ text.carries config.now path.now is_hidden (map rule_of before.now) (target_of heading.now.target)) }
+{
+    if !is_hidden || heading.target.children || has_target(before, &heading.target.names) {
+        return Ok(false);
     }
-    let line = show_items(alloc, one)?;
-    out.push_str(line.as_str())?;
-    Ok(Stepped::Rule)
+    let below = joined(alloc, path, &heading.target.names)?;
+    Ok(has_rules(config, &below))
 }
 
-/// Puts the rules of a path behind the text, with the blocks that no command names.
+/// What a rule opens, with the rules before it; the number is the next unnamed block's.
+fn opened_by<'c>(
+    alloc: Global,
+    config: &Config,
+    path: &[Name],
+    is_hidden: bool,
+    before: &[Item],
+    item: &'c Item,
+    number: usize,
+) -> Result<Opens<'c>, AllocError>
+    ensures { IfOk result (λ o. opens_of o ≡ text.opens config.now path.now is_hidden (map rule_of before.now) number
+        (heading_in (rule_of item.now))) }
+{
+    let Some(heading) = heading_in(item) else {
+        return Ok(Opens::Closed);
+    };
+    if let Some(name) = block_name(alloc, heading, number)? {
+        return Ok(Opens::Unnamed(name));
+    }
+    if carries(alloc, config, path, is_hidden, before, heading)? {
+        return Ok(Opens::Named);
+    }
+    Ok(Opens::Closed)
+}
+
+/// The line of the rule at a place.
+#[tactic(auto, using(crate::proofs::Rules::line_one))]
+fn line_at(alloc: Global, items: &[Item], at: usize) -> Result<String, AllocError>
+    requires { at < length items.now }
+    ensures { IfOk result (λ s. string_bytes s ≡ text.line_at (slice_get (map rule_of items.now) at)) }
+{
+    show_items(alloc, &items[at..at + 1])
+}
+
+/// Puts an anchor rule's line behind the text, without its name.
+fn push_without(alloc: Global, out: &mut String, name: &Name, line: &str) -> Result<(), AllocError>
+    ensures { OnOk result (string_bytes out.new ≡ string_bytes out.old ++ without_name name.now line.now) }
+{
+    let text = name.as_str();
+    let front = format!(in alloc; "anchor \"{text}\"")?;
+    match line.strip_prefix(front.as_str()) {
+        Some(rest) => {
+            out.push_str("anchor")?;
+            out.push_str(rest)?;
+            Ok(())
+        }
+        None => out.push_str(line),
+    }
+}
+
+/// The path below which a rule's block is.
+fn below(alloc: Global, path: &[Name], item: &Item) -> Result<Vec<Name>, AllocError>
+    ensures { IfOk result (λ v. v.items ≡ path.now ++ text.names_in (heading_in (rule_of item.now))) }
+{
+    match heading_in(item) {
+        Some(heading) => joined(alloc, path, &heading.target.names),
+        None => joined(alloc, path, &[]),
+    }
+}
+
+/// Puts the rules of a path behind the text, with the blocks that no command names, down to a depth.
 fn push_rules(
     alloc: Global,
     out: &mut String,
     config: &Config,
     path: &[Name],
-) -> Result<(), AllocError> {
-    let mut levels = Vec::new(alloc);
-    levels.push(Level {
-        path: joined(alloc, path, &[])?,
-        at: 0,
-        unnamed: 0,
-        is_hidden: false,
-    })?;
-    for _step in 0..STEPS {
-        let Some(mut level) = levels.pop() else {
-            return Ok(());
-        };
-        match step(alloc, out, config, &mut level)? {
-            Stepped::Rule => levels.push(level)?,
-            Stepped::Opens(inner) => {
-                levels.push(level)?;
-                levels.push(inner)?;
+    is_hidden: bool,
+    depth: u32,
+) -> Result<(), AllocError>
+    ensures { OnOk result (string_bytes out.new
+        ≡ string_bytes out.old ++ rules_text depth is_hidden config.now path.now) }
+{
+    if depth == 0 {
+        return Ok(());
+    }
+    let items = config.items(path);
+    let mut number = 0usize;
+    for at in 0..items.len() {
+        let line = line_at(alloc, items, at)?;
+        match opened_by(
+            alloc,
+            config,
+            path,
+            is_hidden,
+            &items[..at],
+            &items[at],
+            number + 1,
+        )? {
+            Opens::Closed => out.push_str(line.as_str())?,
+            Opens::Unnamed(name) => {
+                number += 1;
+                push_without(alloc, out, name, line.as_str().trim_end())?;
+                out.push_str(" {\n")?;
+                let inner = below(alloc, path, &items[at])?;
+                push_rules(alloc, out, config, &inner, true, depth - 1)?;
+                out.push_str("}\n")?;
             }
-            Stepped::End => {
-                if !levels.is_empty() {
-                    out.push_str("}\n")?;
-                }
+            Opens::Named => {
+                out.push_str(line.as_str().trim_end())?;
+                out.push_str(" {\n")?;
+                let inner = below(alloc, path, &items[at])?;
+                push_rules(alloc, out, config, &inner, true, depth - 1)?;
+                out.push_str("}\n")?;
             }
         }
     }
     Ok(())
+}
+
+/// Puts the line of the skipped interfaces behind the text; of another path than main's nothing.
+fn push_skip_at(out: &mut String, config: &Config, path: &[Name]) -> Result<(), AllocError>
+    ensures { OnOk result (string_bytes out.new ≡ string_bytes out.old ++ skip_at config.now path.now) }
+{
+    match path {
+        [] => push_skip(out, config.skip()),
+        [_, ..] => Ok(()),
+    }
 }
 
 /// Puts the text of a path behind another, as `pfctl -a PATH -f -` reads it: the skipped interfaces of main, the tables
@@ -282,10 +441,10 @@ pub(crate) fn push_text(
     config: &Config,
     path: &[Name],
     is_listed: bool,
-) -> Result<(), AllocError> {
-    if path.is_empty() {
-        push_skip(out, config)?;
-    }
+) -> Result<(), AllocError>
+    ensures { OnOk result (string_bytes out.new ≡ string_bytes out.old ++ path_text is_listed config.now path.now) }
+{
+    push_skip_at(out, config, path)?;
     push_tables(alloc, out, config, path, is_listed)?;
-    push_rules(alloc, out, config, path)
+    push_rules(alloc, out, config, path, false, DEPTH)
 }

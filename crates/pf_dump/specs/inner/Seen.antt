@@ -1,10 +1,13 @@
--- What a step of a script leaves.
+-- What a step of a script leaves, and what a rule opens.
 use Rattle.std.specs.Prelude.{◌≡◌, Bool, true, false, Option, None, Some, option_map}
 use Rattle.pf_config.specs.Map.{Configuration}
 use Rattle.pf_scripts.specs.declared.waiting.Waiting.{Waiting}
 use Rattle.pf_scripts.specs.Ctl.{StepValue}
 use Rattle.pf_scripts.specs.inner.Seen.{waiting_of}
 use Rattle.pf_dump.specs.Done.{Place}
+use Rattle.pf_dump.specs.Written as text
+use Rattle.pf_dump.specs.declared.text.Opens.{Opens}
+use Rattle.pf_dump.specs.declared.text.Opens.TheVariants as code
 
 -- the configuration is this now, and this waits for the end of its text
 abbrev pub StepsTo : StepValue → Configuration → Option Waiting → Type 0
@@ -20,3 +23,9 @@ abbrev pub IsPlace : Option Place → Bool → Configuration → Option Waiting 
 IsPlace None goes new waiting = goes ≡ false
 IsPlace (Some s) goes new waiting =
     (goes ≡ true) × (new ≡ s.configuration) × (option_map waiting_of waiting ≡ s.waiting)
+
+-- what a rule opens, of the code's value
+abbrev pub opens_of : Opens → text.Opens
+opens_of code.Closed = text.Closed
+opens_of (code.Unnamed name) = text.Unnamed name.now
+opens_of code.Named = text.Named

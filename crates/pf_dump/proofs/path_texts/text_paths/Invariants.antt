@@ -1,6 +1,6 @@
-use Rattle.std.proofs.Common.{◌≡◌, ◌++◌, ◌||◌, List, map, filter, length}
+use Rattle.std.proofs.Common.{◌≡◌, ◌++◌, ◌||◌, map, filter, length}
 use Rattle.std.specs.List.{list_any}
-use Rattle.pf_config.specs.Map.{Path, paths_in}
+use Rattle.pf_config.specs.Map.{paths_in}
 use Rattle.pf_config.specs.Changes.{is_empty}
 use Rattle.pf_dump.specs.Texts.{is_anchor, has_main}
 use Rattle.pf_dump.proofs.path_texts.text_paths.Given as goal
