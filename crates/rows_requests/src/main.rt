@@ -17,7 +17,19 @@ mod node;
 use crate::following::follow_node;
 use crate::node::{answered, opened, settle};
 use node_requests::RequestHandler;
+use px_records::MemoryRecords;
 use std::io;
+
+/// Prints the answer to a request.
+fn respond(
+    rt: &HostRuntime,
+    handler: &mut RequestHandler<MemoryRecords>,
+    line: &str,
+    body: &str,
+) -> io::Result<()> {
+    let answer = answered(rt.alloc(), handler, line, body)?;
+    print!(rt; "== {line}\n-- {}\n{}", answer.code, answer.body)
+}
 
 fn main(rt: HostRuntime) -> io::Result<()> {
     let alloc = rt.alloc();
@@ -36,8 +48,7 @@ fn main(rt: HostRuntime) -> io::Result<()> {
             follow_node(&rt, body)?;
             continue;
         }
-        let answer = answered(alloc, &mut handler, line, body)?;
-        print!(rt; "== {line}\n-- {}\n{}", answer.code, answer.body)?;
+        respond(&rt, &mut handler, line, body)?;
         if !settle(alloc, &mut handler.node) {
             return println!(rt; "failed");
         }
