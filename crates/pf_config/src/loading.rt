@@ -110,7 +110,7 @@ fn with_each(
     Ok(next)
 }
 
-/// The tables with each definition in its turn. They come in by name, since what stands behind a new table is moved.
+/// The tables with each definition in its turn. They come in by name, since all tables after a new one are moved.
 #[tactic(auto, using(crate::proofs::Definitions::in_any_order))]
 pub(crate) fn with_definitions(
     alloc: Global,

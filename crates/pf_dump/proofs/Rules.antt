@@ -52,7 +52,7 @@ without_some name text rest h =
 pub without_none : (name text : List ℕ) → FindsTextPrefix (anchor_front name) text None → without_name name text ≡ text
 without_none name text h = rw (absent (anchor_front name) text h) refl
 
--- ---- what was put behind a text piece by piece
+-- ---- what was appended piece by piece
 
 pub two : (o a b x y : List ℕ) → x ≡ o ++ a → y ≡ x ++ b → y ≡ o ++ (a ++ b)
 two o a b x y e f = f ∙ ap (λ w. w ++ b) e ∙ append_assoc o a b
@@ -79,7 +79,7 @@ unfolding rules_text
 shallow zero hidden c p h = refl
 shallow (suc d) hidden c p h = absurd (omega (arith, h))
 
--- ---- texts
+-- ---- rulesets
 
 paths_back : (c : Configuration) (ps : List Path) → map (λ (t : Text). t.path) (map (text_at c) ps) ≡ ps
 paths_back c [] = refl

@@ -137,7 +137,7 @@ abbrev pub opens_at : Configuration → Path → (hidden : Bool) → ℕ → Ope
 opens_at c p hidden n =
     opens c p hidden (take n (rules_at c p)) (unnamed_below c p hidden n + 1) (heading_at (slice_get (rules_at c p) n))
 
--- what stands before the conditions of an anchor rule
+-- an anchor rule up to its conditions
 abbrev pub anchor_front : Name → List ℕ
 anchor_front name = codes "anchor \"" ++ name ++ codes "\""
 

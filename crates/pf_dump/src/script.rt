@@ -22,7 +22,7 @@ const TEXT_MAX: usize = 32_000;
 /// How many addresses a command has at most, so that an entry has room for them.
 const ADDRESSES: usize = 1_600;
 
-/// Whether a text doesn't end with a newline; not of an empty one.
+/// Whether a ruleset doesn't end with a newline; not of an empty one.
 fn is_open(text: &[u8]) -> bool
     ensures { result ≡ is_open_after false text.now }
 {
