@@ -6,7 +6,8 @@ use Rattle.pf_rules.specs.Items.{AnyRule}
 use Rattle.pf_rules.specs.declared.parts.Direction.{Direction}
 use Rattle.pf_config.specs.Map.{Configuration, Path}
 use Rattle.nft_rules.specs.Subset.{Pass, Forward, Backward, Chain, NftRule}
-use Rattle.nft_rules.specs.Rendering.{Machine, forward_rule, backward_rule, forward_rules, backward_rules, forward_chain, backward_chain}
+use Rattle.nft_rules.specs.Rendering.{Machine, forward_rule, backward_rule, forward_rules, backward_rules}
+use Rattle.nft_rules.specs.Rendering.{forward_chain, backward_chain}
 
 -- ---- rules
 
