@@ -1,15 +1,12 @@
 -- What is written of a configuration and of a log.
 use Rattle.std.specs.Prelude.{◌≡◌, ℕ, Bool, true, false, List, [], ◌∷◌, ◌++◌, ◌+◌, ◌-◌, min, Option, Some, None}
-use Rattle.std.specs.Prelude.{Result, Ok, Err, option_map, unwrap_or, codes, decimal}
+use Rattle.std.specs.Prelude.{Result, Ok, Err, unwrap_or, codes, decimal}
 use Rattle.clap.specs.Words.{Text}
 use Rattle.px_model.specs.Node.{Log}
 use Rattle.px_model.specs.Spelling.{Bytes}
 use Rattle.px_model.specs.Step.{positions}
 use Rattle.pf_config.specs.Map.{Configuration}
-use Rattle.pf_eval.specs.Packets.{PacketValue}
-use Rattle.pf_eval.specs.PacketTexts.{packet_of}
-use Rattle.pf_eval.specs.Verdicts.{judgement}
-use Rattle.pf_eval.specs.Seen.{verdict_text}
+use Rattle.pf_eval.specs.Seen.{verdict_for}
 use Rattle.pf_scripts.specs.Lines.{line, refused_line}
 use Rattle.cli_nft.specs.Outputs as kernel
 use Rattle.node_requests.specs.Positions.{lines_before}
@@ -47,10 +44,6 @@ behind text later = record { bytes = text ++ later.bytes; refused = later.refuse
 abbrev pub put_verdict : Option (List ℕ) → ShownValue → ShownValue
 put_verdict None later = refused 30 0
 put_verdict (Some verdict) later = behind (line verdict) later
-
--- the verdict for a packet's text, none where it is no packet
-unfoldable pub verdict_for : Configuration → Text → Option (List ℕ)
-verdict_for c packet = option_map (λ (k : PacketValue). verdict_text (judgement c k)) (packet_of packet)
 
 -- a line for each packet's text in turn
 -- Example: two packets and the text x: two verdicts, then refused 30.

@@ -1,14 +1,14 @@
 //! pfctl's listings and packets at a configuration.
 
-ghost use Rattle.std.specs.Prelude.{◌≡◌, ◌++◌, IfOk, map, option_map, string_bytes};
+ghost use Rattle.std.specs.Prelude.{◌≡◌, IfOk, map};
 ghost use Rattle.pf_arguments.specs.Answers.{action_value};
 ghost use Rattle.pf_scripts.specs.Listings.{listed};
-ghost use Rattle.cli_show.specs.Writing.{refused, answered, verdicts, verdict_for, shown_value};
+ghost use Rattle.cli_show.specs.Writing.{refused, answered, verdicts, shown_value};
 
 use crate::shown::Shown;
 use pf_arguments::Action;
 use pf_config::Config;
-use pf_eval::{PacketFault, parse_packet, show_verdict, verdict};
+use pf_eval::verdict_for;
 use pf_scripts::{list, push_line, push_refusal};
 use std::alloc::{AllocError, Global};
 
@@ -41,22 +41,6 @@ pub(crate) fn show_listing(
     match list(alloc, config, action)? {
         Ok(text) => as_shown(alloc, text.as_str(), false),
         Err(code) => refused(alloc, code, 0),
-    }
-}
-
-/// The verdict for a packet's text, none where it is no packet.
-#[tactic(auto, unfolding(crate::specs::Writing::verdict_for))]
-fn verdict_for(alloc: Global, config: &Config, packet: &str) -> Result<Option<String>, AllocError>
-    ensures { IfOk result (λ found. option_map string_bytes found ≡ verdict_for config.now packet.now) }
-{
-    match parse_packet(alloc, packet) {
-        Ok(packet) => {
-            let found = verdict(config, &packet);
-            let shown = show_verdict(alloc, &found)?;
-            Ok(Some(shown))
-        }
-        Err(PacketFault::Memory) => Err(AllocError),
-        Err(PacketFault::BadPacket) => Ok(None),
     }
 }
 

@@ -1,6 +1,7 @@
 //! What the words ask for.
 
 use clap::ArgMatches;
+use cli_io::values_in;
 
 /// What is asked for beside a listing.
 #[derive(Clone, Copy, PartialEq, Eq)]
@@ -21,17 +22,9 @@ pub(crate) enum Kind {
     Figures,
 }
 
-/// The words, none where there are none.
-fn or_none<'m, 'a>(words: Option<&'m [&'a str]>) -> &'m [&'a str] {
-    match words {
-        Some(words) => words,
-        None => &[],
-    }
-}
-
 /// The words behind the options, none where there are none.
 pub(crate) fn rest_of<'m, 'a>(matches: &'m ArgMatches<'a>) -> &'m [&'a str] {
-    or_none(matches.get_strs("address"))
+    values_in(matches, "address")
 }
 
 /// Whether an option of pfctl's is there.
