@@ -16,7 +16,7 @@ as_sealed G m hears given back events ks ks' s s' e f r =
     subst (λ (x : Sealer). RunsSealedHearing G m hears ks' x given back events) f
     (subst (λ (x : List (List ℕ)). RunsSealedHearing G m hears x s given back events) e r)
 
--- asks are heard where this says so
-pub hearing_is : {R : Type 0} (G : Ghosts R) (m : Membership) (s : Option Sealing) (given back : R) (events : List SocketEvent)
-    (hears hears' : Bool) → hears ≡ hears' → RunsWith G m s hears given back events → RunsWith G m s hears' given back events
-hearing_is G m s given back events hears hears' e r = subst (λ (x : Bool). RunsWith G m s x given back events) e r
+-- asks are heard where this says so, and packets are sealed with these keys
+pub hearing_is : {R : Type 0} (G : Ghosts R) (m : Membership) (s s' : Option Sealing) (given back : R) (events : List SocketEvent)
+    (hears hears' : Bool) → s' ≡ s → hears ≡ hears' → RunsWith G m s hears given back events → RunsWith G m s' hears' given back events
+hearing_is G m s s' given back events hears hears' e f r = rw e (subst (λ (x : Bool). RunsWith G m s x given back events) f r)

@@ -1,7 +1,7 @@
 //! The subcommand `node`: a node over UDP.
 
 ghost use Rattle.std.specs.Prelude.{◌≡◌, ◌≢◌, ◌<◌, ◌≤◌, ◌⊎◌, ◌↔◌, Err, false, length, IfSome, OnErr, IsSome, IsTrue};
-ghost use Rattle.std.specs.Prelude.{ℕ, Bool, [], Some, None, IfOk, option_map, option_and_then, is_some};
+ghost use Rattle.std.specs.Prelude.{ℕ, Bool, [], None, IfOk, option_map, option_and_then, is_some};
 ghost use Rattle.toml.specs.Data.{as_str, get_member};
 ghost use Rattle.px_transport.specs.Wiring.{keys_of, sealer_of};
 ghost use Rattle.node_loop.specs.Lives.{OnFront};
@@ -214,24 +214,18 @@ fn sealed(
     rt: &HostRuntime,
     alloc: Global,
     m: Membership,
-    wire: Result<UdpWire<UdpSocket, HostRuntime>, Outcome>,
+    wire: UdpWire<UdpSocket, HostRuntime>,
     sealing: Sealing,
-) -> Result<PacketWire<UdpWire<UdpSocket, HostRuntime>, HostRuntime>, Outcome>
-    requires refused { OnErr wire ((wire ≡ Err Memory) ⊎ (wire ≡ Err (Refused 82))) }
-    requires new { IfOk wire (λ w. ⟦<UdpWire<UdpSocket, HostRuntime> as Wire>⟧.traffic w []) }
-    ensures refused { OnErr result ((result ≡ Err Memory) ⊎ (result ≡ Err (Refused 82))) }
+) -> Result<PacketWire<UdpWire<UdpSocket, HostRuntime>, HostRuntime>, AllocError>
+    requires new { ⟦<UdpWire<UdpSocket, HostRuntime> as Wire>⟧.traffic wire [] }
     ensures new { IfOk result (λ w.
         ⟦<PacketWire<UdpWire<UdpSocket, HostRuntime>, HostRuntime> as Wire>⟧.traffic w []) }
     ensures sealer { IfOk result (λ w. sealer_of w ≡ sealer_with m sealing) }
     ensures keys { IfOk result (λ w. keys_of w ≡ keys_with sealing) }
 {
-    let wire = match wire {
-        Ok(wire) => wire,
-        Err(outcome) => return Err(outcome),
-    };
     let keys = sealing.keys;
     let packets = PacketKeys::new(&keys.key, keys.other.as_ref());
-    match PacketWire::new(
+    PacketWire::new(
         alloc,
         wire,
         *rt,
@@ -240,10 +234,7 @@ fn sealed(
         m.members(),
         m.me(),
         sealing.start,
-    ) {
-        Ok(wire) => Ok(wire),
-        Err(_) => Err(Outcome::Memory),
-    }
+    )
 }
 
 /// The record of a member that has no wire, for this reason, is opened alone.
@@ -264,97 +255,8 @@ fn open_alone<R: Records>(
     (ended_outcome(ended, outcome), records)
 }
 
-/// The run of a member at its socket, without a key, with a control socket at the place if there is one; without a wire
-/// its record is opened alone.
-fn run_plain<R: Records, T: Timer>(
-    rt: &HostRuntime,
-    alloc: Global,
-    words: NodeWords<'_, '_, '_>,
-    m: Membership,
-    records: R,
-    wire: Result<UdpWire<UdpSocket, HostRuntime>, Outcome>,
-    timer: &mut T,
-    place: Option<ControlPlace<'_>>,
-) -> (Outcome, R)
-    requires members { R.members records ≡ m.members }
-    requires here { m.me < m.members }
-    requires failed { R.failed records ≡ 0 }
-    requires refused { OnErr wire ((wire ≡ Err Memory) ⊎ (wire ≡ Err (Refused 82))) }
-    requires new { IfOk wire (λ w. ⟦<UdpWire<UdpSocket, HostRuntime> as Wire>⟧.traffic w []) }
-    ensures hosted { ComesOpen R.Records m records result.0 result.1 }
-    ensures turns { place.entry ≡ None → ComesTo R.Records m records result.0 result.1 }
-    ensures ran { IsAlone R.Records m records result.0 result.1 ⊎
-        RunsHere R.Records m None (hears_asks words.entry.key words.entry.control) records result.0 result.1 (λ how.
-        OnFront how (MakesTurns words.entry.turns (T.timer_events timer.old) (T.timer_events timer.new))) }
-{
-    let wire = match wire {
-        Ok(wire) => wire,
-        Err(outcome) => return open_alone(alloc, m, records, outcome),
-    };
-    let Ok(mut observer) = Observer::new(alloc, m, words.key.is_some(), words.is_quiet) else {
-        return open_alone(alloc, m, records, Outcome::Memory);
-    };
-    let (ended, records, _wire) = run_at_socket(
-        rt,
-        alloc,
-        m,
-        records,
-        wire,
-        timer,
-        &mut observer,
-        words.hears_asks(),
-        place,
-        words.turns,
-    );
-    (ended_outcome(ended, Outcome::Memory), records)
-}
-
-/// The same with keys, over a wire of packets.
-fn run_with_key<R: Records, T: Timer>(
-    rt: &HostRuntime,
-    alloc: Global,
-    words: NodeWords<'_, '_, '_>,
-    m: Membership,
-    records: R,
-    wire: Result<UdpWire<UdpSocket, HostRuntime>, Outcome>,
-    sealing: Sealing,
-    timer: &mut T,
-    place: Option<ControlPlace<'_>>,
-) -> (Outcome, R)
-    requires members { R.members records ≡ m.members }
-    requires here { m.me < m.members }
-    requires failed { R.failed records ≡ 0 }
-    requires refused { OnErr wire ((wire ≡ Err Memory) ⊎ (wire ≡ Err (Refused 82))) }
-    requires new { IfOk wire (λ w. ⟦<UdpWire<UdpSocket, HostRuntime> as Wire>⟧.traffic w []) }
-    ensures hosted { ComesOpen R.Records m records result.0 result.1 }
-    ensures turns { place.entry ≡ None → ComesTo R.Records m records result.0 result.1 }
-    ensures ran { IsAlone R.Records m records result.0 result.1 ⊎
-        RunsHere R.Records m (Some sealing) (hears_asks words.entry.key words.entry.control) records result.0 result.1
-        (λ how. OnFront how (MakesTurns words.entry.turns (T.timer_events timer.old) (T.timer_events timer.new))) }
-{
-    let wire = match sealed(rt, alloc, m, wire, sealing) {
-        Ok(wire) => wire,
-        Err(outcome) => return open_alone(alloc, m, records, outcome),
-    };
-    let Ok(mut observer) = Observer::new(alloc, m, words.key.is_some(), words.is_quiet) else {
-        return open_alone(alloc, m, records, Outcome::Memory);
-    };
-    let (ended, records, _wire) = run_sealed_at_socket(
-        rt,
-        alloc,
-        m,
-        records,
-        wire,
-        timer,
-        &mut observer,
-        words.hears_asks(),
-        place,
-        words.turns,
-    );
-    (ended_outcome(ended, Outcome::Memory), records)
-}
-
-/// The run of a member at its socket, with keys if there are some.
+/// The run of a member at its socket, with packets that are sealed if there are keys, and with a control socket at the
+/// place if there is one; without a wire its record is opened alone.
 fn run_at<R: Records, T: Timer>(
     rt: &HostRuntime,
     alloc: Global,
@@ -377,33 +279,45 @@ fn run_at<R: Records, T: Timer>(
         RunsHere R.Records m sealing (hears_asks words.entry.key words.entry.control) records result.0 result.1 (λ how.
         OnFront how (MakesTurns words.entry.turns (T.timer_events timer.old) (T.timer_events timer.new))) }
 {
-    match sealing {
-        Some(sealing) => { run_with_key(rt, alloc, words, m, records, wire, sealing, timer, place) }
-        None => run_plain(rt, alloc, words, m, records, wire, timer, place),
-    }
-}
-
-/// The run of a member over a socket, without a control socket.
-fn run_node<R: Records, T: Timer>(
-    rt: &HostRuntime,
-    alloc: Global,
-    words: NodeWords<'_, '_, '_>,
-    m: Membership,
-    records: R,
-    sealing: Option<Sealing>,
-    timer: &mut T,
-) -> (Outcome, R)
-    requires members { R.members records ≡ m.members }
-    requires here { m.me < m.members }
-    requires failed { R.failed records ≡ 0 }
-    ensures hosted { ComesOpen R.Records m records result.0 result.1 }
-    ensures turns { ComesTo R.Records m records result.0 result.1 }
-    ensures ran { IsAlone R.Records m records result.0 result.1 ⊎
-        RunsHere R.Records m sealing (hears_asks words.entry.key words.entry.control) records result.0 result.1 (λ how.
-        OnFront how (MakesTurns words.entry.turns (T.timer_events timer.old) (T.timer_events timer.new))) }
-{
-    let wire = bind(rt, alloc, words);
-    run_at(rt, alloc, words, m, records, wire, sealing, timer, None)
+    let wire = match wire {
+        Ok(wire) => wire,
+        Err(outcome) => return open_alone(alloc, m, records, outcome),
+    };
+    let Ok(mut observer) = Observer::new(alloc, m, words.key.is_some(), words.is_quiet) else {
+        return open_alone(alloc, m, records, Outcome::Memory);
+    };
+    let hears = words.hears_asks();
+    let Some(sealing) = sealing else {
+        let (ended, records, _wire) = run_at_socket(
+            rt,
+            alloc,
+            m,
+            records,
+            wire,
+            timer,
+            &mut observer,
+            hears,
+            place,
+            words.turns,
+        );
+        return (ended_outcome(ended, Outcome::Memory), records);
+    };
+    let Ok(wire) = sealed(rt, alloc, m, wire, sealing) else {
+        return open_alone(alloc, m, records, Outcome::Memory);
+    };
+    let (ended, records, _wire) = run_sealed_at_socket(
+        rt,
+        alloc,
+        m,
+        records,
+        wire,
+        timer,
+        &mut observer,
+        hears,
+        place,
+        words.turns,
+    );
+    (ended_outcome(ended, Outcome::Memory), records)
 }
 
 /// Where figures are served over TCP, if they are: 82 for what is no address at which this machine alone is heard, with
@@ -510,7 +424,10 @@ fn run_member_in<R: Records, T: Timer>(
 {
     match words.control {
         Some(path) => run_with_control(rt, alloc, words, path, m, records, sealing, timer),
-        None => run_node(rt, alloc, words, m, records, sealing, timer),
+        None => {
+            let wire = bind(rt, alloc, words);
+            run_at(rt, alloc, words, m, records, wire, sealing, timer, None)
+        }
     }
 }
 
