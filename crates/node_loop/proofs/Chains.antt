@@ -1,7 +1,7 @@
 -- Turns one after the other.
 use Rattle.std.proofs.Common.{◌≡◌, ◌∙◌, ℕ, zero, suc, List, [], ◌++◌, Option, Some, None, Bool, true, false, refl, sym, ap, subst}
 use Rattle.std.proofs.Common.{Result, Ok, Err, inl, inr}
-use Rattle.std.specs.Prelude.{IfOk, ◌∷◌}
+use Rattle.std.specs.Prelude.{IfOk, ◌∷◌, nat_lt}
 use Rattle.px_model.specs.Node.Input.{Ticks}
 use Rattle.px_model.specs.Spelling.{Bytes}
 use Rattle.px_records.specs.declared.records.Records.{Ghosts}
@@ -221,10 +221,11 @@ pub round_took : {R : Type 0} {G : Ghosts R} (n : ℕ) (d : Bool) (w x y z v : S
 round_took n d w x y z v s t a b c e = (n, d, then_ticked n d w x y z v s t a b c e)
 
 -- what a timer is given at a look
-pub looked_so : (a b c : List TimerEvent → Type 0) (now : ℕ) (v : View) (t : PeerProgress) (q : Bool) → t.is_accepting ≡ q →
+pub looked_so : (a b c : List TimerEvent → Type 0) (now : ℕ) (v : View) (t : PeerProgress) (q : Bool) →
+    nat_lt v.front t.accepting ≡ q →
     Adds a b (TimerEvent.Looks now v ∷ []) → Adds b c (sends_if q now) → Adds a c (looks now v t)
 looked_so a b c now v t q e g h =
-    adds_then a b c (TimerEvent.Looks now v ∷ []) (sends_if t.is_accepting now) g
+    adds_then a b c (TimerEvent.Looks now v ∷ []) (sends_if (nat_lt v.front t.accepting) now) g
     (subst (λ (p : Bool). Adds b c (sends_if p now)) (sym e) h)
 
 -- what is seen in it, and what the timer is given

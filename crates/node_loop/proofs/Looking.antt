@@ -1,5 +1,5 @@
 -- How often a timer was given what is seen.
-use Rattle.std.proofs.Common.{◌≡◌, ◌∙◌, ℕ, suc, ◌+◌, ◌*◌, ◌≤◌, Bool, true, false, List, [], ◌∷◌, ◌++◌, refl, arith}
+use Rattle.std.proofs.Common.{◌≡◌, ◌∙◌, ℕ, suc, ◌+◌, ◌*◌, ◌≤◌, Bool, true, false, List, [], ◌∷◌, ◌++◌, nat_lt, refl, arith}
 use Rattle.px_transport.specs.Wires.{Adds}
 use Rattle.px_transport.proofs.Traffic.{adds_none, adds_then}
 use Rattle.node_loop.specs.Timing.{TimerEvent, looks, sends_if, looks_in, LooksTimes, MakesTurns}
@@ -25,7 +25,7 @@ looks_never a = ([], refl, adds_none a a (λ ts t. t))
 pub looks_once : (a b c : List TimerEvent → Type 0) (now : ℕ) (v : View) (t : PeerProgress) → Adds a b (looks now v t) →
     Adds b c (TimerEvent.Repeats now ∷ []) → LooksTimes 1 a c
 looks_once a b c now v t g h =
-    let none = sends_none t.is_accepting now in
+    let none = sends_none (nat_lt v.front t.accepting) now in
     let all = looks_append (looks now v t) (TimerEvent.Repeats now ∷ []) in
     (looks now v t ++ TimerEvent.Repeats now ∷ [], omega (arith, none, all), adds_then a b c (looks now v t) (TimerEvent.Repeats now ∷ []) g h)
 

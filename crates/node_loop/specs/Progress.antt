@@ -1,7 +1,7 @@
 -- What is seen of the other members' progress. The timer is given the time, how the node stands, and this; so a
 -- datagram that is nobody's changes nothing of it.
-use Rattle.std.specs.Prelude.{◌≡◌, ◌⊎◌, ℕ, zero, suc, ◌+◌, ◌==◌, ◌||◌, Bool, true, false}
-use Rattle.std.specs.Prelude.{List, Option, Some, None, not, min, max, replicate, slice_set}
+use Rattle.std.specs.Prelude.{◌≡◌, ◌⊎◌, ℕ, zero, suc, ◌+◌, ◌==◌, true, false}
+use Rattle.std.specs.Prelude.{List, Option, Some, None, min, max, replicate, slice_set, if◌then◌else◌}
 use Rattle.px_model.specs.Spelling.{Bytes}
 use Rattle.px_records.specs.declared.records.Records.{Ghosts}
 use Rattle.px_wire.specs.Message.{Message, group, DatagramBytes}
@@ -39,7 +39,7 @@ abbrev pub reaching : (position : ℕ) → PeerProgress → PeerProgress
 reaching p s = record {
   reached = max s.reached p;
   has_learned = s.has_learned;
-  is_accepting = s.is_accepting;
+  accepting = s.accepting;
   lacking = s.lacking;
 }
 
@@ -48,30 +48,31 @@ abbrev pub lacking : (from next : ℕ) → PeerProgress → PeerProgress
 lacking from next s = record {
   reached = s.reached;
   has_learned = s.has_learned;
-  is_accepting = s.is_accepting;
+  accepting = s.accepting;
   lacking = slice_set s.lacking from next;
 }
 
 -- an entry came that this member had asked for
 abbrev pub with_learned : PeerProgress → PeerProgress
-with_learned s = record { reached = s.reached; has_learned = true; is_accepting = s.is_accepting; lacking = s.lacking }
+with_learned s = record { reached = s.reached; has_learned = true; accepting = s.accepting; lacking = s.lacking }
 
--- an accept request came, which counts where another member sent it
-abbrev pub accepting : (is_others : Bool) → PeerProgress → PeerProgress
-accepting o s = record {
+-- an accept request came for the position before this one
+abbrev pub accepting : (next : ℕ) → PeerProgress → PeerProgress
+accepting next s = record {
   reached = s.reached;
   has_learned = s.has_learned;
-  is_accepting = s.is_accepting || o;
+  accepting = max s.accepting next;
   lacking = s.lacking;
 }
 
 -- what a message about this position shows beside how far its sender is, in 32 bits: a member that asks for promises
--- lacks the position, and whoever needs its entry is answered with that and lacks the next one
+-- lacks the position, and whoever needs its entry is answered with that and lacks the next one; an accept request counts
+-- where another member sent it
 abbrev pub noted_by : Kind → (from to position : ℕ) → PeerProgress → PeerProgress
 noted_by kinds.Prepare from to p s = lacking from (min (p + 1) 4294967295) s
 noted_by kinds.PrepareAll from to p s = lacking from (min (p + 1) 4294967295) s
 noted_by kinds.Need from to p s = lacking from (min (p + 2) 4294967295) s
-noted_by kinds.Accept from to p s = accepting (not (from == to)) s
+noted_by kinds.Accept from to p s = if from == to then s else accepting (min (p + 1) 4294967295) s
 noted_by kinds.Learned from to p s = with_learned s
 noted_by kinds.Vote from to p s = s
 noted_by kinds.Promise from to p s = s
@@ -96,7 +97,7 @@ shown_by h s = noted_if h h.position (reaching (learned_below h) s)
 
 -- what was seen, once it was looked at: how far others are stays
 abbrev pub looked : PeerProgress → PeerProgress
-looked s = record { reached = s.reached; has_learned = false; is_accepting = false; lacking = replicate 15 0 }
+looked s = record { reached = s.reached; has_learned = false; accepting = 0; lacking = replicate 15 0 }
 
 -- ---- what is seen as datagrams are taken
 

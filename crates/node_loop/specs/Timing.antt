@@ -1,7 +1,7 @@
 -- What a node's timer is given in a round: the time, how the node is, and what was seen of others, all as the datagrams
 -- that were taken left them. So one that is nobody's changes nothing of it.
 use Rattle.std.specs.Prelude.{◌≡◌, ◌≤◌, ℕ, suc, ◌*◌, ◌==◌, ◌&&◌, Bool, true, false, not, List, [], ◌∷◌, ◌++◌}
-use Rattle.std.specs.Prelude.{is_some, length}
+use Rattle.std.specs.Prelude.{is_some, length, nat_lt}
 use Rattle.px_model.specs.Step.{front}
 use Rattle.px_records.specs.declared.records.Records.{Ghosts}
 use Rattle.px_transport.specs.Wires.{Adds}
@@ -46,9 +46,9 @@ abbrev pub sends_if : Bool → (now : ℕ) → List TimerEvent
 sends_if true now = TimerEvent.Sends now ∷ []
 sends_if false now = []
 
--- what it is given at a look
+-- what it is given at a look: also that votes were sent, where they were for a position that isn't learned
 abbrev pub looks : (now : ℕ) → View → PeerProgress → List TimerEvent
-looks now v t = TimerEvent.Looks now v ∷ sends_if t.is_accepting now
+looks now v t = TimerEvent.Looks now v ∷ sends_if (nat_lt v.front t.accepting) now
 
 -- n datagrams were taken, one after the other; then the timer was given what they left to see, and nothing else; and
 -- what was seen was looked at.

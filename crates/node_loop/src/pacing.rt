@@ -467,12 +467,9 @@ impl Timer for TickTimer {
     fn sent(&mut self, now: u64)
         ensures times { AreTimes self.old self.new }
     {
-        // where what was sent has already led to something, nothing is left to be sent again
-        if self.is_proposing {
-            self.repeated = now;
-            self.repeats = 0;
-            self.is_timed = false;
-        }
+        self.repeated = now;
+        self.repeats = 0;
+        self.is_timed = false;
     }
 
     fn repeats(&mut self, now: u64) -> bool

@@ -1,6 +1,6 @@
 //! What messages tell of how far other members have come.
 
-ghost use Rattle.std.specs.Prelude.{◌≡◌, ◌==◌, not};
+ghost use Rattle.std.specs.Prelude.{◌≡◌};
 ghost use Rattle.node_loop.specs.Progress.{shown_by, noted, looked, reaching, lacking, with_learned, accepting};
 
 use px_wire::{Head, Kind};
@@ -13,8 +13,8 @@ pub(crate) struct PeerProgress {
     pub(crate) reached: u32,
     /// Whether an entry that was asked for has come since the last look.
     pub(crate) has_learned: bool,
-    /// Whether another's accept request has come since the last look.
-    pub(crate) is_accepting: bool,
+    /// One more than the last position of another's accept request that has come since the last look; 0 for none.
+    pub(crate) accepting: u32,
     /// For each member that has told since the last look how far it is: one more than the position from which on it is
     /// to be told what it lacks; 0 for the others.
     lacking: [u32; 15],
@@ -26,7 +26,7 @@ impl PeerProgress {
         PeerProgress {
             reached: 0,
             has_learned: false,
-            is_accepting: false,
+            accepting: 0,
             lacking: [0; 15],
         }
     }
@@ -38,7 +38,7 @@ impl PeerProgress {
         PeerProgress {
             reached: self.reached,
             has_learned: false,
-            is_accepting: false,
+            accepting: 0,
             lacking: [0; 15],
         }
     }
@@ -90,12 +90,12 @@ impl PeerProgress {
         }
     }
 
-    /// An accept request came, which counts where another member sent it.
-    fn accepting(self, is_others: bool) -> PeerProgress
-        ensures { result ≡ accepting is_others self }
+    /// An accept request came for the position before this one.
+    fn accepting(self, next: u32) -> PeerProgress
+        ensures { result ≡ accepting next self }
     {
         PeerProgress {
-            is_accepting: self.is_accepting || is_others,
+            accepting: self.accepting.max(next),
             ..self
         }
     }
@@ -110,9 +110,10 @@ impl PeerProgress {
                 self.lacking(head.from, position.saturating_add(1))
             }
             Kind::Need => self.lacking(head.from, position.saturating_add(2)),
-            Kind::Accept => self.accepting(head.from != head.to),
+            Kind::Accept if head.from != head.to => self.accepting(position.saturating_add(1)),
             Kind::Learned => self.with_learned(),
-            Kind::Vote
+            Kind::Accept
+            | Kind::Vote
             | Kind::Promise
             | Kind::PromiseAll
             | Kind::Nack

@@ -100,7 +100,7 @@ fn action<T: Timer>(timer: &mut T, peer_progress: &mut PeerProgress, now: u64, v
     ensures short { IsShort result }
 {
     let action = timer.action(now, view);
-    if peer_progress.is_accepting {
+    if view.front < peer_progress.accepting {
         timer.sent(now);
     }
     *peer_progress = peer_progress.looked();

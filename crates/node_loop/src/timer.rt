@@ -42,7 +42,7 @@ pub trait Timer {
         ensures timer_events { Adds (timer_events self.old) (timer_events self.new) (Looks now view ∷ []) }
         ensures short { IsShort result };
 
-    /// Votes for what another proposes were sent, which may be lost.
+    /// Votes were sent for what another proposes at a position that isn't learned; they may be lost.
     fn sent(&mut self, now: u64)
         ensures timer_events { Adds (timer_events self.old) (timer_events self.new) (Sends now ∷ []) };
 
