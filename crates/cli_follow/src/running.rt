@@ -239,6 +239,12 @@ fn memory<E: Write>(errors: &mut E) -> Status {
     }
 }
 
+/// That the output can't be written, said on standard error.
+fn closed<E: Write>(errors: &mut E) -> Status {
+    let _said = errors.write_all(b"pfx: the output is closed\n");
+    Status::Failed
+}
+
 /// What is to be written where.
 #[derive(Drop)]
 struct Places {
@@ -246,7 +252,7 @@ struct Places {
     interfaces: Option<Vec<u8>>,
     /// Whether those have the members' guard.
     is_guarded: bool,
-    /// rulesets for pfctl(8).
+    /// Rulesets for pfctl(8).
     files: Option<TextFiles>,
 }
 
@@ -366,7 +372,7 @@ fn followed<W: Write, E: Write>(
         errors,
     ) {
         Ok(()) => Status::Done,
-        Err(WriteFault::Closed) => Status::Failed,
+        Err(WriteFault::Closed) => closed(errors),
         Err(WriteFault::Another) => another(errors),
         Err(WriteFault::Memory) => memory(errors),
     }
