@@ -1,7 +1,7 @@
 //! What is seen of a node as it runs.
 
 ghost use Rattle.std.specs.Prelude.{◌≡◌, ◌==◌, ◌||◌, not, IfOk, string_bytes};
-ghost use Rattle.node_control.specs.inner.Watching.{proposal_in, proposed_by, proposed_after, proposed_then};
+ghost use Rattle.node_control.specs.inner.Watching.{proposed_by, proposed_after, proposed_then};
 ghost use Rattle.node_control.specs.inner.Watching.{is_proposed, stood_since, seconds_since};
 
 use crate::hearing::Hearing;
@@ -58,24 +58,6 @@ pub struct Observer {
     large: usize,
     has_packets: bool,
     hearing: Hearing,
-}
-
-/// The position at which the sender of a message with this head proposes a command, if it does.
-fn proposal_in(head: &Head) -> Option<u32>
-    ensures { result ≡ proposal_in head.now }
-{
-    match head.kind {
-        Kind::Prepare | Kind::PrepareAll | Kind::Accept => head.position,
-        Kind::Vote
-        | Kind::Need
-        | Kind::Learned
-        | Kind::Promise
-        | Kind::PromiseAll
-        | Kind::Nack
-        | Kind::Ask
-        | Kind::Asked
-        | Kind::AskRefused => None,
-    }
 }
 
 /// The proposal at the front or beyond it that is known, with one that comes now.
@@ -343,7 +325,7 @@ impl Observer {
         if head.from == head.to {
             return;
         }
-        self.proposed = proposed_then(self.front, self.now, proposal_in(head), self.proposed);
+        self.proposed = proposed_then(self.front, self.now, head.proposal(), self.proposed);
         if head.kind == Kind::Nack {
             self.outrun = self.outrun.saturating_add(1);
         }

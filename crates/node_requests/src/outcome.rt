@@ -3,36 +3,18 @@
 ghost use Rattle.std.specs.Prelude.{◌≡◌, ◌++◌, OnOk, string_bytes, option_map};
 ghost use Rattle.px_model.specs.Spelling.{spelled};
 ghost use Rattle.pf_entry.specs.Reading.{reading};
-ghost use Rattle.pf_entry.specs.Seen.{command_of};
-ghost use Rattle.pf_scripts.specs.Ctl.{is_counted};
 ghost use Rattle.pf_node.specs.Nodes.{learned_by, applied_of, kept_of};
 ghost use Rattle.node_requests.specs.Outcomes.{kept_line};
 ghost use Rattle.node_requests.specs.inner.Outcomes.{outcome_line, counts_read, counts_in};
 
 use pf_command::Applied;
-use pf_entry::{CommandView, decode};
+use pf_entry::decode;
 use pf_node::{Node, Outcome};
-use pf_scripts::{push_counts, push_refusal};
+use pf_scripts::{is_counted, push_counts, push_refusal};
 use px_records::Records;
 use std::alloc::{AllocError, Global};
 
-/// Whether a command's counts are shown: it changes one table.
-fn is_counted(command: &CommandView) -> bool
-    ensures { result ≡ is_counted (command_of command.now) }
-{
-    match command {
-        CommandView::Load { .. } => false,
-        CommandView::FlushRules { .. } => false,
-        CommandView::FlushTables { .. } => false,
-        CommandView::FlushAll { .. } => false,
-        CommandView::Add { .. } => true,
-        CommandView::Delete { .. } => true,
-        CommandView::Replace { .. } => true,
-        CommandView::FlushTable { .. } => true,
-    }
-}
-
-/// The same of the command that bytes spell.
+/// Whether the counts of the command that bytes spell are shown.
 fn counts_read(bytes: &[u8]) -> bool
     ensures { result ≡ counts_read (reading bytes.now) }
 {

@@ -31,16 +31,7 @@ IsAsk g node c bytes = DatagramBytes g 255 node (ask (lent_ask c)) bytes
 abbrev pub ask_answer : Message → Option AskAnswer
 ask_answer (asked t k) = if t == 1 then Some (Asked k) else None
 ask_answer (ask_refused t c) = if t == 1 then Some (Refused c) else None
-ask_answer (prepare b p) = None
-ask_answer (promise b p a) = None
-ask_answer (accept b p e) = None
-ask_answer (vote b p e) = None
-ask_answer (nack b p q) = None
-ask_answer (need p) = None
-ask_answer (learned p e) = None
-ask_answer (ask e) = None
-ask_answer (prepare_all b p) = None
-ask_answer (promise_all b p top a) = None
+ask_answer other = None
 
 -- the bytes spell a message of the node to one who is no member, and that is the answer
 abbrev pub IsAnswer : Group → (node : ℕ) → List ℕ → AskAnswer → Type 0

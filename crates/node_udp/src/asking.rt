@@ -94,11 +94,7 @@ fn ask_answer(message: &MessageView) -> Option<AskAnswer>
                 None
             }
         }
-        Message::Prepare { .. } | Message::PrepareAll { .. } => None,
-        Message::Promise { .. } | Message::PromiseAll { .. } => None,
-        Message::Accept { .. } | Message::Vote { .. } => None,
-        Message::Nack { .. } | Message::Need { .. } => None,
-        Message::Learned { .. } | Message::Ask { .. } => None,
+        _ => None,
     }
 }
 

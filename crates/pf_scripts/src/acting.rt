@@ -22,18 +22,18 @@ use pf_entry::BadEntry;
 use std::alloc::{AllocError, Global};
 
 /// Whether a command's counts are printed: it changes one table.
-fn is_counted(command: &Command) -> bool
-    ensures { result ≡ is_counted (command_value command.now) }
+pub fn is_counted(command: &CommandView) -> bool
+    ensures { result ≡ is_counted (command_of command.now) }
 {
     match command {
-        Command::Load { .. } => false,
-        Command::FlushRules { .. } => false,
-        Command::FlushTables { .. } => false,
-        Command::FlushAll { .. } => false,
-        Command::Add { .. } => true,
-        Command::Delete { .. } => true,
-        Command::Replace { .. } => true,
-        Command::FlushTable { .. } => true,
+        CommandView::Load { .. } => false,
+        CommandView::FlushRules { .. } => false,
+        CommandView::FlushTables { .. } => false,
+        CommandView::FlushAll { .. } => false,
+        CommandView::Add { .. } => true,
+        CommandView::Delete { .. } => true,
+        CommandView::Replace { .. } => true,
+        CommandView::FlushTable { .. } => true,
     }
 }
 
@@ -63,15 +63,14 @@ fn run_view(
     alloc: Global,
     config: &mut Config,
     command: &CommandView,
-    counts: bool,
     out: &mut String,
 ) -> Result<(), AllocError>
     ensures { OnOk result (Does (prints (after_command config.old (command_of command.now))
-        (change_line counts (effect config.old (command_of command.now))))
+        (change_line (is_counted (command_of command.now)) (effect config.old (command_of command.now))))
         config.new (string_bytes out.old) (string_bytes out.new)) }
 {
     match apply(alloc, config, command) {
-        Ok(applied) => push_counts(alloc, out, counts, applied),
+        Ok(applied) => push_counts(alloc, out, is_counted(command), applied),
         Err(ApplyFault::Memory) => Err(AllocError),
         Err(ApplyFault::Refused(code, at)) => push_refusal(alloc, out, code, at),
     }
@@ -89,7 +88,6 @@ fn run_change(
         (change_line (is_counted (command_value command)) (effect config.old (command_value command))))
         config.new (string_bytes out.old) (string_bytes out.new)) }
 {
-    let counts = is_counted(&command);
     let entry = Entry {
         origin: 0,
         number: 0,
@@ -101,7 +99,7 @@ fn run_change(
         Err(EncodeFault::TooLong) => unreachable!(),
     };
     match decode(&bytes) {
-        Ok(view) => run_view(alloc, config, &view.command, counts, out),
+        Ok(view) => run_view(alloc, config, &view.command, out),
         Err(BadEntry) => unreachable!(),
     }
 }

@@ -25,7 +25,7 @@ mod stepping;
 mod waiting;
 mod words_read;
 
-pub use acting::push_counts;
+pub use acting::{is_counted, push_counts};
 pub use lines::{Line, cut_line, push_bytes, spaced, texts, words_in};
 pub use listing::list;
 pub use pfctl::{file_in, is_standard, matches_in, takes_text};

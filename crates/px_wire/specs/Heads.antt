@@ -82,3 +82,22 @@ learned_by_head k (Some p) = learned_by k p
 -- the same by a head
 abbrev pub learned_below : Head → ℕ
 learned_below h = learned_by_head h.kind h.position
+
+-- the position at which the sender of a message of this kind, which is about this position, proposes a command
+abbrev pub proposal_by : Kind → (position : Option ℕ) → Option ℕ
+proposal_by kinds.Prepare p = p
+proposal_by kinds.PrepareAll p = p
+proposal_by kinds.Accept p = p
+proposal_by kinds.Vote p = None
+proposal_by kinds.Need p = None
+proposal_by kinds.Learned p = None
+proposal_by kinds.Promise p = None
+proposal_by kinds.PromiseAll p = None
+proposal_by kinds.Nack p = None
+proposal_by kinds.Ask p = None
+proposal_by kinds.Asked p = None
+proposal_by kinds.AskRefused p = None
+
+-- the same by a head
+abbrev pub proposal_in : Head → Option ℕ
+proposal_in h = proposal_by h.kind h.position

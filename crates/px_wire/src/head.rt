@@ -2,7 +2,7 @@
 
 ghost use Rattle.std.specs.Prelude.{◌≡◌, ◌++◌, ℕ, List, Some};
 ghost use Rattle.px_wire.specs.Message.{Group, Message, DatagramBytes};
-ghost use Rattle.px_wire.specs.Heads.{of_none, head_of, learned_below};
+ghost use Rattle.px_wire.specs.Heads.{of_none, head_of, learned_below, proposal_in};
 ghost use Rattle.px_wire.specs.inner.Heads.{ballot_in, position_in, asked_in, head_at, head_in};
 
 use crate::kind::Kind;
@@ -162,6 +162,24 @@ impl Head {
             Kind::Ask => 0,
             Kind::Asked => 0,
             Kind::AskRefused => 0,
+        }
+    }
+
+    /// The position at which the sender proposes a command, if it does.
+    pub fn proposal(&self) -> Option<u32>
+        ensures { result ≡ proposal_in self.now }
+    {
+        match self.kind {
+            Kind::Prepare | Kind::PrepareAll | Kind::Accept => self.position,
+            Kind::Vote
+            | Kind::Need
+            | Kind::Learned
+            | Kind::Promise
+            | Kind::PromiseAll
+            | Kind::Nack
+            | Kind::Ask
+            | Kind::Asked
+            | Kind::AskRefused => None,
         }
     }
 }

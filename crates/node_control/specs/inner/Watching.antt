@@ -3,28 +3,8 @@ use Rattle.std.specs.Prelude.{ℕ, ◌-◌, ◌/◌, ◌==◌, ◌&&◌, Bool, t
 use Rattle.std.specs.Prelude.{nat_le, nat_lt}
 use Rattle.std.specs.Prelude.{if◌then◌else◌}
 use Rattle.px_wire.specs.declared.head.Head.{Head}
-use Rattle.px_wire.specs.declared.kind.Kind.{Kind}
-use Rattle.px_wire.specs.declared.kind.Kind.TheVariants as kinds
+use Rattle.px_wire.specs.Heads.{proposal_in}
 use Rattle.node_control.specs.declared.observer.TheConstants.{PROPOSED}
-
--- the position at which the sender of a message of this kind, which is about this position, proposes a command
-abbrev pub proposal_by : Kind → (position : Option ℕ) → Option ℕ
-proposal_by kinds.Prepare p = p
-proposal_by kinds.PrepareAll p = p
-proposal_by kinds.Accept p = p
-proposal_by kinds.Vote p = None
-proposal_by kinds.Need p = None
-proposal_by kinds.Learned p = None
-proposal_by kinds.Promise p = None
-proposal_by kinds.PromiseAll p = None
-proposal_by kinds.Nack p = None
-proposal_by kinds.Ask p = None
-proposal_by kinds.Asked p = None
-proposal_by kinds.AskRefused p = None
-
--- the same by a head
-abbrev pub proposal_in : Head → Option ℕ
-proposal_in h = proposal_by h.kind h.position
 
 -- a proposal is kept where it isn't below the front; an older one stands else
 abbrev pub proposed_then : (front now : ℕ) → Option ℕ → (was : Option (ℕ × ℕ)) → Option (ℕ × ℕ)

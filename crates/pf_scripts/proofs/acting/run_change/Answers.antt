@@ -19,4 +19,4 @@ returns c =
     let e : Entry = record { origin = 0; number = 0; command = command_value c.args.command } in
     let same : entry_of c.in-Ok-decode.view ≡ e = c.in-Ok-decode.ensures.only e (subst (λ (bs : List ℕ). EntryBytes e bs) (sym c.deref.ensures.value) c.in-Ok.ensures.spelled) in
     let k : command_of c.in-Ok-decode.view.command ≡ command_value c.args.command = ap (λ (x : Entry). x.command) same in
-    subst (λ (x : Command). OnOk c.run_view.result (Does (prints (after_command c.args.config.now x) (change_line (is_counted (command_value c.args.command)) (effect c.args.config.now x))) c.run_view.new.config (string_bytes c.args.out.now) (string_bytes c.run_view.new.out))) k (rw (← c.is_counted-counts.ensures) c.run_view.ensures)
+    subst (λ (x : Command). OnOk c.run_view.result (Does (prints (after_command c.args.config.now x) (change_line (is_counted x) (effect c.args.config.now x))) c.run_view.new.config (string_bytes c.args.out.now) (string_bytes c.run_view.new.out))) k c.run_view.ensures
