@@ -5,8 +5,7 @@ use Rattle.pf_entry.specs.Entry as entries
 use Rattle.pf_entry.specs.Entry.{spelling}
 use Rattle.pf_entry.specs.Owned.{command_value}
 use Rattle.px_wire.specs.Message.{Group, Lent, Message, DatagramBytes}
-use Rattle.px_wire.specs.Message.{prepare, promise, accept, vote, nack, need, learned, ask, asked, ask_refused}
-use Rattle.px_wire.specs.Message.{prepare_all, promise_all}
+use Rattle.px_wire.specs.Message.{ask, asked, ask_refused}
 use Rattle.px_transport.specs.Wires.{WireEvent, gives}
 use Rattle.node_udp.specs.declared.answer.AskAnswer.{AskAnswer}
 use Rattle.node_udp.specs.declared.answer.AskAnswer.TheVariants.{Asked, Refused, NoAnswer}
