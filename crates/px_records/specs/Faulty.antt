@@ -1,5 +1,5 @@
 -- A keeper with one commit that fails.
-use Rattle.std.specs.Prelude.{◌≡◌, ◌≢◌, ℕ, Bool, true, false, if◌then◌else◌}
+use Rattle.std.specs.Prelude.{◌≡◌, ◌≢◌, ◌<◌, ℕ, Bool, true, false, if◌then◌else◌}
 use Rattle.std.proofs.Math.Nat.{suc-ne-zero}
 use Rattle.px_model.specs.Node.{Record}
 use Rattle.px_model.specs.Spelling.{Bytes}
@@ -43,13 +43,16 @@ IsSpared failed f = (failed_in failed f ≡ 0) × (f.left ≢ 1)
 abbrev pub FailsAlike : {R : Type 0} → (old new : FaultyRecords R) → Type 0
 FailsAlike old new = (new.left ≡ old.left) × (new.when ≡ old.when) × (new.has_failed ≡ old.has_failed)
 
--- a call that reads, in the terms of the record that it keeps
-abbrev pub IsReadBelow : {R : Type 0} → (honest : R → Type 0) → (stored : R → Record Bytes) →
-    (may_leave : R → Record Bytes → Type 0) → (failed : R → ℕ) → (good : R → Place → Type 0) →
-    (old new : FaultyRecords R) → Type 0
-IsReadBelow honest stored may_leave failed good =
-    IsRead (λ f. honest (inner_of f)) (λ f. stored (inner_of f)) (λ f. may_leave (inner_of f)) (failed_in failed)
-    (λ f. good (inner_of f))
+-- what a call that reads does, in the terms of the record that it keeps
+pub record ReadsBelow {R : Type 0} (honest trusted : R → Type 0) (stored : R → Record Bytes) (members : R → ℕ)
+    (may_leave : R → Record Bytes → Type 0) (failed : R → ℕ) (good : R → Place → Type 0)
+    (old new : FaultyRecords R) : Type 0 where
+  pub read : IsRead (λ (f : FaultyRecords R). honest (inner_of f)) (λ f. stored (inner_of f))
+      (λ f. may_leave (inner_of f)) (failed_in failed) (λ f. good (inner_of f)) old new
+  pub keeps : honest (inner_of old) → trusted (inner_of new) → honest (inner_of new)
+  pub later : 0 < failed_in failed old → new ≡ old
+  pub same : members (inner_of new) ≡ members (inner_of old)
+  pub alike : FailsAlike old new
 
 -- where none has failed, nor has the record
 pub none_inside : (has_failed : Bool) (inside : ℕ) → failures_of has_failed inside ≡ 0 → inside ≡ 0

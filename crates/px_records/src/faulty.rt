@@ -5,7 +5,7 @@ ghost use Rattle.px_model.specs.Fits.{MetaFits, SlotFits, EntryFits, ChangeFits}
 ghost use Rattle.px_model.specs.Seen.{meta_of, slot_of, change_of};
 ghost use Rattle.px_model.specs.Step.{commit as committed, top, positions};
 ghost use Rattle.px_records.specs.Faulty.{inner_of, left_of, when_of, has_failed_of, failures_of, none_inside};
-ghost use Rattle.px_records.specs.Faulty.{failed_in, IsDue, IsSpared, FailsAlike, IsReadBelow};
+ghost use Rattle.px_records.specs.Faulty.{failed_in, IsDue, IsSpared, FailsAlike, ReadsBelow};
 ghost use Rattle.px_records.specs.Records.{learned_of, Place, NamesGood, IsEnd, Rises};
 ghost use Rattle.px_records.specs.Records.{LeavesOne};
 ghost use Rattle.px_records.specs.Records.Place.{SlotAt, EntryAt, LastSlot, LastEntry};
@@ -97,13 +97,9 @@ impl<R: Records> Records for FaultyRecords<R> {
             IfOk result (λ m. meta_of m ≡ (R.stored (inner_of self.new)).meta) }
         ensures fits { IfOk result (λ m. MetaFits (R.members (inner_of self.old)) (meta_of m)) }
         ensures bad { result ≡ Err StoreFault.BadStore → ⊥ }
-        ensures read { IsReadBelow R.is_honest R.stored R.may_leave R.failed R.is_good self.old self.new }
-        ensures keeps { R.is_honest (inner_of self.old) → R.is_trusted (inner_of self.new) →
-            R.is_honest (inner_of self.new) }
         ensures counts { (result ≡ Err StoreFault.Failed) ↔ (0 < failed_in R.failed self.new) }
-        ensures later { 0 < failed_in R.failed self.old → self.new ≡ self.old }
-        ensures same { R.members (inner_of self.new) ≡ R.members (inner_of self.old) }
-        ensures alike { FailsAlike self.old self.new }
+        ensures reads { ReadsBelow R.is_honest R.is_trusted R.stored R.members R.may_leave R.failed R.is_good self.old
+            self.new }
     {
         if self.has_failed {
             return Err(StoreFault::Failed);
@@ -118,13 +114,9 @@ impl<R: Records> Records for FaultyRecords<R> {
         ensures good { R.is_honest (inner_of self.new) → OnOk result (R.is_good (inner_of self.new) (SlotAt position)) }
         ensures bad { R.is_honest (inner_of self.new) → result ≡ Err StoreFault.BadStore →
             R.is_good (inner_of self.old) (SlotAt position) → ⊥ }
-        ensures read { IsReadBelow R.is_honest R.stored R.may_leave R.failed R.is_good self.old self.new }
-        ensures keeps { R.is_honest (inner_of self.old) → R.is_trusted (inner_of self.new) →
-            R.is_honest (inner_of self.new) }
         ensures counts { (result ≡ Err StoreFault.Failed) ↔ (0 < failed_in R.failed self.new) }
-        ensures later { 0 < failed_in R.failed self.old → self.new ≡ self.old }
-        ensures same { R.members (inner_of self.new) ≡ R.members (inner_of self.old) }
-        ensures alike { FailsAlike self.old self.new }
+        ensures reads { ReadsBelow R.is_honest R.is_trusted R.stored R.members R.may_leave R.failed R.is_good self.old
+            self.new }
     {
         if self.has_failed {
             return Err(StoreFault::Failed);
@@ -141,13 +133,9 @@ impl<R: Records> Records for FaultyRecords<R> {
         ensures within { IfOk result (λ t. t ≤ positions) }
         ensures named { R.is_honest (inner_of self.new) →
             IfOk result (λ t. NamesGood (R.is_good (inner_of self.new)) SlotAt t) }
-        ensures read { IsReadBelow R.is_honest R.stored R.may_leave R.failed R.is_good self.old self.new }
-        ensures keeps { R.is_honest (inner_of self.old) → R.is_trusted (inner_of self.new) →
-            R.is_honest (inner_of self.new) }
         ensures counts { (result ≡ Err StoreFault.Failed) ↔ (0 < failed_in R.failed self.new) }
-        ensures later { 0 < failed_in R.failed self.old → self.new ≡ self.old }
-        ensures same { R.members (inner_of self.new) ≡ R.members (inner_of self.old) }
-        ensures alike { FailsAlike self.old self.new }
+        ensures reads { ReadsBelow R.is_honest R.is_trusted R.stored R.members R.may_leave R.failed R.is_good self.old
+            self.new }
     {
         if self.has_failed {
             return Err(StoreFault::Failed);
@@ -164,13 +152,9 @@ impl<R: Records> Records for FaultyRecords<R> {
             OnOk result (R.is_good (inner_of self.new) (EntryAt position)) }
         ensures bad { R.is_honest (inner_of self.new) → result ≡ Err StoreFault.BadStore →
             R.is_good (inner_of self.old) (EntryAt position) → ⊥ }
-        ensures read { IsReadBelow R.is_honest R.stored R.may_leave R.failed R.is_good self.old self.new }
-        ensures keeps { R.is_honest (inner_of self.old) → R.is_trusted (inner_of self.new) →
-            R.is_honest (inner_of self.new) }
         ensures counts { (result ≡ Err StoreFault.Failed) ↔ (0 < failed_in R.failed self.new) }
-        ensures later { 0 < failed_in R.failed self.old → self.new ≡ self.old }
-        ensures same { R.members (inner_of self.new) ≡ R.members (inner_of self.old) }
-        ensures alike { FailsAlike self.old self.new }
+        ensures reads { ReadsBelow R.is_honest R.is_trusted R.stored R.members R.may_leave R.failed R.is_good self.old
+            self.new }
     {
         if self.has_failed {
             return Err(StoreFault::Failed);
@@ -187,13 +171,9 @@ impl<R: Records> Records for FaultyRecords<R> {
         ensures within { IfOk result (λ end. end ≤ positions) }
         ensures named { R.is_honest (inner_of self.new) →
             IfOk result (λ end. NamesGood (R.is_good (inner_of self.new)) EntryAt end) }
-        ensures read { IsReadBelow R.is_honest R.stored R.may_leave R.failed R.is_good self.old self.new }
-        ensures keeps { R.is_honest (inner_of self.old) → R.is_trusted (inner_of self.new) →
-            R.is_honest (inner_of self.new) }
         ensures counts { (result ≡ Err StoreFault.Failed) ↔ (0 < failed_in R.failed self.new) }
-        ensures later { 0 < failed_in R.failed self.old → self.new ≡ self.old }
-        ensures same { R.members (inner_of self.new) ≡ R.members (inner_of self.old) }
-        ensures alike { FailsAlike self.old self.new }
+        ensures reads { ReadsBelow R.is_honest R.is_trusted R.stored R.members R.may_leave R.failed R.is_good self.old
+            self.new }
     {
         if self.has_failed {
             return Err(StoreFault::Failed);
