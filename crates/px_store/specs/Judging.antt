@@ -78,6 +78,10 @@ abbrev pub refusal : Format → Identity → Trees → Option AdoptFault
 refusal f i db = refusal_of (number_of f) i (seen meta_columns (db 0) 1) (seen floor_columns (trees_at f db 2) 1)
     (has_rows (db 1) || has_rows (trees_at f db 3))
 
+-- what it is answered about them where the store isn't new: without the row for the whole node it has lost its promises
+abbrev pub reopen_refusal : Format → Identity → Trees → Option AdoptFault
+reopen_refusal f i db = if has_rows (seen meta_columns (db 0) 1) then refusal f i db else Some BadStore
+
 -- the rows of a store of format 3 that is this node's
 pub record IsOwn (i : Identity) (db : Trees) : Type 0 where
   pub row : has_rows (seen meta_columns (db 0) 1) ≡ true

@@ -6,9 +6,10 @@ ghost use Rattle.sqlite.specs.State.{HasCleanDisk};
 ghost use Rattle.sqlite_value.specs.Order.{column};
 ghost use Rattle.px_store.specs.Seen.{seen, meta_columns, floor_columns, number_at, number_in};
 ghost use Rattle.px_store.specs.inner.Effect.{LeavesOld, IsAlike, IsStill};
-ghost use Rattle.px_store.specs.Formats.{trees_at, has_table};
+ghost use Rattle.px_store.specs.Formats.{schema_at, trees_at, has_table};
 ghost use Rattle.px_store.specs.Adopting.{Began, IsSame, IsVerdict};
 ghost use Rattle.px_store.specs.Judging.{has_rows, says_format, says_member, says_numbers, is_member_of};
+ghost use Rattle.px_store.specs.inner.Adopting.{IsRefused};
 ghost use Rattle.px_store.specs.inner.Judging.{rows_in};
 ghost use Rattle.px_store.specs.Judging.{is_owner, row_refusal, refusal_of};
 ghost use Rattle.px_store.specs.inner.Questions.{Answers, table_of};
@@ -18,6 +19,7 @@ use crate::calls::{Identity, Question, Trouble, get};
 use crate::fault::AdoptFault;
 use crate::formats::Format;
 use crate::reading::{NUMBERS, ReadFault, floor_in_rows, number};
+use crate::tables::format_in;
 use sqlite::{Alter, Connection, Row};
 
 /// What the row for the whole node says, or nothing.
@@ -56,6 +58,42 @@ pub(crate) fn look<S: Alter>(
         Ok(rows) => Ok(Some(rows)),
         Err(Trouble::Memory) => Err(AdoptFault::Memory),
         Err(Trouble::Failed) => Err(AdoptFault::Failed),
+    }
+}
+
+/// Refuses a store that has lost what its node promised: 73 without the tables of a format, 72 without the row for the
+/// whole node.
+pub(crate) fn refuse_lost<S: Alter>(conn: &mut Connection<S>) -> Result<(), AdoptFault>
+    ensures known { OnOk result ((f : Format) × Began f (state S.Store conn.old)) }
+    ensures unknown { (state S.Store conn.old).in_transaction ≡ false →
+        ((f : Format) → (state S.Store conn.old).now.schema ≡ schema_at f → ⊥) →
+        (result ≡ Err AdoptFault.StoreVersion) × (conn.new ≡ conn.old) }
+    ensures row { HasCleanDisk (state S.Store conn.new) →
+        OnOk result (has_rows (seen meta_columns ((state S.Store conn.old).now.trees 0) 1) ≡ true) }
+    ensures refused { HasCleanDisk (state S.Store conn.new) → IfErr result (λ e. IsVerdict e →
+        ((e ≡ AdoptFault.StoreVersion) × ((f : Format) → Began f (state S.Store conn.old) → ⊥)) ⊎
+        ((e ≡ AdoptFault.BadStore) × (has_rows (seen meta_columns ((state S.Store conn.old).now.trees 0) 1) ≡
+        false))) }
+    ensures as_it_was { HasCleanDisk (state S.Store conn.new) → IsRefused result →
+        IsSame (state S.Store conn.old) (state S.Store conn.new) }
+    ensures stays { HasCleanDisk (state S.Store conn.new) →
+        OnOk result (IsSame (state S.Store conn.old) (state S.Store conn.new)) }
+    ensures clean { HasCleanDisk (state S.Store conn.new) → HasCleanDisk (state S.Store conn.old) }
+    ensures crash { HasCleanDisk (state S.Store conn.new) →
+        LeavesOld (state S.Store conn.old) (state S.Store conn.new) }
+{
+    if !conn.is_autocommit() {
+        return Err(AdoptFault::Failed);
+    }
+    let found = format_in(conn.schema());
+    let Some(format) = found else {
+        return Err(AdoptFault::StoreVersion);
+    };
+    let rows = look(conn, format, Question::Meta)?;
+    if has_rows(rows_in(&rows)) {
+        Ok(())
+    } else {
+        Err(AdoptFault::BadStore)
     }
 }
 

@@ -53,8 +53,10 @@
 //!   whole, which show the record and which a member may take again. sqlite's contracts say nothing of the schema
 //!   that an opening finds after a stop: it finds the four tables or answers 73, where it finds any. That they
 //!   stand then is tested by rows_stores, which stops at each file call and counts the tables.
-//! - Whether a store is new isn't in the store: one that has lost all its tables looks as one that never had any. So
-//!   the caller says it, by `adopt` or `reopen`; a node that forgets what it promised could vote twice.
+//! - Whether a store is new isn't in the store: one that has lost all its tables looks as one that never had any, and
+//!   one that has lost all its rows as one with tables that were just made. So the caller says it, by `adopt` or
+//!   `reopen`; a node that forgets what it promised could vote twice. Tables and the row for the whole node are made in
+//!   one transaction: no stop leaves the tables alone.
 //! - A keeper of which a stop leaves nothing at all would meet every clause on stops. So `Records` has two laws:
 //!   while no call has failed a stop leaves no more than what is stored (`settled`), and no less (`stays`).
 //! - **`read_top` reads the last position with a ballot, `read_learned_end` the last learned one**, from the end of the

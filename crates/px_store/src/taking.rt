@@ -6,17 +6,17 @@ ghost use Rattle.px_model.specs.World.{nothing_stored};
 ghost use Rattle.px_store.specs.Tables.{no_schema};
 ghost use Rattle.px_store.specs.Formats.{record_at};
 ghost use Rattle.px_store.specs.Adopting.{IsVerdict, IsKnown, IsSame, Began, IsMade, IsBrought, LeavesOr};
-ghost use Rattle.px_store.specs.Judging.{refusal, IsOwn};
+ghost use Rattle.px_store.specs.Judging.{refusal, reopen_refusal, IsOwn};
 ghost use Rattle.px_store.specs.View.{connection_of, connection_after, IsOpened};
 
 use crate::adopt::bring;
 use crate::ahead::Ahead;
 use crate::calls::Identity;
 use crate::fault::AdoptFault;
+use crate::finding::refuse_lost;
 use crate::formats::Format;
 use crate::keeper::SqlRecords;
 use crate::opening::read_again;
-use crate::tables::has_none;
 use px_records::Records;
 use sqlite::{Alter, Connection};
 use std::alloc::Global;
@@ -90,11 +90,12 @@ impl<S: Alter> SqlRecords<S> {
     }
 
     /// The record in a store that isn't new: as [`adopt`](SqlRecords::adopt), but a store without tables is refused
-    /// with 73, and isn't written to. Such a store has lost its tables, and with them what its node promised and
-    /// accepted; or a stop came before its first start had made them, and its node has promised nothing.
+    /// with 73, one without the row for the whole node with 72, and neither is written to. Such a store has lost what
+    /// its node promised and accepted; or, without tables, a stop came before its first start had made them, and its
+    /// node has promised nothing.
     pub fn reopen(
         alloc: Global,
-        conn: Connection<S>,
+        mut conn: Connection<S>,
         identity: Identity,
     ) -> Result<SqlRecords<S>, (AdoptFault, Connection<S>)>
         ensures begins { IfOk result (λ r. ⟦<SqlRecords<S> as Records>⟧.failed r ≡ 0) }
@@ -112,10 +113,10 @@ impl<S: Alter> SqlRecords<S> {
         ensures rows { IfOk result (λ r. HasCleanDisk (state S.Store (connection_of r)) → (f : Format) →
             Began f (state S.Store conn) → IsOpened S.Store r (record_at f (state S.Store conn).now.trees)) }
         ensures adopted { IfOk result (λ r. HasCleanDisk (state S.Store (connection_of r)) → (f : Format) →
-            Began f (state S.Store conn) → refusal f identity (state S.Store conn).now.trees ≡ None) }
+            Began f (state S.Store conn) → reopen_refusal f identity (state S.Store conn).now.trees ≡ None) }
         ensures judged { IfErr result (λ e. HasCleanDisk (state S.Store e.1) → (f : Format) →
             Began f (state S.Store conn) →
-            IsVerdict e.0 → refusal f identity (state S.Store conn).now.trees ≡ Some e.0) }
+            IsVerdict e.0 → reopen_refusal f identity (state S.Store conn).now.trees ≡ Some e.0) }
         ensures found { IfOk result (λ r. HasCleanDisk (state S.Store (connection_of r)) →
             IsOwn identity (state S.Store conn).now.trees →
             IsOpened S.Store r (record_at Format.Three (state S.Store conn).now.trees)) }
@@ -125,10 +126,10 @@ impl<S: Alter> SqlRecords<S> {
             Began f (state S.Store conn) → LeavesOr (IsBrought f identity (state S.Store conn).now.trees)
             (state S.Store conn) (state S.Store (connection_after result)) }
     {
-        if conn.is_autocommit() && has_none(conn.schema()) {
-            return Err((AdoptFault::StoreVersion, conn));
+        match refuse_lost(&mut conn) {
+            Ok(()) => SqlRecords::adopt(alloc, conn, identity),
+            Err(fault) => Err((fault, conn)),
         }
-        SqlRecords::adopt(alloc, conn, identity)
     }
 
     /// Gives the connection back, to be closed or taken again. It takes no memory, and may be called after a failure.

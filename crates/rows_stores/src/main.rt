@@ -32,7 +32,7 @@
 //! - **Each line is done as one process after the other would leave its file.** A record is found again by the next
 //!   opening; another cluster's is refused with 71. Stores of format 1 and 2 are brought to format 3 with their rows;
 //!   an unknown format is 73, and 72 where a row is missing beside others. A store that isn't new is 73 without its
-//!   tables; with them alone, and no row, it is that of a node that has promised nothing. Positions, numbers and entries
+//!   tables, and 72 without the row for the whole node, though the tables are there. Positions, numbers and entries
 //!   serve up to their bounds, and past them the opening or the read is 72. A file of text, a folder, a path in no
 //!   folder and a store cut short don't open, which a node answers with 70. A store that is open doesn't open a second
 //!   time, and the first goes on. Nor does a store open for a user who may not write it, and it isn't changed: that was
