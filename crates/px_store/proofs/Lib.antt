@@ -12,9 +12,9 @@
 --   std's lemmas, but no tactic.
 -- - What is put leaves the rows beside its key as one list (`Puts.others`, over `without_rowid`): rows under another key
 --   follow (`others_at`), and so does what speaks of all rows, as that the last one is good (`Good.last_stays`).
--- - What is put is a `NewRow` and what is asked a `Question`: one function runs the statements of each (`run`, `ask`),
---   and one record says what a call makes of a connection (`Wrote`, `Looked`), so that `put` and `get` have two clauses
---   each. What is particular to a statement is in lemmas by cases (`NewRows`, `Questions`).
+-- - What is put is a `NewRow`, what is asked a `Question` and what is made a `NewTable`: one function runs the statements
+--   of each (`run`, `ask`, `run_table`), and one record says what a call makes of a connection (`Wrote`, `Looked`,
+--   `Grows`). What is particular to a statement is in lemmas by cases (`NewRows`, `Questions`, `Makes`).
 -- - A text's meaning stands as a literal in `Texts.antt`, by `refl` with `unfolding understood everything`, of a question
 --   in each format. One lemma on `INSERT OR REPLACE .. VALUES` serves all six changes (`Puts.replaced`).
 -- - The proofs speak of `Stored`, one record of what a connection shows (`view_of`), and not of the struct; the trait's
@@ -37,7 +37,7 @@
 --   they stand, and its value follows. Of the result `Option<Format>` two clauses, `is` and `all`, serve callers better
 --   than one equivalence.
 -- - **`FaultyRecords`**: a method of an impl that has clauses of its own repeats all of its trait's, in the terms of the
---   impl; then each closes by itself.
+--   impl, those of every call that reads as one record (`ReadsBelow`); then each closes by itself.
 -- - A program over `FileStore<File>` is dear, some 2 GB and minutes for each function that names it: give the work to
 --   functions over `R: Records` and `S: Alter`, and name the store in the one that opens it (rows_stores).
 -- - A loop that commits keeps `g.R.Records.members l.records ≡ 3` as its invariant, and nothing else.

@@ -14,6 +14,10 @@ use Rattle.sqlite.specs.State.{State, Writes, Executes}
 use Rattle.sqlite.proofs.Callers.{IsPlain, command_of, statement_of, runs_as}
 use Rattle.px_store.specs.Tables.{no_schema, schema_1, schema_2, meta, slots, floor, learned}
 use Rattle.px_store.specs.inner.Tables.{meta_schema, make_meta, make_slots, make_floor, make_learned}
+use Rattle.std.specs.Prelude.{IsTrue}
+use Rattle.px_store.specs.inner.Making.{text_of, schema_before, Grows}
+use Rattle.px_store.specs.declared.making.NewTable.{NewTable}
+use Rattle.px_store.specs.declared.making.NewTable.TheVariants.{Meta, Slots, Floor, Learned}
 use Rattle.px_store.proofs.Puts.{went, same_value}
 
 pub record IsCreate (schema : Schema) (text : List ℕ) (table : Table) : Type 0 where
@@ -55,3 +59,10 @@ creates schema text table it old new count has h =
       ap (λ (d : Database). d.trees (next_tree schema)) now ∙ subst (λ s. first.0.trees (next_tree s) ≡ []) has made.empty,
       subst (λ (d : Database). KeepsRows schema.tables old.now.trees d.trees) (sym now) (subst (λ s. KeepsRows s.tables old.now.trees first.0.trees) has made.others),
     )
+
+-- each table is made behind those before it
+pub grows : (table : NewTable) (old new : State) (count : ℕ) → old.now.schema ≡ schema_before table → Executes (text_of table) [] old new (Ok count) → IsTrue new.in_transaction → Grows table old new
+grows Meta old new count has h inside = let it = creates no_schema make_meta meta makes_meta old new count has h in record { schema = it.0; empty = it.1; keeps = it.2; inside = inside }
+grows Slots old new count has h inside = let it = creates meta_schema make_slots (record slots { tree = 0 }) makes_slots old new count has h in record { schema = it.0; empty = it.1; keeps = it.2; inside = inside }
+grows Floor old new count has h inside = let it = creates schema_1 make_floor (record floor { tree = 0 }) makes_floor old new count has h in record { schema = it.0; empty = it.1; keeps = it.2; inside = inside }
+grows Learned old new count has h inside = let it = creates schema_2 make_learned (record learned { tree = 0 }) makes_learned old new count has h in record { schema = it.0; empty = it.1; keeps = it.2; inside = inside }

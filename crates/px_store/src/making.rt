@@ -2,83 +2,67 @@
 ghost use Rattle.std.specs.Prelude.{◌≡◌, ◌<◌, ◌^◌, false, [], IsTrue, OnOk};
 ghost use Rattle.sqlite.specs.Held.{state};
 ghost use Rattle.sqlite.specs.State.{HasCleanDisk, ExecutesInside, Survives};
-ghost use Rattle.px_store.specs.Tables.{no_schema, schema_1, schema_2, schema_3};
-ghost use Rattle.px_store.specs.inner.Tables.{meta_schema, put_meta, meta_params};
+ghost use Rattle.px_store.specs.Tables.{no_schema, schema_3};
+ghost use Rattle.px_store.specs.inner.Tables.{put_meta, meta_params};
 ghost use Rattle.px_store.specs.inner.Effect.{LeavesOld};
 ghost use Rattle.px_store.specs.Formats.{schema_at, trees_at};
 ghost use Rattle.px_store.specs.Adopting.{AreBrought, LeavesOr};
-ghost use Rattle.px_store.specs.inner.Making.{Grows, PutsMeta, Brought, Raised, with_floor};
+ghost use Rattle.px_store.specs.inner.Making.{text_of, schema_before, Grows, PutsMeta, Brought, Raised};
 ghost use Rattle.px_store.specs.declared.reading.TheConstants.{INTEGERS};
 
 use crate::calls::{Identity, signed};
 use crate::formats::Format;
 use sqlite::{Alter, Connection, Error, Transaction, params};
 
-fn make_meta<S: Alter>(tx: &mut Transaction<'_, S>) -> Result<(), Error>
-    ensures same_reference { tx.new.conn.ghost_name ≡ tx.old.conn.ghost_name }
-    ensures clean { HasCleanDisk (state S.Store tx.new.conn.now) → HasCleanDisk (state S.Store tx.old.conn.now) }
-    ensures crash { HasCleanDisk (state S.Store tx.new.conn.now) →
-        LeavesOld (state S.Store tx.old.conn.now) (state S.Store tx.new.conn.now) }
-    ensures made { HasCleanDisk (state S.Store tx.new.conn.now) →
-        IsTrue (state S.Store tx.old.conn.now).in_transaction →
-        (state S.Store tx.old.conn.now).now.schema ≡ no_schema →
-        OnOk result (Grows no_schema meta_schema 0 (state S.Store tx.old.conn.now) (state S.Store tx.new.conn.now)) }
-{
-    tx.execute(
-        "CREATE TABLE meta (id INTEGER PRIMARY KEY CHECK (id = 1), format INTEGER NOT NULL, cluster INTEGER NOT NULL, members INTEGER NOT NULL, node INTEGER NOT NULL, round INTEGER NOT NULL, number INTEGER NOT NULL) STRICT",
-        &[],
-    )?;
-    Ok(())
+/// A table of format 3.
+#[derive(Clone, Copy)]
+pub(crate) enum NewTable {
+    Meta,
+    Slots,
+    Floor,
+    Learned,
 }
 
-fn make_slots<S: Alter>(tx: &mut Transaction<'_, S>) -> Result<(), Error>
+/// Runs the statement that makes a table.
+fn run_table<S: Alter>(tx: &mut Transaction<'_, S>, table: NewTable) -> Result<usize, Error>
     ensures same_reference { tx.new.conn.ghost_name ≡ tx.old.conn.ghost_name }
-    ensures clean { HasCleanDisk (state S.Store tx.new.conn.now) → HasCleanDisk (state S.Store tx.old.conn.now) }
-    ensures crash { HasCleanDisk (state S.Store tx.new.conn.now) →
-        LeavesOld (state S.Store tx.old.conn.now) (state S.Store tx.new.conn.now) }
-    ensures made { HasCleanDisk (state S.Store tx.new.conn.now) →
+    ensures runs { HasCleanDisk (state S.Store tx.new.conn.now) →
         IsTrue (state S.Store tx.old.conn.now).in_transaction →
-        (state S.Store tx.old.conn.now).now.schema ≡ meta_schema →
-        OnOk result (Grows meta_schema schema_1 1 (state S.Store tx.old.conn.now) (state S.Store tx.new.conn.now)) }
+        ExecutesInside 0 (text_of table) [] (state S.Store tx.old.conn.now) (state S.Store tx.new.conn.now) result }
+    ensures survives { Survives (state S.Store tx.old.conn.now) (state S.Store tx.new.conn.now) (λ _. ⊥) }
 {
-    tx.execute(
-        "CREATE TABLE slots (position INTEGER PRIMARY KEY, promised INTEGER NOT NULL, ballot INTEGER NOT NULL, entry BLOB NOT NULL) STRICT",
-        &[],
-    )?;
-    Ok(())
+    match table {
+        NewTable::Meta => tx.execute(
+            "CREATE TABLE meta (id INTEGER PRIMARY KEY CHECK (id = 1), format INTEGER NOT NULL, cluster INTEGER NOT NULL, members INTEGER NOT NULL, node INTEGER NOT NULL, round INTEGER NOT NULL, number INTEGER NOT NULL) STRICT",
+            &[],
+        ),
+        NewTable::Slots => tx.execute(
+            "CREATE TABLE slots (position INTEGER PRIMARY KEY, promised INTEGER NOT NULL, ballot INTEGER NOT NULL, entry BLOB NOT NULL) STRICT",
+            &[],
+        ),
+        NewTable::Floor => tx.execute(
+            "CREATE TABLE floor (id INTEGER PRIMARY KEY CHECK (id = 1), ballot INTEGER NOT NULL) STRICT",
+            &[],
+        ),
+        NewTable::Learned => tx.execute(
+            "CREATE TABLE learned (position INTEGER PRIMARY KEY, entry BLOB NOT NULL) STRICT",
+            &[],
+        ),
+    }
 }
 
-fn make_floor<S: Alter>(tx: &mut Transaction<'_, S>) -> Result<(), Error>
+/// Makes a table behind those that come before it.
+fn make_table<S: Alter>(tx: &mut Transaction<'_, S>, table: NewTable) -> Result<(), Error>
     ensures same_reference { tx.new.conn.ghost_name ≡ tx.old.conn.ghost_name }
     ensures clean { HasCleanDisk (state S.Store tx.new.conn.now) → HasCleanDisk (state S.Store tx.old.conn.now) }
     ensures crash { HasCleanDisk (state S.Store tx.new.conn.now) →
         LeavesOld (state S.Store tx.old.conn.now) (state S.Store tx.new.conn.now) }
     ensures made { HasCleanDisk (state S.Store tx.new.conn.now) →
         IsTrue (state S.Store tx.old.conn.now).in_transaction →
-        (state S.Store tx.old.conn.now).now.schema ≡ schema_1 →
-        OnOk result (Grows schema_1 schema_2 2 (state S.Store tx.old.conn.now) (state S.Store tx.new.conn.now)) }
+        (state S.Store tx.old.conn.now).now.schema ≡ schema_before table →
+        OnOk result (Grows table (state S.Store tx.old.conn.now) (state S.Store tx.new.conn.now)) }
 {
-    tx.execute(
-        "CREATE TABLE floor (id INTEGER PRIMARY KEY CHECK (id = 1), ballot INTEGER NOT NULL) STRICT",
-        &[],
-    )?;
-    Ok(())
-}
-
-fn make_learned<S: Alter>(tx: &mut Transaction<'_, S>) -> Result<(), Error>
-    ensures same_reference { tx.new.conn.ghost_name ≡ tx.old.conn.ghost_name }
-    ensures clean { HasCleanDisk (state S.Store tx.new.conn.now) → HasCleanDisk (state S.Store tx.old.conn.now) }
-    ensures crash { HasCleanDisk (state S.Store tx.new.conn.now) →
-        LeavesOld (state S.Store tx.old.conn.now) (state S.Store tx.new.conn.now) }
-    ensures made { HasCleanDisk (state S.Store tx.new.conn.now) →
-        IsTrue (state S.Store tx.old.conn.now).in_transaction →
-        (state S.Store tx.old.conn.now).now.schema ≡ schema_2 →
-        OnOk result (Grows schema_2 schema_3 3 (state S.Store tx.old.conn.now) (state S.Store tx.new.conn.now)) }
-{
-    tx.execute(
-        "CREATE TABLE learned (position INTEGER PRIMARY KEY, entry BLOB NOT NULL) STRICT",
-        &[],
-    )?;
+    run_table(tx, table)?;
     Ok(())
 }
 
@@ -132,39 +116,25 @@ fn set_row<S: Alter>(
     Ok(())
 }
 
-/// Makes the table of the floor, where the format lacks it.
-fn add_floor<S: Alter>(tx: &mut Transaction<'_, S>, format: Format) -> Result<(), Error>
+/// Makes the tables that a format lacks.
+fn add_tables<S: Alter>(tx: &mut Transaction<'_, S>, format: Format) -> Result<(), Error>
     ensures same_reference { tx.new.conn.ghost_name ≡ tx.old.conn.ghost_name }
     ensures clean { HasCleanDisk (state S.Store tx.new.conn.now) → HasCleanDisk (state S.Store tx.old.conn.now) }
     ensures crash { HasCleanDisk (state S.Store tx.new.conn.now) →
         LeavesOld (state S.Store tx.old.conn.now) (state S.Store tx.new.conn.now) }
     ensures made { HasCleanDisk (state S.Store tx.new.conn.now) →
         IsTrue (state S.Store tx.old.conn.now).in_transaction →
-        (state S.Store tx.old.conn.now).now.schema ≡ schema_at format → OnOk result (Raised format (with_floor format)
-        (state S.Store tx.old.conn.now) (state S.Store tx.new.conn.now)) }
+        (state S.Store tx.old.conn.now).now.schema ≡ schema_at format →
+        OnOk result (Raised format (state S.Store tx.old.conn.now) (state S.Store tx.new.conn.now)) }
 {
-    if format.has_table(2) {
-        return Ok(());
+    match format {
+        Format::One => {
+            make_table(tx, NewTable::Floor)?;
+            make_table(tx, NewTable::Learned)
+        }
+        Format::Two => make_table(tx, NewTable::Learned),
+        Format::Three => Ok(()),
     }
-    make_floor(tx)
-}
-
-/// Makes the table of what is learned, where a format that has a floor lacks it.
-fn add_learned<S: Alter>(tx: &mut Transaction<'_, S>, format: Format) -> Result<(), Error>
-    ensures same_reference { tx.new.conn.ghost_name ≡ tx.old.conn.ghost_name }
-    ensures clean { HasCleanDisk (state S.Store tx.new.conn.now) → HasCleanDisk (state S.Store tx.old.conn.now) }
-    ensures crash { HasCleanDisk (state S.Store tx.new.conn.now) →
-        LeavesOld (state S.Store tx.old.conn.now) (state S.Store tx.new.conn.now) }
-    ensures made { HasCleanDisk (state S.Store tx.new.conn.now) →
-        IsTrue (state S.Store tx.old.conn.now).in_transaction →
-        (state S.Store tx.old.conn.now).now.schema ≡ schema_at (with_floor format) →
-        OnOk result (Raised (with_floor format) Format.Three (state S.Store tx.old.conn.now)
-        (state S.Store tx.new.conn.now)) }
-{
-    if format.has_table(3) {
-        return Ok(());
-    }
-    make_learned(tx)
 }
 
 /// Makes the tables and the row of an empty store, in one transaction.
@@ -177,10 +147,10 @@ pub(crate) fn make_anew<S: Alter>(conn: &mut Connection<S>, identity: Identity) 
         OnOk result (Brought identity 0 0 [] [] [] (state S.Store conn.new)) }
 {
     let mut tx = conn.transaction();
-    make_meta(&mut tx)?;
-    make_slots(&mut tx)?;
-    make_floor(&mut tx)?;
-    make_learned(&mut tx)?;
+    make_table(&mut tx, NewTable::Meta)?;
+    make_table(&mut tx, NewTable::Slots)?;
+    make_table(&mut tx, NewTable::Floor)?;
+    make_table(&mut tx, NewTable::Learned)?;
     set_row(&mut tx, identity, 0, 0)?;
     tx.commit()
 }
@@ -207,8 +177,7 @@ pub(crate) fn make_rest<S: Alter>(
         (state S.Store conn.new)) }
 {
     let mut tx = conn.transaction();
-    add_floor(&mut tx, format)?;
-    add_learned(&mut tx, format)?;
+    add_tables(&mut tx, format)?;
     set_row(&mut tx, identity, round, number)?;
     tx.commit()
 }
