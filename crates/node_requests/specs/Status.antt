@@ -1,4 +1,4 @@
--- The lines of a node's status.
+-- A node's status: its figures, and the lines that show them.
 use Rattle.std.specs.Prelude.{ℕ, Bool, true, false, List, [], ◌∷◌, ◌++◌, Option, Some, None}
 use Rattle.std.specs.Prelude.{codes, decimal, string_bytes}
 use Rattle.std.specs.List.{flat_map}
@@ -10,74 +10,87 @@ use Rattle.node_requests.specs.declared.counters.PeerCounters.{PeerCounters}
 use Rattle.node_requests.specs.declared.counters.Counters.{Counters}
 use Rattle.node_requests.specs.Health.{health_word}
 
--- a string and the number behind it
-abbrev pub field : Text × ℕ → List ℕ
-field f = f.0 ++ decimal f.1
+-- ---- figures
 
--- the same of several, one behind the other
-abbrev pub fields : List (Text × ℕ) → List ℕ
-fields list = flat_map field list
+-- a figure: its name, and its number, none of what never was
+abbrev pub Row : Type 0
+Row = Text × Option ℕ
 
--- how many seconds ago a datagram came, or that none ever did
+-- who the node is; its members have one name in lines, and another in JSON
+unfoldable pub identity : Figures → (up : ℕ) → (members : Text) → List Row
+identity f up members =
+    (codes "node", Some f.node) ∷ (members, Some f.members) ∷ (codes "cluster", Some f.cluster)
+    ∷ (codes "up", Some up) ∷ []
+
+-- how far it is
+unfoldable pub progress : Figures → List Row
+progress f =
+    (codes "front", Some f.front) ∷ (codes "applied", Some f.applied) ∷ (codes "round", Some f.round)
+    ∷ (codes "waiting", Some f.waiting) ∷ (codes "left", Some f.left) ∷ []
+
+-- why its front may stand
+unfoldable pub stall : Counters → List Row
+stall t = (codes "stood", Some t.stood) ∷ (codes "outrun", Some t.outrun) ∷ (codes "large", Some t.large) ∷ []
+
+-- how much its configuration has
+unfoldable pub sizes : Figures → List Row
+sizes f =
+    (codes "anchors", Some f.anchors) ∷ (codes "rules", Some f.rules) ∷ (codes "tables", Some f.tables)
+    ∷ (codes "addresses", Some f.addresses) ∷ []
+
+-- a peer: its number, how many seconds ago a datagram came, and how many came and went
+unfoldable pub peer_rows : (name : Text) → PeerCounters → List Row
+peer_rows name p =
+    (name, Some p.node) ∷ (codes "heard", p.heard) ∷ (codes "in", Some p.datagrams_in)
+    ∷ (codes "out", Some p.datagrams_out) ∷ []
+
+-- what the wire counted
+unfoldable pub losses : Counters → List Row
+losses t = (codes "unsent", Some t.unsent) ∷ (codes "dropped", Some t.dropped) ∷ (codes "ignored", Some t.ignored) ∷ []
+
+-- what the control socket counted
+unfoldable pub control : Counters → List Row
+control t = (codes "clients", Some t.clients) ∷ (codes "served", Some t.served) ∷ (codes "refused", Some t.refused) ∷ []
+
+-- how the store is
+abbrev pub store_word : Bool → List ℕ
+store_word true = codes "failed"
+store_word false = codes "ok"
+
+-- ---- strings
+
+-- a number, or the word for none
+abbrev pub number_or : (never : Text) → Option ℕ → List ℕ
+number_or never None = never
+number_or never (Some n) = decimal n
+
+-- figures one behind the other: what is before the first, before each other, behind each name, and in place of none
+abbrev pub written : (between behind never first : Text) → List Row → List ℕ
+written between behind never first [] = []
+written between behind never first (row ∷ rows) =
+    first ++ row.0 ++ behind ++ number_or never row.1 ++ written between behind never between rows
+
+-- NAME NUMBER ..
 -- Example: peer 2 heard never in 0 out 88140.
-abbrev pub heard : Option ℕ → List ℕ
-heard None = codes " heard never"
-heard (Some seconds) = field (codes " heard ", seconds)
+unfoldable pub words : (first : Text) → List Row → List ℕ
+words first rows = written (codes " ") (codes " ") (codes "never") first rows
 
--- peer N heard SECONDS in DATAGRAMS out DATAGRAMS
+-- ---- lines
+
+-- the line of a peer
 abbrev pub peer_line : PeerCounters → List ℕ
-peer_line p = ((field (codes "peer ", p.node) ++ heard p.heard)
-    ++ fields ((codes " in ", p.datagrams_in) ∷ (codes " out ", p.datagrams_out) ∷ [])) ++ codes "\n"
+peer_line p = line (words [] (peer_rows (codes "peer") p))
 
--- store ok, or store failed
-abbrev pub store_line : Bool → List ℕ
-store_line true = codes "store failed\n"
-store_line false = codes "store ok\n"
-
--- node N of MEMBERS cluster CLUSTER up SECONDS
-abbrev pub node_line : Figures → ℕ → List ℕ
-node_line f up =
-    line (fields ((codes "node ", f.node) ∷ (codes " of ", f.members) ∷ (codes " cluster ", f.cluster)
-    ∷ (codes " up ", up) ∷ []))
-
--- front POSITION applied POSITIONS round ROUND waiting COMMANDS left POSITIONS
-abbrev pub front_line : Figures → List ℕ
-front_line f =
-    line (fields ((codes "front ", f.front) ∷ (codes " applied ", f.applied) ∷ (codes " round ", f.round)
-    ∷ (codes " waiting ", f.waiting) ∷ (codes " left ", f.left) ∷ []))
-
--- health WORD stood SECONDS outrun TIMES large BYTES
-abbrev pub standing_line : Health → Counters → List ℕ
-standing_line h t =
-    line ((codes "health " ++ health_word h)
-    ++ fields ((codes " stood ", t.stood) ∷ (codes " outrun ", t.outrun) ∷ (codes " large ", t.large) ∷ []))
-
--- config anchors N rules N tables N addresses N
-abbrev pub config_line : Figures → List ℕ
-config_line f =
-    line (fields ((codes "config anchors ", f.anchors) ∷ (codes " rules ", f.rules) ∷ (codes " tables ", f.tables)
-    ∷ (codes " addresses ", f.addresses) ∷ []))
-
--- wire unsent DATAGRAMS dropped DATAGRAMS ignored DATAGRAMS
-abbrev pub wire_line : Counters → List ℕ
-wire_line t =
-    line (fields ((codes "wire unsent ", t.unsent) ∷ (codes " dropped ", t.dropped)
-    ∷ (codes " ignored ", t.ignored) ∷ []))
-
--- control clients N served REQUESTS refused REQUESTS
-abbrev pub control_line : Counters → List ℕ
-control_line t =
-    line (fields ((codes "control clients ", t.clients) ∷ (codes " served ", t.served) ∷
-    (codes " refused ", t.refused) ∷ []))
-
--- members ADDRESS:PORT ..
-abbrev pub members_line : Counters → List ℕ
-members_line t = (codes "members " ++ string_bytes t.members) ++ codes "\n"
-
--- all of them, a line for each other member in their midst
+-- the status
 -- Example: node 0 of 3 cluster 7 up 86412.
 abbrev pub status_lines : Figures → Health → Counters → List ℕ
 status_lines f h t =
-    (((((((node_line f t.up ++ front_line f) ++ standing_line h t) ++ config_line f)
-    ++ flat_map peer_line t.peers.items) ++ wire_line t) ++ store_line f.has_failed) ++ control_line t)
-    ++ members_line t
+    line (words [] (identity f t.up (codes "of")))
+    ++ line (words [] (progress f))
+    ++ codes "health " ++ health_word h ++ line (words (codes " ") (stall t))
+    ++ line (words (codes "config ") (sizes f))
+    ++ flat_map peer_line t.peers.items
+    ++ line (words (codes "wire ") (losses t))
+    ++ codes "store " ++ line (store_word f.has_failed)
+    ++ line (words (codes "control ") (control t))
+    ++ codes "members " ++ line (string_bytes t.members)

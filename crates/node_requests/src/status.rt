@@ -1,65 +1,158 @@
-//! The lines of a node's status.
+//! A node's status: its figures, and the lines that show them.
 
 ghost use Rattle.std.specs.Prelude.{◌≡◌, ◌++◌, IfOk, OnOk, map, string_bytes};
 ghost use Rattle.std.specs.List.{flat_map};
 ghost use Rattle.pf_scripts.specs.Lines.{line};
 ghost use Rattle.node_requests.specs.Answers.{answer_value, shown};
-ghost use Rattle.node_requests.specs.Status.{fields, heard, peer_line, store_line, node_line, front_line, config_line};
-ghost use Rattle.node_requests.specs.Status.{standing_line, wire_line, control_line, members_line, status_lines};
+ghost use Rattle.node_requests.specs.Status.{identity, progress, stall, sizes, peer_rows, losses, control, store_word};
+ghost use Rattle.node_requests.specs.Status.{written, words, peer_line, status_lines};
 
 use crate::answer::Answer;
 use crate::counters::{Counters, PeerCounters};
 use crate::figures::Figures;
 use crate::health::Health;
-use pf_scripts::push_number;
+use pf_scripts::{push_line, push_number};
 use std::alloc::{AllocError, Global};
 
-/// Puts strings behind the output, each with its number.
-pub(crate) fn push_fields(
+/// A figure: its name, and its number, none of what never was.
+pub(crate) type Row<'a> = (&'a str, Option<u64>);
+
+/// Who the node is; `members` is how the number of its members is called.
+#[tactic(auto, unfolding(crate::specs::Status::identity))]
+pub(crate) fn identity<'a>(f: &Figures, up: u64, members: &'a str) -> [Row<'a>; 4]
+    ensures { map (λ r. (r.0.now, r.1)) result ≡ identity f.now up members.now }
+{
+    [
+        ("node", Some(u64::from(f.node))),
+        (members, Some(u64::from(f.members))),
+        ("cluster", Some(u64::from(f.cluster))),
+        ("up", Some(up)),
+    ]
+}
+
+/// How far it is.
+#[tactic(auto, unfolding(crate::specs::Status::progress))]
+pub(crate) fn progress(f: &Figures) -> [Row<'static>; 5]
+    ensures { map (λ r. (r.0.now, r.1)) result ≡ progress f.now }
+{
+    [
+        ("front", Some(u64::from(f.front))),
+        ("applied", Some(u64::from(f.applied))),
+        ("round", Some(f.round)),
+        ("waiting", Some(f.waiting as u64)),
+        ("left", Some(u64::from(f.left))),
+    ]
+}
+
+/// Why its front may stand.
+#[tactic(auto, unfolding(crate::specs::Status::stall))]
+pub(crate) fn stall(t: &Counters) -> [Row<'static>; 3]
+    ensures { map (λ r. (r.0.now, r.1)) result ≡ stall t.now }
+{
+    [
+        ("stood", Some(t.stood)),
+        ("outrun", Some(t.outrun)),
+        ("large", Some(t.large)),
+    ]
+}
+
+/// How much its configuration has.
+#[tactic(auto, unfolding(crate::specs::Status::sizes))]
+pub(crate) fn sizes(f: &Figures) -> [Row<'static>; 4]
+    ensures { map (λ r. (r.0.now, r.1)) result ≡ sizes f.now }
+{
+    [
+        ("anchors", Some(f.anchors as u64)),
+        ("rules", Some(f.rules as u64)),
+        ("tables", Some(f.tables as u64)),
+        ("addresses", Some(f.addresses as u64)),
+    ]
+}
+
+/// A peer.
+#[tactic(auto, unfolding(crate::specs::Status::peer_rows))]
+pub(crate) fn peer_rows<'a>(name: &'a str, p: &PeerCounters) -> [Row<'a>; 4]
+    ensures { map (λ r. (r.0.now, r.1)) result ≡ peer_rows name.now p.now }
+{
+    [
+        (name, Some(u64::from(p.node))),
+        ("heard", p.heard),
+        ("in", Some(p.datagrams_in)),
+        ("out", Some(p.datagrams_out)),
+    ]
+}
+
+/// What the wire counted.
+#[tactic(auto, unfolding(crate::specs::Status::losses))]
+pub(crate) fn losses(t: &Counters) -> [Row<'static>; 3]
+    ensures { map (λ r. (r.0.now, r.1)) result ≡ losses t.now }
+{
+    [
+        ("unsent", Some(t.unsent)),
+        ("dropped", Some(t.dropped)),
+        ("ignored", Some(t.ignored)),
+    ]
+}
+
+/// What the control socket counted.
+#[tactic(auto, unfolding(crate::specs::Status::control))]
+pub(crate) fn control(t: &Counters) -> [Row<'static>; 3]
+    ensures { map (λ r. (r.0.now, r.1)) result ≡ control t.now }
+{
+    [
+        ("clients", Some(t.clients)),
+        ("served", Some(t.served)),
+        ("refused", Some(t.refused)),
+    ]
+}
+
+/// How the store is.
+pub(crate) fn store_word(has_failed: bool) -> &'static str
+    ensures { result.now ≡ store_word has_failed }
+{
+    if has_failed { "failed" } else { "ok" }
+}
+
+/// Puts figures behind the output: `first` before the first, `between` before each other, `behind` behind each name,
+/// and `never` in place of none.
+pub(crate) fn push_rows(
     alloc: Global,
     out: &mut String,
-    rows: &[(&str, u64)],
+    between: &str,
+    behind: &str,
+    never: &str,
+    first: &str,
+    rows: &[Row],
 ) -> Result<(), AllocError>
-    ensures { OnOk result (string_bytes out.new
-        ≡ string_bytes out.old ++ fields (map (λ f. (f.0.now, f.1)) rows.now)) }
+    ensures { OnOk result (string_bytes out.new ≡ string_bytes out.old
+        ++ written between.now behind.now never.now first.now (map (λ r. (r.0.now, r.1)) rows.now)) }
 {
+    let mut before = first;
     for (name, number) in rows {
+        out.push_str(before)?;
         out.push_str(name)?;
-        push_number(alloc, out, *number)?;
+        out.push_str(behind)?;
+        match number {
+            Some(number) => push_number(alloc, out, *number)?,
+            None => out.push_str(never)?,
+        }
+        before = between;
     }
     Ok(())
 }
 
-/// The same, as a line.
-fn push_line(alloc: Global, out: &mut String, rows: &[(&str, u64)]) -> Result<(), AllocError>
+/// Puts figures as a line behind the output, `first` before the first.
+#[tactic(auto, unfolding(crate::specs::Status::words))]
+pub(crate) fn push_figures(
+    alloc: Global,
+    out: &mut String,
+    first: &str,
+    rows: &[Row],
+) -> Result<(), AllocError>
     ensures { OnOk result (string_bytes out.new
-        ≡ string_bytes out.old ++ line (fields (map (λ f. (f.0.now, f.1)) rows.now))) }
+        ≡ string_bytes out.old ++ line (words first.now (map (λ r. (r.0.now, r.1)) rows.now))) }
 {
-    push_fields(alloc, out, rows)?;
-    out.push('\n')
-}
-
-/// When a peer was heard.
-fn push_heard(alloc: Global, out: &mut String, seconds: Option<u64>) -> Result<(), AllocError>
-    ensures { OnOk result (string_bytes out.new ≡ string_bytes out.old ++ heard seconds) }
-{
-    match seconds {
-        Some(seconds) => push_fields(alloc, out, &[(" heard ", seconds)]),
-        None => out.push_str(" heard never"),
-    }
-}
-
-/// The line of a peer.
-fn push_peer(alloc: Global, out: &mut String, peer: &PeerCounters) -> Result<(), AllocError>
-    ensures { OnOk result (string_bytes out.new ≡ string_bytes out.old ++ peer_line peer.now) }
-{
-    push_fields(alloc, out, &[("peer ", u64::from(peer.node))])?;
-    push_heard(alloc, out, peer.heard)?;
-    push_fields(
-        alloc,
-        out,
-        &[(" in ", peer.datagrams_in), (" out ", peer.datagrams_out)],
-    )?;
+    push_rows(alloc, out, " ", " ", "never", first, rows)?;
     out.push('\n')
 }
 
@@ -68,125 +161,9 @@ fn push_peers(alloc: Global, out: &mut String, peers: &[PeerCounters]) -> Result
     ensures { OnOk result (string_bytes out.new ≡ string_bytes out.old ++ flat_map peer_line peers.now) }
 {
     for peer in peers {
-        push_peer(alloc, out, peer)?;
+        push_figures(alloc, out, "", &peer_rows("peer", peer))?;
     }
     Ok(())
-}
-
-/// The first line.
-fn push_node(alloc: Global, out: &mut String, f: &Figures, up: u64) -> Result<(), AllocError>
-    ensures { OnOk result (string_bytes out.new ≡ string_bytes out.old ++ node_line f.now up) }
-{
-    push_line(
-        alloc,
-        out,
-        &[
-            ("node ", u64::from(f.node)),
-            (" of ", u64::from(f.members)),
-            (" cluster ", u64::from(f.cluster)),
-            (" up ", up),
-        ],
-    )
-}
-
-/// How far the node is.
-fn push_front(alloc: Global, out: &mut String, f: &Figures) -> Result<(), AllocError>
-    ensures { OnOk result (string_bytes out.new ≡ string_bytes out.old ++ front_line f.now) }
-{
-    push_line(
-        alloc,
-        out,
-        &[
-            ("front ", u64::from(f.front)),
-            (" applied ", u64::from(f.applied)),
-            (" round ", f.round),
-            (" waiting ", f.waiting as u64),
-            (" left ", u64::from(f.left)),
-        ],
-    )
-}
-
-/// How it stands among the others.
-fn push_standing(alloc: Global, out: &mut String, h: Health, t: &Counters) -> Result<(), AllocError>
-    ensures { OnOk result (string_bytes out.new ≡ string_bytes out.old ++ standing_line h t.now) }
-{
-    out.push_str("health ")?;
-    out.push_str(h.word())?;
-    push_line(
-        alloc,
-        out,
-        &[
-            (" stood ", t.stood),
-            (" outrun ", t.outrun),
-            (" large ", t.large),
-        ],
-    )
-}
-
-/// How much its configuration has.
-fn push_config(alloc: Global, out: &mut String, f: &Figures) -> Result<(), AllocError>
-    ensures { OnOk result (string_bytes out.new ≡ string_bytes out.old ++ config_line f.now) }
-{
-    push_line(
-        alloc,
-        out,
-        &[
-            ("config anchors ", f.anchors as u64),
-            (" rules ", f.rules as u64),
-            (" tables ", f.tables as u64),
-            (" addresses ", f.addresses as u64),
-        ],
-    )
-}
-
-/// What the wire counted.
-fn push_wire(alloc: Global, out: &mut String, t: &Counters) -> Result<(), AllocError>
-    ensures { OnOk result (string_bytes out.new ≡ string_bytes out.old ++ wire_line t.now) }
-{
-    push_line(
-        alloc,
-        out,
-        &[
-            ("wire unsent ", t.unsent),
-            (" dropped ", t.dropped),
-            (" ignored ", t.ignored),
-        ],
-    )
-}
-
-/// How the store is.
-fn push_store(out: &mut String, has_failed: bool) -> Result<(), AllocError>
-    ensures { OnOk result (string_bytes out.new ≡ string_bytes out.old ++ store_line has_failed) }
-{
-    out.push_str(if has_failed {
-        "store failed\n"
-    } else {
-        "store ok\n"
-    })
-}
-
-/// What the control socket counted.
-fn push_control(alloc: Global, out: &mut String, t: &Counters) -> Result<(), AllocError>
-    ensures { OnOk result (string_bytes out.new ≡ string_bytes out.old ++ control_line t.now) }
-{
-    push_line(
-        alloc,
-        out,
-        &[
-            ("control clients ", t.clients),
-            (" served ", t.served),
-            (" refused ", t.refused),
-        ],
-    )
-}
-
-/// Where the members listen.
-fn push_members(out: &mut String, t: &Counters) -> Result<(), AllocError>
-    ensures { OnOk result (string_bytes out.new ≡ string_bytes out.old ++ members_line t.now) }
-{
-    out.push_str("members ")?;
-    out.push_str(t.members.as_str())?;
-    out.push('\n')
 }
 
 /// The lines of a node's status.
@@ -199,14 +176,18 @@ pub(crate) fn status(
     ensures { IfOk result (λ a. answer_value a ≡ shown (status_lines f.now h t.now)) }
 {
     let mut body = String::new(alloc);
-    push_node(alloc, &mut body, f, t.up)?;
-    push_front(alloc, &mut body, f)?;
-    push_standing(alloc, &mut body, h, t)?;
-    push_config(alloc, &mut body, f)?;
+    push_figures(alloc, &mut body, "", &identity(f, t.up, "of"))?;
+    push_figures(alloc, &mut body, "", &progress(f))?;
+    body.push_str("health ")?;
+    body.push_str(h.word())?;
+    push_figures(alloc, &mut body, " ", &stall(t))?;
+    push_figures(alloc, &mut body, "config ", &sizes(f))?;
     push_peers(alloc, &mut body, &t.peers)?;
-    push_wire(alloc, &mut body, t)?;
-    push_store(&mut body, f.has_failed)?;
-    push_control(alloc, &mut body, t)?;
-    push_members(&mut body, t)?;
+    push_figures(alloc, &mut body, "wire ", &losses(t))?;
+    body.push_str("store ")?;
+    push_line(&mut body, store_word(f.has_failed))?;
+    push_figures(alloc, &mut body, "control ", &control(t))?;
+    body.push_str("members ")?;
+    push_line(&mut body, t.members.as_str())?;
     Ok(Answer { code: 200, body })
 }
