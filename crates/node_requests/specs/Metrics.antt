@@ -1,5 +1,5 @@
 -- Numbers for Prometheus, in its text format 0.0.4.
-use Rattle.std.specs.Prelude.{ℕ, Bool, true, false, List, [], ◌∷◌, ◌++◌, ◌==◌, Option, Some, None, map, codes, decimal}
+use Rattle.std.specs.Prelude.{ℕ, Bool, true, false, List, [], ◌∷◌, ◌++◌, Option, Some, None, codes, decimal}
 use Rattle.std.specs.List.{flat_map}
 use Rattle.clap.specs.Words.{Text}
 use Rattle.pf_scripts.specs.Lines.{line}
@@ -8,6 +8,9 @@ use Rattle.node_requests.specs.declared.counters.PeerCounters.{PeerCounters}
 use Rattle.node_requests.specs.declared.figures.Figures.{Figures}
 use Rattle.node_requests.specs.declared.health.Health.{Health}
 use Rattle.node_requests.specs.declared.health.Health.TheVariants.{Works, Behind, Alone, Stuck, Failed}
+use Rattle.node_requests.specs.declared.metrics.PeerFigure.{PeerFigure}
+use Rattle.node_requests.specs.declared.metrics.PeerFigure.TheVariants.{Heard, In, Out}
+use Rattle.node_requests.specs.Status.{words}
 
 -- ---- lines
 
@@ -18,8 +21,8 @@ heading kind name help =
     line (codes "# HELP " ++ name ++ codes " " ++ help) ++ line (codes "# TYPE " ++ name ++ codes " " ++ kind)
 
 -- a metric with one number
-unfoldable pub metric : (kind name help : Text) → ℕ → List ℕ
-metric kind name help value = heading kind name help ++ line (name ++ codes " " ++ decimal value)
+abbrev pub metric : (kind name help : Text) → ℕ → List ℕ
+metric kind name help value = heading kind name help ++ line (words [] ((name, Some value) ∷ []))
 
 -- {LABEL="OF"}
 unfoldable pub labelled : (label of : Text) → List ℕ
@@ -38,10 +41,28 @@ metrics_of kind rows = flat_map (λ r. metric kind r.0 r.1 r.2) rows
 abbrev pub samples_of : (kind name help label : Text) → List (Text × ℕ) → List ℕ
 samples_of kind name help label rows = heading kind name help ++ flat_map (λ r. sample name label r.0 r.1) rows
 
--- the same of peers: the number of each as a member, and its number
-abbrev pub peers_of : (kind name help : Text) → List (ℕ × ℕ) → List ℕ
-peers_of kind name help rows =
-    heading kind name help ++ flat_map (λ r. sample name (codes "peer") (decimal r.0) r.1) rows
+-- a figure of a peer, none of what never was
+abbrev pub figure_of : PeerFigure → PeerCounters → Option ℕ
+figure_of Heard p = p.heard
+figure_of In p = Some p.datagrams_in
+figure_of Out p = Some p.datagrams_out
+
+-- the number of a peer, by its own as a member; nothing where there is none
+abbrev pub peer_sample : (name : Text) → ℕ → Option ℕ → List ℕ
+peer_sample name node None = []
+peer_sample name node (Some value) = sample name (codes "peer") (decimal node) value
+
+-- the kind, the name and the meaning of a figure of peers
+abbrev pub peer_heading : PeerFigure → Text × Text × Text
+peer_heading Heard = (codes "gauge", codes "pfx_peer_heard_seconds", codes "Whole seconds since a datagram came.")
+peer_heading In = (codes "counter", codes "pfx_datagrams_in_total", codes "Datagrams from the peer.")
+peer_heading Out = (codes "counter", codes "pfx_datagrams_out_total", codes "Datagrams to the peer.")
+
+-- a figure of all peers
+unfoldable pub peers_of : PeerFigure → List PeerCounters → List ℕ
+peers_of figure peers =
+    let h = peer_heading figure in
+    heading h.0 h.1 h.2 ++ flat_map (λ p. peer_sample h.1 p.node (figure_of figure p)) peers
 
 -- ---- what is measured
 
@@ -50,18 +71,14 @@ abbrev pub bit : Bool → ℕ
 bit true = 1
 bit false = 0
 
--- how far the node is
+-- how far the node is, how its store is, and how many members there are
 abbrev pub node_metrics : Figures → List ℕ
 node_metrics f = metrics_of (codes "gauge")
     ((codes "pfx_front", codes "Least position not learned.", f.front)
     ∷ (codes "pfx_applied", codes "Positions applied.", f.applied)
     ∷ (codes "pfx_round", codes "Round of the last prepare.", f.round)
-    ∷ (codes "pfx_waiting", codes "Commands asked here and not learned yet.", f.waiting) ∷ [])
-
--- how its store is, and how many members there are
-abbrev pub state_metrics : Figures → List ℕ
-state_metrics f = metrics_of (codes "gauge")
-    ((codes "pfx_failed", codes "1 after a fault of the store.", bit f.has_failed)
+    ∷ (codes "pfx_waiting", codes "Commands asked here and not learned yet.", f.waiting)
+    ∷ (codes "pfx_failed", codes "1 after a fault of the store.", bit f.has_failed)
     ∷ (codes "pfx_members", codes "Members of the cluster.", f.members) ∷ [])
 
 -- 1 of the same health, 0 of another one
@@ -88,33 +105,6 @@ config_metrics f = metrics_of (codes "gauge")
     ∷ (codes "pfx_tables", codes "Tables at all paths.", f.tables)
     ∷ (codes "pfx_table_addresses", codes "Entries in all tables.", f.addresses) ∷ [])
 
--- the seconds of a peer, if it ever was heard, before those of others
-abbrev pub heard_row : ℕ → Option ℕ → List (ℕ × ℕ) → List (ℕ × ℕ)
-heard_row node None later = later
-heard_row node (Some seconds) later = (node, seconds) ∷ later
-
--- when each peer was heard; nothing of one that never was
-abbrev pub heard_rows : List PeerCounters → List (ℕ × ℕ)
-heard_rows [] = []
-heard_rows (p ∷ peers) = heard_row p.node p.heard (heard_rows peers)
-
--- what came of each peer
-abbrev pub heard_metrics : List PeerCounters → List ℕ
-heard_metrics peers =
-    peers_of (codes "gauge") (codes "pfx_peer_heard_seconds") (codes "Whole seconds since a datagram came.")
-    (heard_rows peers)
-
-abbrev pub in_metrics : List PeerCounters → List ℕ
-in_metrics peers =
-    peers_of (codes "counter") (codes "pfx_datagrams_in_total") (codes "Datagrams from the peer.")
-    (map (λ p. (p.node, p.datagrams_in)) peers)
-
--- what went to it
-abbrev pub out_metrics : List PeerCounters → List ℕ
-out_metrics peers =
-    peers_of (codes "counter") (codes "pfx_datagrams_out_total") (codes "Datagrams to the peer.")
-    (map (λ p. (p.node, p.datagrams_out)) peers)
-
 -- what the loop counted
 abbrev pub loop_metrics : Counters → List ℕ
 loop_metrics t = metrics_of (codes "counter")
@@ -133,5 +123,5 @@ control_metrics t = samples_of (codes "counter") (codes "pfx_control_requests_to
 -- all of them
 abbrev pub metrics_text : Figures → Health → Counters → List ℕ
 metrics_text f h t =
-    (((((((node_metrics f ++ state_metrics f) ++ health_metrics h) ++ config_metrics f) ++ heard_metrics t.peers.items)
-    ++ in_metrics t.peers.items) ++ out_metrics t.peers.items) ++ loop_metrics t) ++ control_metrics t
+    ((((((node_metrics f ++ health_metrics h) ++ config_metrics f) ++ peers_of Heard t.peers.items)
+    ++ peers_of In t.peers.items) ++ peers_of Out t.peers.items) ++ loop_metrics t) ++ control_metrics t

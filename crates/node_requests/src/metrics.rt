@@ -1,16 +1,16 @@
 //! Numbers for Prometheus, in its text format 0.0.4.
 
 ghost use Rattle.std.specs.Prelude.{◌≡◌, ◌++◌, IfOk, OnOk, map, string_bytes};
-ghost use Rattle.node_requests.specs.Metrics.{heading, metric, labelled, sample, metrics_of, samples_of, peers_of};
-ghost use Rattle.node_requests.specs.Metrics.{bit, is_at, heard_rows, node_metrics, state_metrics, health_metrics};
-ghost use Rattle.node_requests.specs.Metrics.{config_metrics, heard_metrics, in_metrics, out_metrics, loop_metrics};
-ghost use Rattle.node_requests.specs.Metrics.{control_metrics, metrics_text};
+ghost use Rattle.node_requests.specs.Metrics.{heading, labelled, sample, metrics_of, samples_of, figure_of};
+ghost use Rattle.node_requests.specs.Metrics.{bit, is_at, node_metrics, health_metrics, config_metrics, loop_metrics};
+ghost use Rattle.node_requests.specs.Metrics.{control_metrics, peer_heading, peers_of, metrics_text};
 ghost use Rattle.node_requests.specs.Answers.{answer_value, shown};
 
 use crate::answer::Answer;
 use crate::counters::{Counters, PeerCounters};
 use crate::figures::Figures;
 use crate::health::Health;
+use crate::status::push_figures;
 use pf_scripts::{push_line, push_number};
 use std::alloc::{AllocError, Global};
 
@@ -30,26 +30,6 @@ fn push_heading(out: &mut String, kind: &str, name: &str, help: &str) -> Result<
     push_line(out, kind)
 }
 
-/// Puts a metric with one number behind the output.
-#[tactic(auto, unfolding(crate::specs::Metrics::metric))]
-fn push_metric(
-    alloc: Global,
-    out: &mut String,
-    kind: &str,
-    name: &str,
-    help: &str,
-    value: u64,
-) -> Result<(), AllocError>
-    ensures { OnOk result (string_bytes out.new
-        ≡ string_bytes out.old ++ metric kind.now name.now help.now value) }
-{
-    push_heading(out, kind, name, help)?;
-    out.push_str(name)?;
-    out.push(' ')?;
-    push_number(alloc, out, value)?;
-    out.push('\n')
-}
-
 /// Puts metrics of one kind behind the output.
 fn push_metrics(
     alloc: Global,
@@ -61,7 +41,8 @@ fn push_metrics(
         ≡ string_bytes out.old ++ metrics_of kind.now (map (λ r. (r.0.now, r.1.now, r.2)) rows.now)) }
 {
     for (name, help, value) in rows {
-        push_metric(alloc, out, kind, name, help, *value)?;
+        push_heading(out, kind, name, help)?;
+        push_figures(alloc, out, "", &[(*name, Some(*value))])?;
     }
     Ok(())
 }
@@ -117,22 +98,65 @@ fn push_samples(
     Ok(())
 }
 
-/// The same of peers, by their numbers as members.
+/// What is counted of a peer.
+#[derive(Clone, Copy)]
+enum PeerFigure {
+    Heard,
+    In,
+    Out,
+}
+
+/// A figure of a peer, none of what never was.
+fn figure_of(peer: &PeerCounters, figure: PeerFigure) -> Option<u64>
+    ensures { result ≡ figure_of figure peer.now }
+{
+    match figure {
+        PeerFigure::Heard => peer.heard,
+        PeerFigure::In => Some(peer.datagrams_in),
+        PeerFigure::Out => Some(peer.datagrams_out),
+    }
+}
+
+/// The kind, the name and the meaning of a figure of peers.
+fn peer_heading(figure: PeerFigure) -> (&'static str, &'static str, &'static str)
+    ensures { (result.0.now, result.1.now, result.2.now) ≡ peer_heading figure }
+{
+    match figure {
+        PeerFigure::Heard => (
+            "gauge",
+            "pfx_peer_heard_seconds",
+            "Whole seconds since a datagram came.",
+        ),
+        PeerFigure::In => (
+            "counter",
+            "pfx_datagrams_in_total",
+            "Datagrams from the peer.",
+        ),
+        PeerFigure::Out => (
+            "counter",
+            "pfx_datagrams_out_total",
+            "Datagrams to the peer.",
+        ),
+    }
+}
+
+/// Puts a figure of peers behind the output, by their numbers as members, but for those that have none.
+#[tactic(auto, unfolding(crate::specs::Metrics::peers_of))]
 fn push_peers(
     alloc: Global,
     out: &mut String,
-    kind: &str,
-    name: &str,
-    help: &str,
-    rows: &[(u8, u64)],
+    figure: PeerFigure,
+    peers: &[PeerCounters],
 ) -> Result<(), AllocError>
-    ensures { OnOk result (string_bytes out.new ≡ string_bytes out.old
-        ++ peers_of kind.now name.now help.now rows.now) }
+    ensures { OnOk result (string_bytes out.new ≡ string_bytes out.old ++ peers_of figure peers.now) }
 {
+    let (kind, name, help) = peer_heading(figure);
     push_heading(out, kind, name, help)?;
-    for (peer, value) in rows {
-        let of = peer.to_string(alloc)?;
-        push_sample(alloc, out, name, "peer", of.as_str(), *value)?;
+    for peer in peers {
+        if let Some(value) = figure_of(peer, figure) {
+            let of = peer.node.to_string(alloc)?;
+            push_sample(alloc, out, name, "peer", of.as_str(), value)?;
+        }
     }
     Ok(())
 }
@@ -144,7 +168,7 @@ fn bit(is_so: bool) -> u64
     if is_so { 1 } else { 0 }
 }
 
-/// How far the node is.
+/// How far the node is, how its store is, and how many members there are.
 fn push_node(alloc: Global, out: &mut String, f: &Figures) -> Result<(), AllocError>
     ensures { OnOk result (string_bytes out.new ≡ string_bytes out.old ++ node_metrics f.now) }
 {
@@ -165,19 +189,6 @@ fn push_node(alloc: Global, out: &mut String, f: &Figures) -> Result<(), AllocEr
                 "Commands asked here and not learned yet.",
                 f.waiting as u64,
             ),
-        ],
-    )
-}
-
-/// How its store is, and how many members there are.
-fn push_state(alloc: Global, out: &mut String, f: &Figures) -> Result<(), AllocError>
-    ensures { OnOk result (string_bytes out.new ≡ string_bytes out.old ++ state_metrics f.now) }
-{
-    push_metrics(
-        alloc,
-        out,
-        "gauge",
-        &[
             (
                 "pfx_failed",
                 "1 after a fault of the store.",
@@ -252,70 +263,6 @@ fn push_config(alloc: Global, out: &mut String, f: &Figures) -> Result<(), Alloc
     )
 }
 
-/// When each peer was heard, but for those that never were.
-fn heard_rows(alloc: Global, peers: &[PeerCounters]) -> Result<Vec<(u8, u64)>, AllocError>
-    ensures { IfOk result (λ rows. rows.items ≡ heard_rows peers.now) }
-{
-    let mut rows = Vec::new(alloc);
-    for peer in peers {
-        if let Some(seconds) = peer.heard {
-            rows.push((peer.node, seconds))?;
-        }
-    }
-    Ok(rows)
-}
-
-/// When peers were heard.
-fn push_heard(alloc: Global, out: &mut String, peers: &[PeerCounters]) -> Result<(), AllocError>
-    ensures { OnOk result (string_bytes out.new ≡ string_bytes out.old ++ heard_metrics peers.now) }
-{
-    let rows = heard_rows(alloc, peers)?;
-    push_peers(
-        alloc,
-        out,
-        "gauge",
-        "pfx_peer_heard_seconds",
-        "Whole seconds since a datagram came.",
-        &rows,
-    )
-}
-
-/// How many datagrams came from peers.
-fn push_in(alloc: Global, out: &mut String, peers: &[PeerCounters]) -> Result<(), AllocError>
-    ensures { OnOk result (string_bytes out.new ≡ string_bytes out.old ++ in_metrics peers.now) }
-{
-    let mut rows = Vec::new(alloc);
-    for peer in peers {
-        rows.push((peer.node, peer.datagrams_in))?;
-    }
-    push_peers(
-        alloc,
-        out,
-        "counter",
-        "pfx_datagrams_in_total",
-        "Datagrams from the peer.",
-        &rows,
-    )
-}
-
-/// How many datagrams went to peers.
-fn push_out(alloc: Global, out: &mut String, peers: &[PeerCounters]) -> Result<(), AllocError>
-    ensures { OnOk result (string_bytes out.new ≡ string_bytes out.old ++ out_metrics peers.now) }
-{
-    let mut rows = Vec::new(alloc);
-    for peer in peers {
-        rows.push((peer.node, peer.datagrams_out))?;
-    }
-    push_peers(
-        alloc,
-        out,
-        "counter",
-        "pfx_datagrams_out_total",
-        "Datagrams to the peer.",
-        &rows,
-    )
-}
-
 /// What the loop counted.
 fn push_loop(alloc: Global, out: &mut String, t: &Counters) -> Result<(), AllocError>
     ensures { OnOk result (string_bytes out.new ≡ string_bytes out.old ++ loop_metrics t.now) }
@@ -376,12 +323,11 @@ pub(crate) fn metrics(
 {
     let mut body = String::new(alloc);
     push_node(alloc, &mut body, f)?;
-    push_state(alloc, &mut body, f)?;
     push_health(alloc, &mut body, health)?;
     push_config(alloc, &mut body, f)?;
-    push_heard(alloc, &mut body, &t.peers)?;
-    push_in(alloc, &mut body, &t.peers)?;
-    push_out(alloc, &mut body, &t.peers)?;
+    push_peers(alloc, &mut body, PeerFigure::Heard, &t.peers)?;
+    push_peers(alloc, &mut body, PeerFigure::In, &t.peers)?;
+    push_peers(alloc, &mut body, PeerFigure::Out, &t.peers)?;
     push_loop(alloc, &mut body, t)?;
     push_control(alloc, &mut body, t)?;
     Ok(Answer { code: 200, body })
