@@ -6,7 +6,6 @@ pub mod Bounded
 pub mod Changing
 pub mod EntryLines
 pub mod Health
-pub mod LogLines
 pub mod Metrics
 pub mod Posting
 pub mod Queries

@@ -20,9 +20,8 @@ use Rattle.node_requests.specs.declared.counters.Counters.{Counters}
 use Rattle.node_requests.specs.Answers.{AnswerValue, shown, answered}
 use Rattle.node_requests.specs.Bounded.{verdicts_within}
 use Rattle.node_requests.specs.Changing.{Changes, with_number, change_answer}
-use Rattle.node_requests.specs.EntryLines.{entries_answer}
+use Rattle.node_requests.specs.EntryLines.{entries_answer, log_answer}
 use Rattle.node_requests.specs.Health.{health, health_answer, ready_answer}
-use Rattle.node_requests.specs.LogLines.{log_answer}
 use Rattle.node_requests.specs.Metrics.{metrics_text}
 use Rattle.node_requests.specs.Sizes.{rules_below, tables_below, entries_below}
 use Rattle.node_requests.specs.Standing.{standing}

@@ -1,20 +1,31 @@
-//! Entries of the log, as they are spelled.
+//! Lines of the log: what its commands did, or its entries as they are spelled.
 
 ghost use Rattle.std.specs.Prelude.{◌≡◌, ◌≤◌, ◌++◌, IfOk, OnOk, string_bytes};
 ghost use Rattle.pf_node.specs.Nodes.{learned_by};
 ghost use Rattle.node_requests.specs.Answers.{answer_value};
-ghost use Rattle.node_requests.specs.EntryLines.{entry_line, entries_before, entries_answer};
+ghost use Rattle.node_requests.specs.EntryLines.{entry_line, line_shown, lines_before, entries_answer, log_answer};
 
 use crate::answer::Answer;
+use crate::positions::push_position;
 use pf_node::Node;
 use px_records::Records;
 use std::alloc::{AllocError, Global};
 
-/// How many entries are shown at most.
+/// How many lines are shown of the log where it isn't said from where.
+const LAST_LINES: u32 = 20;
+
+/// How many lines are shown at most.
 pub const ENTRIES_MAX: u32 = 1_000;
 
 /// Once the lines have that many bytes, no further one is shown.
 pub const ENTRIES_BYTES: usize = 262_144;
+
+/// What is shown of a position: its command, with what came of it, or the bytes of its entry.
+#[derive(Clone, Copy)]
+enum Show {
+    Command,
+    Entry,
+}
 
 /// Puts the line of a position's entry behind the text.
 fn push_entry<R: Records>(
@@ -35,17 +46,34 @@ fn push_entry<R: Records>(
     }
 }
 
-/// Puts the lines of the last `count` positions before an end behind the text, until it has that many bytes that no
-/// further one is shown.
-fn push_entries<R: Records>(
+/// Puts what is shown of a position behind the text.
+fn push_shown<R: Records>(
     alloc: Global,
     out: &mut String,
     node: &Node<R>,
+    show: Show,
+    position: u32,
+) -> Result<(), AllocError>
+    ensures { OnOk result (string_bytes out.new ≡ string_bytes out.old ++ line_shown show node.now position) }
+{
+    match show {
+        Show::Command => push_position(alloc, out, node, position),
+        Show::Entry => push_entry(alloc, out, node, position),
+    }
+}
+
+/// Puts the lines of the last `count` positions before an end behind the text, until it has that many bytes that no
+/// further one is shown.
+fn push_lines<R: Records>(
+    alloc: Global,
+    out: &mut String,
+    node: &Node<R>,
+    show: Show,
     end: u32,
     count: u32,
 ) -> Result<(), AllocError>
     requires { count ≤ end }
-    ensures { OnOk result (string_bytes out.new ≡ entries_before (learned_by node.now) end count
+    ensures { OnOk result (string_bytes out.new ≡ lines_before (line_shown show node.now) end count
         (string_bytes out.old)) }
 {
     let mut left = count;
@@ -53,7 +81,7 @@ fn push_entries<R: Records>(
         if out.as_bytes().len() >= ENTRIES_BYTES {
             return Ok(());
         }
-        push_entry(alloc, out, node, end - left)?;
+        push_shown(alloc, out, node, show, end - left)?;
         left -= 1;
     }
     Ok(())
@@ -73,6 +101,38 @@ pub(crate) fn entries<R: Records>(
     let most = count.unwrap_or(ENTRIES_MAX).min(ENTRIES_MAX);
     let end = node.applied().min(first.saturating_add(most));
     let mut body = String::new(alloc);
-    push_entries(alloc, &mut body, node, end, end.saturating_sub(first))?;
+    push_lines(
+        alloc,
+        &mut body,
+        node,
+        Show::Entry,
+        end,
+        end.saturating_sub(first),
+    )?;
+    Ok(Answer { code: 200, body })
+}
+
+/// The log from a position on, or its last 20 lines: the positions that are applied, each a line with who took its
+/// command in, the number there, the command's words and what came of it. It ends after 1,000 lines, and after the line
+/// with which it has 262,144 bytes.
+pub(crate) fn log<R: Records>(
+    alloc: Global,
+    node: &Node<R>,
+    from: Option<u32>,
+) -> Result<Answer, AllocError>
+    ensures { IfOk result (λ a. answer_value a ≡ log_answer node.now from) }
+{
+    let applied = node.applied();
+    let first = from.unwrap_or(applied.saturating_sub(LAST_LINES));
+    let end = applied.min(first.saturating_add(ENTRIES_MAX));
+    let mut body = String::new(alloc);
+    push_lines(
+        alloc,
+        &mut body,
+        node,
+        Show::Command,
+        end,
+        end.saturating_sub(first),
+    )?;
     Ok(Answer { code: 200, body })
 }

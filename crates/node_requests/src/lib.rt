@@ -49,7 +49,6 @@ mod health;
 mod json;
 pub mod laws;
 mod listing;
-mod log;
 mod metrics;
 mod outcome;
 mod packets;
