@@ -1,22 +1,21 @@
 -- How many rules a verdict may meet.
-use Rattle.std.proofs.Common.{◌≡◌, ℕ, zero, suc, ◌+◌, ◌-◌, ◌<◌, ◌/◌, max, take, Bor, ◌++◌, Bool, true, false, List, [], ◌∷◌, Option, Some, None, refl, sym, ap, ◌∙◌, arith, inl, inr, rules}
+use Rattle.std.proofs.Common.{◌≡◌, ℕ, zero, suc, ◌+◌, ◌-◌, ◌<◌, ◌/◌, max, take, Bor, ◌++◌, Bool, true, false, List, [], Option, Some, None, refl, sym, ap, ◌∙◌, arith, inl, inr, rules}
 use Rattle.std.specs.Prelude.{nat_le, length, map, option_and_then, if◌then◌else◌}
 use Rattle.std.proofs.Math.Nat.{div-eq_of_lt}
 use Rattle.std.proofs.lemmas.List.{take-map}
 use Rattle.std.proofs.lemmas.Bool.{cases_lt, le-leb, lt-leb}
-use Rattle.pf_rules.specs.Names.{Name, begins_below}
 use Rattle.pf_rules.specs.Items.{AnyRule, FilterRule, AnchorRule, Heading, Target, rule_in}
-use Rattle.pf_rules.specs.Seen.{rule_of, heading_of, items_of, with_block}
+use Rattle.pf_rules.specs.Seen.{rule_of, heading_of, with_block}
 use Rattle.pf_rules.proofs.Carried.{anchor_is}
 use Rattle.pf_rules.specs.declared.rule.Rule.{Rule}
 use Rattle.pf_rules.specs.declared.item.AnchorRule as anchored
 use Rattle.pf_rules.specs.declared.item.Item.{Item}
 use Rattle.pf_rules.specs.declared.item.Item as item
-use Rattle.pf_config.specs.Map.{Configuration, Path, rules_at, kids, followed_by}
-use Rattle.pf_config.specs.Trees.{AnchorTree, anchor_in, tree_at, last_name}
+use Rattle.pf_config.specs.Map.{Configuration, Path, rules_at, followed_by}
+use Rattle.pf_config.specs.Trees.{AnchorTree, tree_at}
 use Rattle.pf_eval.specs.inner.TwoWalks.{IsAnchorOf}
 use Rattle.pf_eval.proofs.Anchors.{below_names, no_rules_below, no_kids_below}
-use Rattle.node_requests.specs.Bounded.{met_by, met_in, met_at, met_member, met_members, met_called, met_target, most_met}
+use Rattle.node_requests.specs.Bounded.{met_by, met_in, met_at, met_members, met_called, met_target, most_met}
 use Rattle.node_requests.specs.inner.Left.{minus, within}
 
 -- ---- a budget

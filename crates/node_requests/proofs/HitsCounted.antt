@@ -1,5 +1,5 @@
 -- A verdict's hits are no more than the rules that it may meet.
-use Rattle.std.proofs.Common.{◌≡◌, ℕ, zero, suc, ◌+◌, ◌≤◌, ◌++◌, Bool, true, false, List, [], ◌∷◌, length, map, refl, sym, ap, ◌∙◌, subst, arith, length-append}
+use Rattle.std.proofs.Common.{◌≡◌, ℕ, zero, suc, ◌+◌, ◌≤◌, ◌++◌, Bool, true, false, List, [], ◌∷◌, length, map, refl, arith, length-append}
 use Rattle.std.specs.Prelude.{nat_le, filter, not, if◌then◌else◌}
 use Rattle.std.specs.List.{flat_map}
 use Rattle.pf_rules.specs.Names.{Name, begins_below}
@@ -9,7 +9,7 @@ use Rattle.pf_config.specs.Trees.{last_name}
 use Rattle.pf_eval.specs.Matching.{Tables, matches}
 use Rattle.pf_eval.specs.Packets.{PacketValue}
 use Rattle.pf_eval.specs.Verdicts.{Hit, stop_last, marked, rule_hits, hits_with, not_too_deep, member_hits, target_hits, tables_in, hits}
-use Rattle.node_requests.specs.Bounded.{met_by, met_in, met_at, met_member, met_members, met_called, met_target, most_met}
+use Rattle.node_requests.specs.Bounded.{met_by, met_in, met_at, met_members, met_target, most_met}
 
 -- ---- rules
 

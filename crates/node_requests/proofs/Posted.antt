@@ -1,5 +1,5 @@
 -- Which requests change something: what a method, a path, a query and a body ask for, by cases.
-use Rattle.std.proofs.Common.{◌≡◌, ◌≢◌, ◌∙◌, ℕ, ◌==◌, Bool, true, false, List, [], ◌∷◌, refl, sym, ap, subst, Option, Some, None}
+use Rattle.std.proofs.Common.{◌≡◌, ◌∙◌, ℕ, Bool, true, false, List, [], ◌∷◌, refl, sym, ap, subst, Option, Some, None}
 use Rattle.std.proofs.Common.{◌⊎◌, ◌&&◌, ◌||◌, inl, inr, Result, Ok, Err}
 use Rattle.std.specs.Prelude.{codes, length, nat_lt, nat_le, if◌then◌else◌, ◌↔◌}
 use Rattle.std.specs.Str.{bytes_eq}
@@ -11,7 +11,7 @@ use Rattle.pf_addr.specs.declared.fault.AddrFault.TheVariants.{BadNumber, BadSha
 use Rattle.pf_entry.specs.Entry.{Command}
 use Rattle.pf_arguments.specs.Asked.{Asked as Answer, ActionValue, Change, CheckOnly, ShowRules, ShowTables, ShowAnchors, TableShow, TableTest, asked, given_in}
 use Rattle.pf_arguments.specs.declared.fault.CommandFault.TheVariants.{Memory, Usage, BadPath, BadAddress, TooLong}
-use Rattle.pf_scripts.specs.Ctl.{numbered, rows_asked, asked_at as action_at, is_standard, rows_in}
+use Rattle.pf_scripts.specs.Ctl.{numbered, asked_at as action_at, is_standard, rows_in}
 use Rattle.pf_scripts.specs.Lines.{words_in}
 use Rattle.pf_scripts.specs.WordsRead.{change_of as command_of, change_in}
 use Rattle.node_requests.specs.declared.target.Target.{Target}

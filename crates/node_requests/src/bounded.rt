@@ -6,6 +6,7 @@ ghost use Rattle.pf_config.specs.Trees.{paths_of, shared};
 ghost use Rattle.pf_eval.specs.inner.TwoWalks.{IsAnchorOf, AreAnchorsOf};
 ghost use Rattle.node_requests.specs.Bounded.{met_by, met_at, met_member, met_members, met_called, met_target};
 ghost use Rattle.node_requests.specs.Bounded.{most_met, fitting};
+ghost use Rattle.node_requests.specs.declared.bounded.TheConstants.{MET_MAX, NESTED};
 ghost use Rattle.node_requests.specs.inner.Left.{minus, within};
 
 use pf_config::{Anchor, Config};
@@ -138,7 +139,7 @@ fn left_after(config: &Config, anchor: &Anchor, depth: u8, left: u32) -> Option<
 /// How many rules a verdict may meet, none where they are more than verdicts may.
 #[tactic(auto, using(crate::proofs::Budget::met, crate::proofs::Budget::met_none))]
 fn met(config: &Config) -> Option<u32>
-    ensures { result ≡ within MET_MAX (most_met 9 config.now []) }
+    ensures { result ≡ within MET_MAX (most_met NESTED config.now []) }
 {
     match config.anchor(&[]) {
         Some(main) => {

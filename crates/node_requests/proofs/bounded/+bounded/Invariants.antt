@@ -1,8 +1,7 @@
 -- what is left decides of what is met behind it
-use Rattle.std.proofs.Common.{◌≡◌, ◌≤◌, ◌+◌, ◌-◌, ◌*◌, map, drop, length}
+use Rattle.std.proofs.Common.{◌≡◌, ◌+◌, ◌-◌, ◌*◌, map, drop}
 use Rattle.pf_rules.specs.Seen.{rule_of}
 use Rattle.pf_config.specs.Trees.{paths_of, shared}
-use Rattle.pf_eval.specs.inner.TwoWalks.{IsAnchorOf, AreAnchorsOf}
 use Rattle.node_requests.specs.Bounded.{met_in, met_members, met_target, most_met}
 use Rattle.node_requests.specs.inner.Left.{minus}
 use Rattle.node_requests.proofs.bounded.+bounded.Given as goal

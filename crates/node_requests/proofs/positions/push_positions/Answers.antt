@@ -1,4 +1,4 @@
-use Rattle.std.proofs.Common.{◌≡◌, ◌<◌, ◌∙◌, string_bytes, arith}
+use Rattle.std.proofs.Common.{◌<◌, ◌∙◌, string_bytes, arith}
 use Rattle.pf_node.specs.Nodes.{learned_by, applied_of, kept_of}
 use Rattle.node_requests.proofs.PositionsLogged.{one_more}
 use Rattle.node_requests.proofs.positions.push_positions.Goals as goal
