@@ -1,6 +1,6 @@
 -- The text of a path, and the script of a configuration, as they are written.
 use Rattle.std.specs.Prelude.{ℕ, zero, suc, Bool, true, false, ◌==◌, ◌&&◌, not, nat_le, List, [], ◌∷◌, ◌++◌, ◌+◌, ◌-◌}
-use Rattle.std.specs.Prelude.{length, take, drop, map, slice_get, Option, Some, None, codes, decimal, bytes_eq}
+use Rattle.std.specs.Prelude.{length, take, drop, map, Option, Some, None, codes, decimal, bytes_eq}
 use Rattle.std.specs.Prelude.{if◌then◌else◌}
 use Rattle.std.specs.List.{flat_map, list_any}
 use Rattle.std.specs.Str.{trim_end}
@@ -10,7 +10,7 @@ use Rattle.pf_rules.specs.declared.ruleset.TableEntry.{TableEntry}
 use Rattle.pf_tables.specs.Tables.{TableValue}
 use Rattle.pf_show.specs.Shown.{entry_part, any_rule_line}
 use Rattle.pf_config.specs.Map.{Configuration, Path, path_eq, rules_at, table_names, table_at}
-use Rattle.pf_entry.specs.Entry.{Command, load, flush_rules, flush_tables, flush_all, add, delete, replace, flush_table}
+use Rattle.pf_entry.specs.Entry.{Command, load}
 use Rattle.pf_command.specs.Arguments.{path_words, table_words, command_words}
 use Rattle.pf_dump.specs.Texts.{Text, text_paths}
 use Rattle.pf_dump.specs.declared.text.TheConstants.{DEPTH}
@@ -65,14 +65,6 @@ abbrev pub heading_in : AnyRule → Option Heading
 heading_in (FilterRule r) = None
 heading_in (AnchorRule h) = Some h
 
-abbrev pub heading_at : Option AnyRule → Option Heading
-heading_at None = None
-heading_at (Some r) = heading_in r
-
-abbrev pub line_at : Option AnyRule → List ℕ
-line_at None = []
-line_at (Some r) = any_rule_line r
-
 abbrev pub names_in : Option Heading → Path
 names_in None = []
 names_in (Some h) = h.target.names
@@ -104,38 +96,27 @@ abbrev pub carries : Configuration → Path → (hidden : Bool) → (before : Li
 carries c p hidden before t =
     hidden && not t.children && not (has_target t.names before) && has_rules (rules_at c (p ++ t.names))
 
--- what a rule opens: nothing, an unnamed block, or an anchor's block
+-- what a rule opens: nothing, or a block that no command names, of an unnamed one with its name
 pub data Opens : Type 0 where
   Closed : Opens
-  Unnamed : (name : Name) → Opens
-  Named : Opens
+  Block : (unnamed : Option Name) → Opens
 
 abbrev pub opens_if : Option Name → (carries : Bool) → Opens
-opens_if (Some n) carries = Unnamed n
-opens_if None true = Named
+opens_if (Some n) carries = Block (Some n)
+opens_if None true = Block None
 opens_if None false = Closed
 
+-- a rule behind others, where the next unnamed block has this number
 abbrev pub opens : Configuration → Path → (hidden : Bool) → (before : List AnyRule) → (number : ℕ) → Option Heading →
     Opens
 opens c p hidden before k None = Closed
 opens c p hidden before k (Some h) = opens_if (block_name h.target k) (carries c p hidden before h.target)
 
--- one block more is counted where it is unnamed
-abbrev pub counted : ℕ → Opens → ℕ
-counted k Closed = k
-counted k (Unnamed n) = k + 1
-counted k Named = k
-
--- how many of the first rules of a path open an unnamed block
-abbrev pub unnamed_below : Configuration → Path → (hidden : Bool) → ℕ → ℕ
-unnamed_below c p hidden zero = 0
-unnamed_below c p hidden (suc n) = let k = unnamed_below c p hidden n in
-    counted k (opens c p hidden (take n (rules_at c p)) (k + 1) (heading_at (slice_get (rules_at c p) n)))
-
--- what the rule at a place opens
-abbrev pub opens_at : Configuration → Path → (hidden : Bool) → ℕ → Opens
-opens_at c p hidden n =
-    opens c p hidden (take n (rules_at c p)) (unnamed_below c p hidden n + 1) (heading_at (slice_get (rules_at c p) n))
+-- how many unnamed blocks it opens
+abbrev pub unnamed_in : Opens → ℕ
+unnamed_in Closed = 0
+unnamed_in (Block None) = 0
+unnamed_in (Block (Some n)) = 1
 
 -- an anchor rule up to its conditions
 abbrev pub anchor_front : Name → List ℕ
@@ -147,28 +128,30 @@ without_name name text =
     if bytes_eq (take (length (anchor_front name)) text) (anchor_front name)
     then codes "anchor" ++ drop (length (anchor_front name)) text else text
 
--- an anchor rule's line, a brace that opens its block, the rules in it, and a brace
-abbrev pub braced : (heading block : List ℕ) → List ℕ
-braced heading block = heading ++ codes " {\n" ++ block ++ codes "}\n"
+-- an anchor rule's line, of an unnamed block without the name
+abbrev pub heading_text : (unnamed : Option Name) → List ℕ → List ℕ
+heading_text None text = text
+heading_text (Some n) text = without_name n text
 
--- a rule, with what it opens
+-- a rule's line, with the rules of the block that it opens in braces
 abbrev pub rule_text : Opens → (line block : List ℕ) → List ℕ
 rule_text Closed line block = line
-rule_text (Unnamed n) line block = braced (without_name n (trim_end line)) block
-rule_text Named line block = braced (trim_end line) block
+rule_text (Block unnamed) line block =
+    heading_text unnamed (trim_end line) ++ codes " {\n" ++ block ++ codes "}\n"
 
--- the first rules of a path, with the blocks that they open
-abbrev pub rules_below : (block : Path → List ℕ) → Configuration → Path → (hidden : Bool) → ℕ → List ℕ
-rules_below block c p hidden zero = []
-rules_below block c p hidden (suc n) =
-    let r = slice_get (rules_at c p) n in
-    rules_below block c p hidden n ++
-    rule_text (opens_at c p hidden n) (line_at r) (block (p ++ names_in (heading_at r)))
+-- rules behind others, with the blocks that they open
+abbrev pub rules_behind : (block : Path → List ℕ) → Configuration → Path → (hidden : Bool) →
+    (before : List AnyRule) → (number : ℕ) → List AnyRule → List ℕ
+rules_behind block c p hidden before k [] = []
+rules_behind block c p hidden before k (r ∷ rs) =
+    let o = opens c p hidden before k (heading_in r) in
+    rule_text o (any_rule_line r) (block (p ++ names_in (heading_in r))) ++
+    rules_behind block c p hidden (before ++ (r ∷ [])) (k + unnamed_in o) rs
 
 -- the rules of a path, with their blocks down to a depth; hidden are the paths below an unnamed block
 unfoldable pub rules_text : (depth : ℕ) → (hidden : Bool) → Configuration → Path → List ℕ
 rules_text zero hidden c p = []
-rules_text (suc d) hidden c p = rules_below (rules_text d true c) c p hidden (length (rules_at c p))
+rules_text (suc d) hidden c p = rules_behind (rules_text d true c) c p hidden [] 1 (rules_at c p)
 
 -- ---- the text of a path
 
@@ -209,13 +192,7 @@ words_line command = codes "pfctl " ++ command_words command ++ codes "\n"
 -- a command as a line of a script, a load with its text
 abbrev pub change_lines : Command → List ℕ
 change_lines (load p profile text) = load_lines p text
-change_lines (flush_rules p) = words_line (flush_rules p)
-change_lines (flush_tables p) = words_line (flush_tables p)
-change_lines (flush_all p) = words_line (flush_all p)
-change_lines (add p name list) = words_line (add p name list)
-change_lines (delete p name list) = words_line (delete p name list)
-change_lines (replace p name list) = words_line (replace p name list)
-change_lines (flush_table p name) = words_line (flush_table p name)
+change_lines command = words_line command
 
 -- a command on a table up to its addresses
 abbrev pub table_command : Path → Name → (word : List ℕ) → List ℕ

@@ -15,8 +15,8 @@
 //!
 //! # Why
 //!
-//! - Scripts and rulesets are made by no clause's word: what is made is done, and what it gives is compared with the
-//!   configuration.
+//! - No clause says that the script or the rulesets that are written give the configuration: they are done, and what
+//!   that gives is compared with the configuration.
 #![tactic(auto)]
 
 mod dumping;

@@ -1,6 +1,6 @@
 //! A configuration as rulesets for pfctl(8).
 
-ghost use Rattle.std.specs.Prelude.{◌≡◌, ◌++◌, true, IfOk, IfSome, IfNone, map};
+ghost use Rattle.std.specs.Prelude.{◌≡◌, true, IfOk, IfSome, IfNone, map};
 ghost use Rattle.pf_dump.specs.Done.{text_done, texts_done, AreDoneTo};
 ghost use Rattle.pf_dump.specs.Written.{texts_of};
 ghost use Rattle.pf_dump.specs.inner.Seen.{IsDone};
@@ -11,7 +11,7 @@ ghost use Rattle.std.specs.List.{list_all};
 ghost use Rattle.pf_dump.specs.Seen.{text_of};
 
 use crate::same::is_same;
-use crate::text::push_text;
+use crate::text::{copied, push_text};
 use pf_config::{Config, ConfigFault};
 use pf_grammar::{ParseFault, Place, Profile, parse};
 use pf_rules::{Name, Path};
@@ -73,17 +73,6 @@ pub fn text_paths(alloc: Global, config: &Config) -> Result<Vec<&[Name]>, AllocE
         found.push(main)?;
     }
     Ok(found)
-}
-
-/// The names once more.
-fn copied(alloc: Global, path: &[Name]) -> Result<Vec<Name>, AllocError>
-    ensures { IfOk result (λ v. v.items ≡ path.now) }
-{
-    let mut names = Vec::new(alloc);
-    for name in path {
-        names.push(name.copied(alloc)?)?;
-    }
-    Ok(names)
 }
 
 /// The place of a path's text.

@@ -4,7 +4,7 @@ ghost use Rattle.std.specs.Prelude.{◌≡◌, true, IfOk, map};
 ghost use Rattle.std.specs.Option.{option_copied};
 ghost use Rattle.pf_dump.specs.Contents.{tables_named, tables_of, content_at, IsSame};
 
-use crate::same_rules::{same_interfaces, same_items, same_names};
+use crate::same_rules::{same_interfaces, same_items};
 use pf_config::{Config, Table};
 use pf_rules::{Name, TableEntry};
 use std::alloc::{AllocError, Global};
@@ -54,33 +54,12 @@ fn same_table_if(alloc: Global, a: Option<&Table>, b: Option<&Table>) -> Result<
     }
 }
 
-/// Whether two strings are the same.
-#[tactic(auto, using(pf_config::proofs::Treed::bytes_same))]
-fn same_text(a: &str, b: &str) -> bool
-    ensures same { result ≡ true → a.now ≡ b.now }
-    ensures back { a.now ≡ b.now → result ≡ true }
-{
-    a == b
-}
-
 /// Whether two lists of strings are the same.
 fn same_texts(a: &[&str], b: &[&str]) -> bool
     ensures same { result ≡ true → map (λ x. x.now) a.now ≡ map (λ x. x.now) b.now }
     ensures back { map (λ x. x.now) a.now ≡ map (λ x. x.now) b.now → result ≡ true }
 {
-    let mut left = a;
-    let mut right = b;
-    while let [x, xs @ ..] = left {
-        let [y, ys @ ..] = right else {
-            return false;
-        };
-        if !same_text(x, y) {
-            return false;
-        }
-        left = xs;
-        right = ys;
-    }
-    right.is_empty()
+    a == b
 }
 
 /// Whether the tables of these names are the same at a path.
@@ -136,19 +115,7 @@ fn same_paths(a: &[&[Name]], b: &[&[Name]]) -> bool
     ensures same { result ≡ true → map (λ x. x.now) a.now ≡ map (λ x. x.now) b.now }
     ensures back { map (λ x. x.now) a.now ≡ map (λ x. x.now) b.now → result ≡ true }
 {
-    let mut left = a;
-    let mut right = b;
-    while let [x, xs @ ..] = left {
-        let [y, ys @ ..] = right else {
-            return false;
-        };
-        if !same_names(x, y) {
-            return false;
-        }
-        left = xs;
-        right = ys;
-    }
-    right.is_empty()
+    a == b
 }
 
 /// Whether the same is at each of these paths.

@@ -2,37 +2,18 @@
 
 ghost use Rattle.std.specs.Prelude.{◌≡◌, true, map};
 ghost use Rattle.pf_rules.specs.Seen.{rule_of, heading_of};
+ghost use Rattle.pf_config.specs.Map.{path_eq};
 
-use crate::same_parts::{same_flag_test, same_host, same_interface, same_interface_name};
+use crate::same_parts::{same_flag_test, same_host, same_interface};
 use pf_rules::{AnchorHeading, Conditions, InterfaceName, Item, Name, Rule};
-
-/// Whether two names are the same.
-#[tactic(auto, using(pf_config::proofs::Treed::bytes_same))]
-fn same_name(a: &Name, b: &Name) -> bool
-    ensures same { result ≡ true → a.now ≡ b.now }
-    ensures back { a.now ≡ b.now → result ≡ true }
-{
-    a.as_bytes() == b.as_bytes()
-}
 
 /// Whether two lists have the same names in one order.
 pub(crate) fn same_names(a: &[Name], b: &[Name]) -> bool
+    ensures value { result ≡ path_eq a.now b.now }
     ensures same { result ≡ true → a.now ≡ b.now }
     ensures back { a.now ≡ b.now → result ≡ true }
 {
-    let mut left = a;
-    let mut right = b;
-    while let [x, xs @ ..] = left {
-        let [y, ys @ ..] = right else {
-            return false;
-        };
-        if !same_name(x, y) {
-            return false;
-        }
-        left = xs;
-        right = ys;
-    }
-    right.is_empty()
+    a == b
 }
 
 /// Whether two lists name the same interfaces in one order.
@@ -40,19 +21,7 @@ pub(crate) fn same_interfaces(a: &[InterfaceName], b: &[InterfaceName]) -> bool
     ensures same { result ≡ true → a.now ≡ b.now }
     ensures back { a.now ≡ b.now → result ≡ true }
 {
-    let mut left = a;
-    let mut right = b;
-    while let [x, xs @ ..] = left {
-        let [y, ys @ ..] = right else {
-            return false;
-        };
-        if !same_interface_name(x, y) {
-            return false;
-        }
-        left = xs;
-        right = ys;
-    }
-    right.is_empty()
+    a == b
 }
 
 /// Whether the same packets are meant by hosts and ports.

@@ -1,21 +1,25 @@
 //! The text of a path.
 
-ghost use Rattle.std.specs.Prelude.{◌≡◌, ◌++◌, ◌<◌, IfOk, OnOk, map, length, slice_get, option_map, string_bytes};
+ghost use Rattle.std.specs.Prelude.{◌≡◌, ◌++◌, ◌≤◌, IfOk, OnOk, map, option_map, string_bytes};
 ghost use Rattle.std.specs.List.{flat_map};
 ghost use Rattle.std.specs.Option.{option_copied};
 ghost use Rattle.pf_rules.specs.Seen.{heading_of, rule_of, target_of};
+ghost use Rattle.pf_show.specs.Shown.{any_rule_line};
 ghost use Rattle.pf_config.specs.Map as configs;
 ghost use Rattle.pf_command.specs.Arguments.{joined, path_words};
 ghost use Rattle.pf_dump.specs.Written as text;
 ghost use Rattle.pf_dump.specs.Written.{if_said, entry_word, entry_words, listed_text, table_text, table_text_if};
 ghost use Rattle.pf_dump.specs.Written.{tables_text, skip_word, skip_text, heading_in, block_name, is_on};
-ghost use Rattle.pf_dump.specs.Written.{has_rules, without_name, rules_text, skip_at, path_text};
+ghost use Rattle.pf_dump.specs.Written.{unnamed_in, has_rules, without_name, heading_text, rules_text, skip_at};
+ghost use Rattle.pf_dump.specs.Written.{path_text};
 ghost use Rattle.pf_dump.specs.inner.Seen.{opens_of};
 
+use crate::same_rules::same_names;
 use pf_config::{Config, Table};
 use pf_rules::{AnchorHeading, InterfaceName, Item, Name, TableEntry};
 use pf_show::show_items;
 use std::alloc::{AllocError, Global};
+use std::slice;
 
 /// How deep rulesets are in one another at most: a path has at most 8 names.
 const DEPTH: u32 = 10;
@@ -25,10 +29,22 @@ const DEPTH: u32 = 10;
 enum Opens<'c> {
     /// Nothing.
     Closed,
-    /// The unnamed block of this name.
-    Unnamed(&'c Name),
-    /// The block of an anchor that no command names.
-    Named,
+    /// A block that no command names; of an unnamed one its name.
+    Block(Option<&'c Name>),
+}
+
+impl Opens<'_> {
+    /// How many unnamed blocks it opens.
+    fn unnamed(&self) -> usize
+        ensures value { result ≡ unnamed_in (opens_of self.now) }
+        ensures few { result ≤ 1 }
+    {
+        match self {
+            Opens::Closed => 0,
+            Opens::Block(None) => 0,
+            Opens::Block(Some(_)) => 1,
+        }
+    }
 }
 
 /// Puts names behind the text, with slashes between them.
@@ -193,14 +209,22 @@ fn push_tables(
     Ok(())
 }
 
+/// The names once more.
+pub(crate) fn copied(alloc: Global, path: &[Name]) -> Result<Vec<Name>, AllocError>
+    ensures { IfOk result (λ v. v.items ≡ path.now) }
+{
+    let mut names = Vec::new(alloc);
+    for name in path {
+        names.push(name.copied(alloc)?)?;
+    }
+    Ok(names)
+}
+
 /// A path and the names behind it.
 fn joined(alloc: Global, path: &[Name], names: &[Name]) -> Result<Vec<Name>, AllocError>
     ensures { IfOk result (λ v. v.items ≡ path.now ++ names.now) }
 {
-    let mut all = Vec::new(alloc);
-    for name in path {
-        all.push(name.copied(alloc)?)?;
-    }
+    let mut all = copied(alloc, path)?;
     for name in names {
         all.push(name.copied(alloc)?)?;
     }
@@ -242,31 +266,12 @@ fn block_name<'c>(
     }
 }
 
-/// Whether two lists of names are the same.
-fn are_same(a: &[Name], b: &[Name]) -> bool
-    ensures { result ≡ configs.path_eq a.now b.now }
-{
-    let mut left = a;
-    let mut right = b;
-    while let [x, xs @ ..] = left {
-        let [y, ys @ ..] = right else {
-            return false;
-        };
-        if x.as_bytes() != y.as_bytes() {
-            return false;
-        }
-        left = xs;
-        right = ys;
-    }
-    right.is_empty()
-}
-
 /// Whether a rule is an anchor rule on these names themselves.
 fn is_on(item: &Item, names: &[Name]) -> bool
     ensures { result ≡ is_on names.now (heading_in (rule_of item.now)) }
 {
     match heading_in(item) {
-        Some(heading) => !heading.target.children && are_same(&heading.target.names, names),
+        Some(heading) => !heading.target.children && same_names(&heading.target.names, names),
         None => false,
     }
 }
@@ -331,21 +336,20 @@ fn opened_by<'c>(
         return Ok(Opens::Closed);
     };
     if let Some(name) = block_name(alloc, heading, number)? {
-        return Ok(Opens::Unnamed(name));
+        return Ok(Opens::Block(Some(name)));
     }
     if carries(alloc, config, path, is_hidden, before, heading)? {
-        return Ok(Opens::Named);
+        return Ok(Opens::Block(None));
     }
     Ok(Opens::Closed)
 }
 
-/// The line of the rule at a place.
+/// The line of a rule.
 #[tactic(auto, using(crate::proofs::Rules::line_one))]
-fn line_at(alloc: Global, items: &[Item], at: usize) -> Result<String, AllocError>
-    requires { at < length items.now }
-    ensures { IfOk result (λ s. string_bytes s ≡ text.line_at (slice_get (map rule_of items.now) at)) }
+fn line_of(alloc: Global, item: &Item) -> Result<String, AllocError>
+    ensures { IfOk result (λ s. string_bytes s ≡ any_rule_line (rule_of item.now)) }
 {
-    show_items(alloc, &items[at..at + 1])
+    show_items(alloc, slice::from_ref(item))
 }
 
 /// Puts an anchor rule's line behind the text, without its name.
@@ -364,6 +368,22 @@ fn push_without(alloc: Global, out: &mut String, name: &Name, line: &str) -> Res
     }
 }
 
+/// Puts an anchor rule's line behind the text, without the name of an unnamed block.
+fn push_heading(
+    alloc: Global,
+    out: &mut String,
+    unnamed: Option<&Name>,
+    line: &str,
+) -> Result<(), AllocError>
+    ensures { OnOk result (string_bytes out.new
+        ≡ string_bytes out.old ++ heading_text (option_copied unnamed.entry) line.now) }
+{
+    match unnamed {
+        Some(name) => push_without(alloc, out, name, line),
+        None => out.push_str(line),
+    }
+}
+
 /// The path below which a rule's block is.
 fn below(alloc: Global, path: &[Name], item: &Item) -> Result<Vec<Name>, AllocError>
     ensures { IfOk result (λ v. v.items ≡ path.now ++ text.names_in (heading_in (rule_of item.now))) }
@@ -375,6 +395,7 @@ fn below(alloc: Global, path: &[Name], item: &Item) -> Result<Vec<Name>, AllocEr
 }
 
 /// Puts the rules of a path behind the text, with the blocks that no command names, down to a depth.
+#[tactic(auto, using(crate::proofs::Rules::deeper))]
 fn push_rules(
     alloc: Global,
     out: &mut String,
@@ -390,31 +411,18 @@ fn push_rules(
         return Ok(());
     }
     let items = config.items(path);
-    let mut number = 0usize;
+    let mut number = 1usize;
     for at in 0..items.len() {
-        let line = line_at(alloc, items, at)?;
-        match opened_by(
-            alloc,
-            config,
-            path,
-            is_hidden,
-            &items[..at],
-            &items[at],
-            number + 1,
-        )? {
+        let item = &items[at];
+        let line = line_of(alloc, item)?;
+        let opens = opened_by(alloc, config, path, is_hidden, &items[..at], item, number)?;
+        number += opens.unnamed();
+        match opens {
             Opens::Closed => out.push_str(line.as_str())?,
-            Opens::Unnamed(name) => {
-                number += 1;
-                push_without(alloc, out, name, line.as_str().trim_end())?;
+            Opens::Block(unnamed) => {
+                push_heading(alloc, out, unnamed, line.as_str().trim_end())?;
                 out.push_str(" {\n")?;
-                let inner = below(alloc, path, &items[at])?;
-                push_rules(alloc, out, config, &inner, true, depth - 1)?;
-                out.push_str("}\n")?;
-            }
-            Opens::Named => {
-                out.push_str(line.as_str().trim_end())?;
-                out.push_str(" {\n")?;
-                let inner = below(alloc, path, &items[at])?;
+                let inner = below(alloc, path, item)?;
                 push_rules(alloc, out, config, &inner, true, depth - 1)?;
                 out.push_str("}\n")?;
             }

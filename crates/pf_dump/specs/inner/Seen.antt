@@ -1,5 +1,6 @@
 -- What a step of a script leaves, and what a rule opens.
 use Rattle.std.specs.Prelude.{◌≡◌, Bool, true, false, Option, None, Some, option_map}
+use Rattle.std.specs.Option.{option_copied}
 use Rattle.pf_config.specs.Map.{Configuration}
 use Rattle.pf_scripts.specs.declared.waiting.Waiting.{Waiting}
 use Rattle.pf_scripts.specs.Ctl.{StepValue}
@@ -27,5 +28,4 @@ IsPlace (Some s) goes new waiting =
 -- what a rule opens, of the code's value
 abbrev pub opens_of : Opens → text.Opens
 opens_of code.Closed = text.Closed
-opens_of (code.Unnamed name) = text.Unnamed name.now
-opens_of code.Named = text.Named
+opens_of (code.Block unnamed) = text.Block (option_copied unnamed)

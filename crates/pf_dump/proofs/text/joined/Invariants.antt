@@ -2,7 +2,4 @@ use Rattle.std.proofs.Common.{◌≡◌, ◌++◌, take}
 use Rattle.pf_dump.proofs.text.joined.Given as goal
 
 abbrev pub invariant-loop-name : goal.invariant-loop-name
-invariant-loop-name l = l.all.items ≡ take l.name-index l.path
-
-abbrev pub invariant-loop-name-2 : goal.invariant-loop-name-2
-invariant-loop-name-2 l = l.all.items ≡ l.path ++ take l.name-index l.names
+invariant-loop-name l = l.all.items ≡ l.path ++ take l.name-index l.names
