@@ -150,6 +150,7 @@ fn written(alloc: Global, config: &Config) -> Result<Vec<PathText<'_>>, AllocErr
 pub fn texts(alloc: Global, config: &Config) -> Result<Option<Vec<PathText<'_>>>, AllocError>
     ensures paths { IfOk result (λ o. IfSome o (λ ts. map (λ t. t.path.now) ts.items ≡ text_paths config.now)) }
     ensures given { IfOk result (λ o. IfSome o (λ ts. GivenBy (map text_of ts.items) config.now)) }
+    ensures done { IfOk result (λ o. IfSome o (λ ts. AreDoneTo (map text_of ts.items) config.now)) }
     ensures texts { IfOk result (λ o. IfSome o (λ ts. map text_of ts.items ≡ texts_of config.now)) }
     ensures none { IfOk result (λ o. IfNone o (AreDoneTo (texts_of config.now) config.now → ⊥)) }
 {
