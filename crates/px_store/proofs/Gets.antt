@@ -16,7 +16,7 @@ use Rattle.sqlite.specs.declared.error.Error.{Error}
 use Rattle.sqlite.specs.State.{State, Shown, FailsToQuery, IsNotRun, IsUnchanged}
 use Rattle.sqlite.specs.Listing.{understood}
 use Rattle.sqlite.proofs.Callers.{IsPlain, reads_as, one_permutation}
-use Rattle.px_store.specs.Seen.{rows_at, shown, seen}
+use Rattle.px_store.specs.Seen.{shown, seen}
 use Rattle.px_store.specs.inner.Effect.{Stays, IsAlike}
 use Rattle.px_store.proofs.Texts.{rows_by, by_key, with_key, select, Asks}
 use Rattle.px_store.proofs.Puts.{equal_rowid, unchanged, undone, fails}

@@ -72,30 +72,6 @@ impl<S: Alter> SqlRecords<S> {
         }
     }
 
-    #[tactic(auto, using(crate::proofs::Stored::alike_entry, crate::proofs::Stored::not_alike_entry))]
-    pub(crate) fn entry_at(&mut self, position: u32) -> Result<Option<Vec<u8>>, StoreFault>
-        ensures good { (view_of S.Store self.new).is_honest →
-            OnOk result ((view_of S.Store self.new).is_good (EntryAt position)) }
-        ensures value { (view_of S.Store self.new).is_honest →
-            IfOk result (λ e. read_in e ≡ (view_of S.Store self.new).kept.learned position) }
-        ensures fits { IfOk result (λ e. is_entry_in self.old.identity.members e ≡ true) }
-        ensures bad { (view_of S.Store self.new).is_honest → result ≡ Err StoreFault.BadStore →
-            (view_of S.Store self.old).is_good (EntryAt position) → ⊥ }
-        ensures reads { OnlyReads (view_of S.Store self.old) (view_of S.Store self.new) }
-        ensures counts { (result ≡ Err StoreFault.Failed) ↔ (0 < self.new.failures) }
-        ensures later { 0 < self.old.failures → self.new ≡ self.old }
-        ensures same_identity { self.new.identity ≡ self.old.identity }
-    {
-        match self.look(Question::Learned { position }) {
-            Ok(rows) => match entry_in_rows(rows.as_slice(), self.identity.members, position) {
-                Ok(entry) => Ok(entry),
-                Err(ReadFault::Memory) => Err(StoreFault::Memory),
-                Err(ReadFault::Bad) => Err(StoreFault::BadStore),
-            },
-            Err(fault) => Err(fault),
-        }
-    }
-
     /// Where this position comes next and the rows that were read ahead are passed, reads those of the positions from
     /// it on. Whether that is done shows in `failures` alone.
     fn read_ahead(&mut self, position: u32)
@@ -116,9 +92,9 @@ impl<S: Alter> SqlRecords<S> {
         }
     }
 
-    /// As `entry_at`. Where positions are asked in turn one statement reads the rows of several.
+    /// Where positions are asked in turn one statement reads the rows of several.
     #[tactic(auto, using(crate::proofs::Stored::alike_entry, crate::proofs::Stored::not_alike_entry))]
-    pub(crate) fn entry_in_turn(&mut self, position: u32) -> Result<Option<Vec<u8>>, StoreFault>
+    pub(crate) fn entry_at(&mut self, position: u32) -> Result<Option<Vec<u8>>, StoreFault>
         ensures good { (view_of S.Store self.new).is_honest →
             OnOk result ((view_of S.Store self.new).is_good (EntryAt position)) }
         ensures value { (view_of S.Store self.new).is_honest →
@@ -135,14 +111,21 @@ impl<S: Alter> SqlRecords<S> {
         if self.failures > 0 {
             return Err(StoreFault::Failed);
         }
-        if position != self.ahead.next || position >= self.ahead.end {
-            return self.entry_at(position);
+        if position == self.ahead.next && position < self.ahead.end {
+            let row = self.ahead.pass();
+            return match entry_in_rows(row.as_slice(), self.identity.members, position) {
+                Ok(entry) => Ok(entry),
+                Err(ReadFault::Memory) => Err(StoreFault::Memory),
+                Err(ReadFault::Bad) => Err(StoreFault::BadStore),
+            };
         }
-        let row = self.ahead.pass();
-        match entry_in_rows(row.as_slice(), self.identity.members, position) {
-            Ok(entry) => Ok(entry),
-            Err(ReadFault::Memory) => Err(StoreFault::Memory),
-            Err(ReadFault::Bad) => Err(StoreFault::BadStore),
+        match self.look(Question::Learned { position }) {
+            Ok(rows) => match entry_in_rows(rows.as_slice(), self.identity.members, position) {
+                Ok(entry) => Ok(entry),
+                Err(ReadFault::Memory) => Err(StoreFault::Memory),
+                Err(ReadFault::Bad) => Err(StoreFault::BadStore),
+            },
+            Err(fault) => Err(fault),
         }
     }
 

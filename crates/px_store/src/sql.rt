@@ -63,7 +63,7 @@ impl<S: Alter> Records for SqlRecords<S> {
     }
 
     fn read_learned(&mut self, position: u32) -> Result<Option<Entry>, StoreFault> {
-        let Some(bytes) = self.entry_in_turn(position)? else {
+        let Some(bytes) = self.entry_at(position)? else {
             return Ok(None);
         };
         let entry = entry_from(self.alloc, bytes.as_slice(), self.identity.members)?;

@@ -1,16 +1,16 @@
 -- a store that is taken has the tables of a format, and its rows as they were found
-use Rattle.std.proofs.Common.{◌≡◌, ◌⊎◌, ◌∙◌, true, false, Result, Ok, Err, Option, Some, None, IfOk, inl, inr, refl, sym, ap, subst, List, [], ◌∷◌, Bool}
+use Rattle.std.proofs.Common.{◌≡◌, ◌∙◌, true, false, Result, Ok, Err, Option, Some, None, IfOk, inl, inr, refl, sym, ap, subst, List, [], ◌∷◌, Bool}
 use Rattle.std.specs.Result.{IfErr}
 use Rattle.sqlite_trees.specs.declared.store.Store.{Ghosts}
 use Rattle.sqlite.specs.Held.{Held, state}
 use Rattle.sqlite.specs.Effect.{Database}
 use Rattle.sqlite.specs.Schema.{Schema}
 use Rattle.sqlite.specs.Table.{Table}
-use Rattle.sqlite.specs.State.{State, HasCleanDisk}
+use Rattle.sqlite.specs.State.{HasCleanDisk}
 use Rattle.sqlite.specs.Tree.{Trees}
 use Rattle.px_store.specs.Tables.{no_schema}
 use Rattle.px_store.specs.Formats.{schema_at, record_at}
-use Rattle.px_store.specs.Adopting.{Began, IsBrought}
+use Rattle.px_store.specs.Adopting.{IsBrought}
 use Rattle.px_store.specs.Judging.{IsOwn, has_rows, refusal, reopen_refusal}
 use Rattle.px_store.specs.Seen.{seen, meta_columns}
 use Rattle.px_store.specs.View.{IsOpened, connection_of, connection_after}
