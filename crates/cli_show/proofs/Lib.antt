@@ -2,3 +2,4 @@ pub mod Opened
 mod Reading
 mod Writing
 pub mod TextsShown
+pub mod LogScripts

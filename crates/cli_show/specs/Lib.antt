@@ -3,3 +3,4 @@ pub mod Showing
 pub mod Stores
 pub mod Outcomes
 pub mod Texts
+pub mod Scripts

@@ -1,5 +1,5 @@
 -- What is shown of a record.
-use Rattle.std.specs.Prelude.{◌≡◌, ◌⊎◌, ℕ, false, [], map, Some, option_map}
+use Rattle.std.specs.Prelude.{◌≡◌, ◌⊎◌, ℕ, [], map, Some, option_map}
 use Rattle.px_model.specs.Node.{Log}
 use Rattle.px_model.specs.Step.{front}
 use Rattle.px_model.specs.Spelling.{Bytes}
@@ -12,24 +12,24 @@ use Rattle.pf_arguments.specs.Answers.{action_value}
 use Rattle.pf_scripts.specs.Listings.{listed}
 use Rattle.pf_node.specs.Applied.{after}
 use Rattle.cli_nft.specs.Outputs.{config_output}
-use Rattle.pf_dump.specs.Scripts.{Gives}
-use Rattle.pf_dump.specs.Done.{IsDoneTo, AreDoneTo}
-use Rattle.pf_dump.specs.Written.{script_of, texts_of}
+use Rattle.pf_dump.specs.Done.{AreDoneTo}
+use Rattle.pf_dump.specs.Written.{texts_of}
 use Rattle.cli_show.specs.Texts.{ShowsTexts}
+use Rattle.cli_show.specs.Scripts.{ShowsScript, HasScript}
 use Rattle.cli_show.specs.Writing.{answered, verdicts, log_shown, figures, of_kernel, OrNone, shown_value}
 use Rattle.cli_show.specs.declared.shown.Shown.{Shown}
 use Rattle.cli_show.specs.declared.shown.Wanted.{Wanted}
 use Rattle.cli_show.specs.declared.shown.Wanted.TheVariants as wanted
 
 -- What is shown of the configuration after the first k entries of a log. Rulesets for pfctl(8), and a script, give the
--- configuration; or they are refused with 91, where those that are written of it don't.
+-- configuration; they are refused with 91 where none that is written of it or of the log does.
 abbrev pub Shows : Log Bytes → (k kept : ℕ) → Configuration → Wanted → Shown → Type 0
 Shows log k kept c (wanted.Listing action) s = shown_value s ≡ answered (listed c (action_value action.now))
 Shows log k kept c (wanted.Packets packets) s = shown_value s ≡ verdicts c (map (λ p. p.now) packets.now)
 Shows log k kept c (wanted.Log from count) s = shown_value s ≡ log_shown log k kept from count
 Shows log k kept c (wanted.Nft file) s = shown_value s ≡ of_kernel (config_output (option_map (λ t. t.now) file) [] k c)
 Shows log k kept c wanted.Texts s = OrNone s (ShowsTexts c) (AreDoneTo (texts_of c) c)
-Shows log k kept c wanted.Script s = OrNone s (λ script. Gives script c) (IsDoneTo (script_of c) c)
+Shows log k kept c wanted.Script s = OrNone s (ShowsScript log k c) (HasScript log k c)
 Shows log k kept c wanted.Figures s = shown_value s ≡ figures k
 
 -- of the first entries of the log that is in a record, up to the first gap

@@ -1,9 +1,11 @@
 -- What is written of a configuration for pfctl(8).
-use Rattle.std.specs.Prelude.{◌≡◌, ℕ, List, ◌++◌, codes, map}
+use Rattle.std.specs.Prelude.{◌≡◌, ℕ, List, ◌++◌, codes}
 use Rattle.std.specs.List.{flat_map}
 use Rattle.pf_config.specs.Map.{Configuration, Path}
 use Rattle.pf_command.specs.Arguments.{path_words}
-use Rattle.pf_dump.specs.Texts.{Text, text_paths, GivenBy}
+use Rattle.pf_dump.specs.Done.{AreDoneTo}
+use Rattle.pf_dump.specs.Texts.{Text}
+use Rattle.pf_dump.specs.Written.{texts_of}
 
 -- the command that loads a ruleset, as a comment
 -- Example: # pfctl -a x/y -f -
@@ -17,7 +19,6 @@ shown_text t = comment t.path ++ t.text
 abbrev pub shown_texts : List Text → List ℕ
 shown_texts ts = flat_map shown_text ts
 
--- one text for each path that a command may load, which together give the configuration
+-- the rulesets that are written of the configuration, which give it
 abbrev pub ShowsTexts : Configuration → List ℕ → Type 0
-ShowsTexts c bytes = (ts : List Text) × (map (λ t. t.path) ts ≡ text_paths c) × GivenBy ts c
-    × (bytes ≡ shown_texts ts)
+ShowsTexts c bytes = AreDoneTo (texts_of c) c × (bytes ≡ shown_texts (texts_of c))

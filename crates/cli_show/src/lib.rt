@@ -20,9 +20,9 @@
 //! - The library opens a database for writing alone. So `show` takes the node's lock, which refuses a store in use,
 //!   writes nothing, and lets the connection go without closing it, which would copy the log of writes.
 //! - Only a store of format 3 with its row is shown, since to take any other one writes.
-//! - **A script and rulesets are checked, not proved to be made well.** What is made of the configuration is done by
-//!   the definition of `ctl` on an empty one, and the two are compared; what doesn't give the same is not shown. So
-//!   nothing is said of how it is made, and a wrong script can't be shown. It costs a replay.
+//! - **A script and rulesets are checked, not proved to give the configuration.** What is written of it is done by the
+//!   definition of `ctl` on an empty one, and the two are compared; what doesn't give the same is not shown. It costs a
+//!   replay.
 //! - Main's load stands last in a script, since a load takes away each table that no rule names: the rules of the
 //!   other paths have to be there.
 #![tactic(auto)]

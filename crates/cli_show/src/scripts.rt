@@ -1,10 +1,11 @@
 //! A script that gives a configuration.
 
-ghost use Rattle.std.specs.Prelude.{◌≡◌, true, false, IfOk, IfSome};
-ghost use Rattle.pf_dump.specs.Scripts.{Gives};
+ghost use Rattle.std.specs.Prelude.{◌≡◌, ◌++◌, IfOk, IfSome, IfNone, OnOk};
+ghost use Rattle.pf_entry.specs.Reading.{reading};
 ghost use Rattle.pf_dump.specs.Done.{IsDoneTo};
-ghost use Rattle.pf_dump.specs.Written.{script_of};
-ghost use Rattle.pf_node.specs.Nodes.{config_of};
+ghost use Rattle.pf_node.specs.Applied.{after_read};
+ghost use Rattle.pf_node.specs.Nodes.{learned_by, applied_of, config_of};
+ghost use Rattle.cli_show.specs.Scripts.{lines_read, log_script, ShowsScript, HasScript};
 ghost use Rattle.cli_show.specs.Writing.{OrNone};
 
 use crate::pfctl::refused;
@@ -19,12 +20,17 @@ use px_records::Records;
 use std::alloc::{AllocError, Global};
 
 /// Puts the command that bytes spell behind a script, unless it is refused at this configuration, where it is done.
+#[tactic(auto, using(crate::proofs::LogScripts::done_lines, crate::proofs::LogScripts::refused_lines))]
 fn push_done(
     alloc: Global,
     script: &mut Vec<u8>,
     config: &mut Config,
     bytes: &[u8],
-) -> Result<(), AllocError> {
+) -> Result<(), AllocError>
+    ensures configuration { OnOk result (config.new ≡ after_read config.old (reading bytes.now)) }
+    ensures script { OnOk result (script.new.items
+        ≡ script.old.items ++ lines_read config.old (reading bytes.now)) }
+{
     let Ok(view) = decode(bytes) else {
         return Ok(());
     };
@@ -39,13 +45,17 @@ fn push_done(
 }
 
 /// The script of all commands of the log that weren't refused.
-fn log_script<R: Records>(alloc: Global, node: &Node<R>) -> Result<Vec<u8>, AllocError> {
+fn log_script<R: Records>(alloc: Global, node: &Node<R>) -> Result<Vec<u8>, AllocError>
+    ensures { IfOk result (λ s. s.items ≡ log_script (learned_by node.now) (applied_of node.now)) }
+{
     let mut script = Vec::new(alloc);
     let mut config = Config::new(alloc)?;
     for position in 0..node.applied() {
-        if let Some(bytes) = node.learned(position) {
-            push_done(alloc, &mut script, &mut config, bytes)?;
-        }
+        let entry = match node.entry(position) {
+            Some(entry) => entry,
+            None => unreachable!(),
+        };
+        push_done(alloc, &mut script, &mut config, entry.bytes())?;
     }
     Ok(script)
 }
@@ -56,7 +66,11 @@ fn log_dump<R: Records>(
     node: &Node<R>,
     config: &Config,
 ) -> Result<Option<Vec<u8>>, AllocError>
-    ensures { IfOk result (λ o. IfSome o (λ s. Gives s.items config.now)) }
+    ensures script { IfOk result (λ o. IfSome o
+        (λ s. s.items ≡ log_script (learned_by node.now) (applied_of node.now))) }
+    ensures done { IfOk result (λ o. IfSome o (λ s. IsDoneTo s.items config.now)) }
+    ensures none { IfOk result (λ o. IfNone o
+        (IsDoneTo (log_script (learned_by node.now) (applied_of node.now)) config.now → ⊥)) }
 {
     let script = log_script(alloc, node)?;
     if gives(alloc, &script, config)? {
@@ -68,8 +82,9 @@ fn log_dump<R: Records>(
 /// A script that gives the node's configuration: one load a path, and where a path's rules are too long for that the
 /// commands of the log that weren't refused. 91 where neither gives it.
 pub(crate) fn show_script<R: Records>(alloc: Global, node: &Node<R>) -> Result<Shown, AllocError>
-    ensures { IfOk result (λ s. OrNone s (λ script. Gives script (config_of node.now))
-        (IsDoneTo (script_of (config_of node.now)) (config_of node.now))) }
+    ensures { IfOk result (λ s. OrNone s
+        (ShowsScript (learned_by node.now) (applied_of node.now) (config_of node.now))
+        (HasScript (learned_by node.now) (applied_of node.now) (config_of node.now))) }
 {
     let config = node.config();
     if let Some(bytes) = dump(alloc, config)? {
