@@ -6,6 +6,7 @@
 //! | `slot AT`, `learned AT` | reports what is promised and accepted at the position, and what is learned |
 //! | `top`, `end`, `failures` | reports one number |
 //! | `read TIMES` | reads the top and the end that many times |
+//! | `entries FROM TO` | reads each position from one to before another, and reports how many have a learned entry |
 //! | `round N`, `number N`, `floor BALLOT` | commits it |
 //! | `promise FROM TO BALLOT` | promises the ballot at each position from one to before another |
 //! | `accept FROM TO BALLOT BYTES`, `learn FROM TO BYTES` | accepts or learns an entry of that many bytes there |
@@ -105,6 +106,19 @@ fn read<R: Records>(records: &mut R, times: u32) -> Result<(), Refused>
     Ok(())
 }
 
+/// How many positions from one to before another have a learned entry.
+fn entries<R: Records>(records: &mut R, from: u32, to: u32) -> Result<u32, StoreFault>
+    ensures { R.members records.new ≡ R.members records.old }
+{
+    let mut count = 0u32;
+    for at in from..to {
+        if records.read_learned(at)?.is_some() {
+            count = count.saturating_add(1);
+        }
+    }
+    Ok(count)
+}
+
 /// Up to four numbers between blanks, each 0 where there is none.
 fn numbers(text: &str) -> [u32; 4] {
     let mut words = text.split(' ');
@@ -159,6 +173,7 @@ pub(crate) fn step<R: Records>(alloc: Global, records: &mut R, step: &str, out: 
         "show" => show(records, out),
         "slot" => slot(records, numbers[0], out),
         "learned" => learned(records, numbers[0], out),
+        "entries" => tell(out, "entries", entries(records, numbers[0], numbers[1])),
         "top" => tell(out, "top", top(records)),
         "end" => tell(out, "end", end(records)),
         "failures" => say_number(out, "failures", records.failures()),
