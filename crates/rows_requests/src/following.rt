@@ -21,14 +21,14 @@ struct FollowedNode<'a> {
     handler: RequestHandler<MemoryRecords>,
     /// The changes that are left, a line each, with `|` for a newline.
     changes: &'a str,
+    /// Whether the lines have the members' guard.
+    is_guarded: bool,
 }
 
-/// Prints a file, if it is there.
+/// Prints a file.
 fn print_file(rt: &HostRuntime, name: &str) -> io::Result<()> {
-    if let Ok(text) = fs::read_to_string(rt, name) {
-        print!(rt; "{name}:\n{text}")?;
-    }
-    Ok(())
+    let text = fs::read_to_string(rt, name)?;
+    print!(rt; "{name}:\n{text}")
 }
 
 /// Prints how many lines a file has.
@@ -37,10 +37,26 @@ fn print_count(rt: &HostRuntime, name: &str) -> io::Result<()> {
     println!(rt; "{} lines", text.lines().count())
 }
 
-/// Prints what was written so far.
-fn print_written(rt: &HostRuntime) -> io::Result<()> {
-    print_file(rt, "main.conf")?;
-    print_file(rt, "anchor+web.conf")?;
+/// The names of the rulesets in the folder, those too that have another name until they are whole, in byte order.
+fn ruleset_names(rt: &HostRuntime) -> io::Result<Vec<String>> {
+    let mut names = Vec::new(rt.alloc());
+    for entry in fs::read_dir(rt, ".")? {
+        let entry = entry?;
+        if entry.file_name().contains(".conf") {
+            names.push(String::from_str(rt.alloc(), entry.file_name())?)?;
+        }
+    }
+    names.sort()?;
+    Ok(names)
+}
+
+/// Prints what was written so far: the rulesets, unless the run is guarded, and how many lines there are.
+fn print_written(rt: &HostRuntime, is_guarded: bool) -> io::Result<()> {
+    if !is_guarded {
+        for name in &ruleset_names(rt)? {
+            print_file(rt, name.as_str())?;
+        }
+    }
     print_count(rt, LINES)
 }
 
@@ -81,7 +97,7 @@ impl FollowedNode<'_> {
     /// What was written is printed, the next change is made, and the entries are read.
     fn turn(&mut self, alloc: Global, from: u32) -> io::Result<Reply> {
         println!(self.rt; "-- asked from {from}")?;
-        print_written(self.rt)?;
+        print_written(self.rt, self.is_guarded)?;
         self.change(alloc)?;
         let line = format!(in alloc; "GET /v1/entries?from={from}")?;
         self.read(alloc, line.as_str())
@@ -112,7 +128,12 @@ impl Control for FollowedNode<'_> {
 /// Follows the node while the changes are made, and once more.
 fn run(rt: &HostRuntime, node: &mut FollowedNode<'_>, turns: u64) -> io::Result<()> {
     let alloc = rt.alloc();
-    let files = TextFiles::new(alloc, ".")?;
+    let files = if node.is_guarded {
+        None
+    } else {
+        Some(TextFiles::new(alloc, ".")?)
+    };
+    let is_guarded = node.is_guarded;
     let mut lines = fs::create(rt, LINES)?;
     let mut errors = io::writer(rt);
     let interfaces = Vec::from_slice(alloc, b"em0 egress\n")?;
@@ -122,17 +143,21 @@ fn run(rt: &HostRuntime, node: &mut FollowedNode<'_>, turns: u64) -> io::Result<
         node,
         turns,
         Some(interfaces),
-        false,
-        Some(files),
+        is_guarded,
+        files,
         &mut lines,
         &mut errors,
     );
     println!(rt; "-- {}", if ended.is_ok() { "ended" } else { "failed" })?;
-    print_written(rt)
+    print_written(rt, is_guarded)?;
+    if is_guarded {
+        print_file(rt, LINES)?;
+    }
+    Ok(())
 }
 
 /// A new node is followed while changes are made, a line each; behind `follow` what was written is printed once more.
-pub(crate) fn follow_node(rt: &HostRuntime, changes: &str) -> io::Result<()> {
+pub(crate) fn follow_node(rt: &HostRuntime, changes: &str, is_guarded: bool) -> io::Result<()> {
     let Some(node) = opened(rt.alloc()) else {
         return println!(rt; "memory");
     };
@@ -140,6 +165,7 @@ pub(crate) fn follow_node(rt: &HostRuntime, changes: &str) -> io::Result<()> {
         rt,
         handler: RequestHandler::new(rt.alloc(), node),
         changes,
+        is_guarded,
     };
     let turns = changes.lines().count() as u64 + 1;
     let done = run(rt, &mut node, turns);

@@ -6,9 +6,10 @@
 //! Of each row the output has the same line, a line `-- CODE`, and the answer's body. Between two rows the node's clock
 //! ticks, and what it sends to itself comes.
 //!
-//! A row `== FOLLOW` runs `follow` over a new node, with files in the folder and the file `lines` as its output. Its body
-//! has changes, a line each, with `|` for a newline. At each ask what was written so far is printed: the files, and how
-//! many lines `lines` has; then the next change is made, and answered.
+//! A row `== FOLLOW` runs `follow` over a new node, with rulesets in the folder and the file `lines` as its output. Its
+//! body has changes, a line each, with `|` for a newline. At each ask what was written so far is printed: the rulesets,
+//! and how many lines `lines` has; then the next change is made, and answered. A row `== FOLLOW GUARDED` has no
+//! rulesets, but lines with the members' guard, which are printed in the end.
 #![tactic(auto)]
 
 mod following;
@@ -43,9 +44,9 @@ fn main(rt: HostRuntime) -> io::Result<()> {
             Some((line, body)) => (line, body),
             None => (row, ""),
         };
-        if line == "FOLLOW" {
+        if line == "FOLLOW" || line == "FOLLOW GUARDED" {
             println!(rt; "== {line}")?;
-            follow_node(&rt, body)?;
+            follow_node(&rt, body, line != "FOLLOW")?;
             continue;
         }
         respond(&rt, &mut handler, line, body)?;
