@@ -61,13 +61,7 @@ pub fn push_change(alloc: Global, script: &mut Vec<u8>, command: &Command) -> Re
 {
     match command {
         Command::Load { path, text, .. } => push_load(alloc, script, path.names(), text),
-        Command::FlushRules { .. } => push_words(alloc, script, command),
-        Command::FlushTables { .. } => push_words(alloc, script, command),
-        Command::FlushAll { .. } => push_words(alloc, script, command),
-        Command::Add { .. } => push_words(alloc, script, command),
-        Command::Delete { .. } => push_words(alloc, script, command),
-        Command::Replace { .. } => push_words(alloc, script, command),
-        Command::FlushTable { .. } => push_words(alloc, script, command),
+        _ => push_words(alloc, script, command),
     }
 }
 
