@@ -224,7 +224,7 @@ pub const REFUSALS: [Explanation; 44] = [
     Explanation {
         code: 72,
         name: "bad row in the store",
-        meaning: "a store with a row that no node writes",
+        meaning: "a store with a row that no node writes, or without its node's row",
         after: STORE_STAYS,
         remedy: "The record is lost: don't mend it by hand, and don't start a node of\n         \
             this number on an older copy.",

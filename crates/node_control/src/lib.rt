@@ -26,8 +26,8 @@
 //! - **A ninth connection is accepted and answered 503**, but for `health` and `stop`: what a connection is for is in
 //!   its first request. It is the last of the list, so once another one closes it is one of the eight.
 //! - **No clause says that a change which is asked came from a client.** std doesn't say what a socket gives, and
-//!   `http_server` doesn't say for which request a service was called last where memory ran out for the answer. A row of
-//!   pfx shows that nothing is learned where no client asks.
+//!   `http_server` doesn't say for which request a service was called last if it is out of memory for the answer. A row
+//!   of pfx shows that nothing is learned where no client asks.
 //! - **Metrics over TCP are a second entrance of the same control socket** (`--metrics`), at an address of this machine
 //!   alone and with clients of its own, so those who connect there keep no operator out. The request handler sees what
 //!   comes there only if it is a read of one of three paths, so nothing changes there. Without `--control` there is no

@@ -66,8 +66,8 @@ accepting next s = record {
 }
 
 -- what a message about this position shows beside how far its sender is, in 32 bits: a member that asks for promises
--- lacks the position, and whoever needs its entry is answered with that and lacks the next one; an accept request counts
--- where another member sent it
+-- lacks the position, and whoever needs its entry is answered with that and lacks the next one; an accept request
+-- counts where another member sent it
 abbrev pub noted_by : Kind → (from to position : ℕ) → PeerProgress → PeerProgress
 noted_by kinds.Prepare from to p s = lacking from (min (p + 1) 4294967295) s
 noted_by kinds.PrepareAll from to p s = lacking from (min (p + 1) 4294967295) s
