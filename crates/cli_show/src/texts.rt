@@ -10,8 +10,9 @@ ghost use Rattle.cli_show.specs.Writing.{OrNone};
 use crate::pfctl::{as_shown, refused};
 use crate::shown::Shown;
 use cli_io::NO_SCRIPT;
+use pf_command::push_path;
 use pf_config::Config;
-use pf_dump::{PathText, push_path, texts};
+use pf_dump::{PathText, texts};
 use std::alloc::{AllocError, Global};
 
 /// Puts a ruleset behind others, and before it a comment that is the command which loads it.

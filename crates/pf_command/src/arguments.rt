@@ -25,7 +25,7 @@ fn push_joined(out: &mut String, path: &[Name]) -> Result<(), AllocError>
 }
 
 /// Puts `-a PATH` behind the text; of the main ruleset nothing.
-fn push_path(out: &mut String, path: &[Name]) -> Result<(), AllocError>
+pub fn push_path(out: &mut String, path: &[Name]) -> Result<(), AllocError>
     ensures { OnOk result (string_bytes out.new ≡ string_bytes out.old ++ path_words path.now) }
 {
     if path.is_empty() {

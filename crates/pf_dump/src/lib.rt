@@ -6,7 +6,7 @@
 //!   one of a log's commands.
 //! - [`gives`]: whether a script, done on an empty configuration, gives a configuration.
 //! - [`texts`]: rulesets for pfctl(8), one for each path, that give a configuration; a [`PathText`] is loaded by `pfctl
-//!   -a PATH -f -`, [`push_path`] puts the option for its path.
+//!   -a PATH -f -`, the option for its path by [`pf_command::push_path`].
 //! - [`is_same`]: whether two configurations skip the same interfaces, and have the same rules and tables at the same
 //!   paths.
 //!
@@ -32,4 +32,3 @@ pub use dumping::{dump, gives};
 pub use path_texts::{PathText, texts};
 pub use same::is_same;
 pub use script::push_change;
-pub use text::push_path;

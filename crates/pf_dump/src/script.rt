@@ -9,9 +9,9 @@ ghost use Rattle.pf_dump.specs.Written.{entries_lines_if, all_entries_lines, pat
 ghost use Rattle.pf_dump.specs.Written.{words_line};
 
 use crate::path_texts::text_paths;
-use crate::text::{push_entry, push_path, push_text};
+use crate::text::{push_entry, push_text};
 use pf_arguments::Command;
-use pf_command::push_command;
+use pf_command::{push_command, push_path};
 use pf_config::{Config, Table};
 use pf_rules::{Name, TableEntry};
 use std::alloc::{AllocError, Global};
@@ -61,13 +61,7 @@ pub fn push_change(alloc: Global, script: &mut Vec<u8>, command: &Command) -> Re
 {
     match command {
         Command::Load { path, text, .. } => push_load(alloc, script, path.names(), text),
-        Command::FlushRules { .. } => push_words(alloc, script, command),
-        Command::FlushTables { .. } => push_words(alloc, script, command),
-        Command::FlushAll { .. } => push_words(alloc, script, command),
-        Command::Add { .. } => push_words(alloc, script, command),
-        Command::Delete { .. } => push_words(alloc, script, command),
-        Command::Replace { .. } => push_words(alloc, script, command),
-        Command::FlushTable { .. } => push_words(alloc, script, command),
+        _ => push_words(alloc, script, command),
     }
 }
 

@@ -6,7 +6,6 @@ ghost use Rattle.std.specs.Option.{option_copied};
 ghost use Rattle.pf_rules.specs.Seen.{heading_of, rule_of, target_of};
 ghost use Rattle.pf_show.specs.Shown.{any_rule_line};
 ghost use Rattle.pf_config.specs.Map as configs;
-ghost use Rattle.pf_command.specs.Arguments.{joined, path_words};
 ghost use Rattle.pf_dump.specs.Written as text;
 ghost use Rattle.pf_dump.specs.Written.{if_said, entry_word, entry_words, listed_text, table_text, table_text_if};
 ghost use Rattle.pf_dump.specs.Written.{tables_text, skip_word, skip_text, heading_in, block_name, is_on};
@@ -45,33 +44,6 @@ impl Opens<'_> {
             Opens::Block(Some(_)) => 1,
         }
     }
-}
-
-/// Puts names behind the text, with slashes between them.
-fn push_joined(out: &mut String, path: &[Name]) -> Result<(), AllocError>
-    ensures { OnOk result (string_bytes out.new ≡ string_bytes out.old ++ joined path.now) }
-{
-    let mut left = path;
-    while let [first, rest @ ..] = left {
-        out.push_str(first.as_str())?;
-        if !rest.is_empty() {
-            out.push('/')?;
-        }
-        left = rest;
-    }
-    Ok(())
-}
-
-/// Puts `-a PATH` and a blank behind the text; of main's path nothing.
-pub fn push_path(out: &mut String, path: &[Name]) -> Result<(), AllocError>
-    ensures { OnOk result (string_bytes out.new ≡ string_bytes out.old ++ path_words path.now) }
-{
-    if path.is_empty() {
-        return Ok(());
-    }
-    out.push_str("-a ")?;
-    push_joined(out, path)?;
-    out.push(' ')
 }
 
 /// Puts a word behind the text, if it is said.
