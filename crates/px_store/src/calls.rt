@@ -1,6 +1,6 @@
 //! The statements: a row of format 3 is put by one call, and rows of each format are asked for by another.
 
-ghost use Rattle.std.specs.Prelude.{◌≡◌, ◌<◌, pos, true, [], Err, IfOk, IfErr, IsTrue};
+ghost use Rattle.std.specs.Prelude.{◌≡◌, ◌<◌, ◌↔◌, pos, true, [], Err, IfOk, IfErr, IsTrue};
 ghost use Rattle.sqlite.specs.Held.{state};
 ghost use Rattle.sqlite.specs.State.{HasCleanDisk, Survives, Executes, CommitsBy};
 ghost use Rattle.sqlite.specs.State.{Shown, FailsToQuery, CommitsShowing};
@@ -36,12 +36,16 @@ pub(crate) fn signed(n: u64) -> i64
     n as i64
 }
 
-fn is_memory(error: &Error) -> bool {
+/// Whether the system had no memory for a statement.
+fn is_memory(error: &Error) -> bool
+    ensures { IsTrue result ↔ (error.now ≡ Error.SqliteFailure ErrorCode.OutOfMemory) }
+{
     matches!(error, Error::SqliteFailure(ErrorCode::OutOfMemory))
 }
 
 /// Whether memory ran out and the connection still serves: it reads an empty text.
 pub(crate) fn cause_of<S: Alter>(conn: &mut Connection<S>, error: Error) -> Trouble
+    ensures memory { result ≡ Trouble.Memory → error ≡ Error.SqliteFailure ErrorCode.OutOfMemory }
     ensures serves { HasCleanDisk (state S.Store conn.new) → result ≡ Trouble.Memory →
         Serves (state S.Store conn.old) (state S.Store conn.new) }
     ensures clean { HasCleanDisk (state S.Store conn.new) → HasCleanDisk (state S.Store conn.old) }
