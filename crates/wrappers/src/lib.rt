@@ -6,9 +6,13 @@
 mod adopting;
 mod configurations;
 mod members;
+mod nodes;
 mod rulesets;
+mod verdicts;
 
 pub use adopting::adopt;
 pub use configurations::{apply, flush_rules, holds};
-pub use members::{commit, decode, read_top, receive, step};
+pub use members::{commit, decode, front, read_top, receive, step};
+pub use nodes::{applied, tick};
 pub use rulesets::{parse, rules_of};
+pub use verdicts::verdict;

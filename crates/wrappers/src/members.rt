@@ -5,13 +5,14 @@ ghost use Rattle.px_model.specs.Bounds.{AnyCommand};
 ghost use Rattle.px_model.specs.Fits.{ChangeFits};
 ghost use Rattle.px_model.specs.Seen.{change_of};
 ghost use Rattle.px_model.specs.Spelling.{Bytes};
-ghost use Rattle.px_model.specs.Step.{commit as committed, top};
+ghost use Rattle.px_model.specs.Step.{commit as committed, front as first_gap, top};
 ghost use Rattle.px_model.specs.World.{World, run};
 ghost use Rattle.px_records.specs.Records.{Rises};
 ghost use Rattle.px_wire.specs.Message.{group, DatagramBytes, Group};
 ghost use Rattle.px_wire.specs.Seen.{message_of};
 ghost use Rattle.px_replica.specs.Calls.{Receives};
 ghost use Rattle.px_replica.specs.Made.{same};
+ghost use Rattle.px_replica.specs.Replicas.{learned_by};
 ghost use Rattle.pf_lab.specs.Coming.{model_events};
 ghost use Rattle.pf_lab.specs.Labs.{IsWorld};
 
@@ -54,6 +55,13 @@ pub fn receive<R: Records>(
     ensures { Receives replica.old replica.new bytes.now out.old.items out.new.items result }
 {
     replica.receive(bytes, out)
+}
+
+/// [`Replica::front`]: the least position that isn't learned.
+pub fn front<R: Records>(replica: &Replica<R>) -> u32
+    ensures { result ≡ first_gap (learned_by replica.now) }
+{
+    replica.front()
 }
 
 /// [`Lab::step`]: an event happens in the lab as in the model's world.
