@@ -1,9 +1,9 @@
+use crate::party::memory_wire;
 use node_udp::{AskAnswer, Membership, ask_once};
 use pf_entry::Command;
 use pf_rules::Path;
 use px_transport::{MemoryWire, Wire};
 use std::alloc::Global;
-use std::test::Fail;
 
 /// Asked, of token 1 and number 0, from member 0 of 3 of cluster 7.
 const ASKED: [u8; 29] = [
@@ -43,56 +43,55 @@ fn is_ask(wire: &MemoryWire) -> bool {
     sent.len() == 1 && first.0 == 0 && first.1.as_slice() == ASK.as_slice()
 }
 
-/// What is answered over a wire that gives these datagrams, and what was sent.
-fn asked(alloc: Global, coming: &[&[u8]]) -> Result<(AskAnswer, bool), Fail> {
-    let mut given = Vec::new(alloc);
-    for bytes in coming {
-        given.push(Vec::from_slice(alloc, bytes)?)?;
-    }
-    let mut wire = MemoryWire::new(alloc, given);
+/// Whether that is answered over the wire, and the Ask is all that was sent.
+fn answers(alloc: Global, wire: &mut MemoryWire, wanted: AskAnswer) -> bool {
     let Some(m) = Membership::new(7, 3, 255) else {
-        return Ok((AskAnswer::NoAnswer, false));
+        return false;
     };
     let command = Command::FlushRules {
         path: Path::main(alloc),
     };
-    let answer = ask_once(alloc, &m, 0, &command, 5, &mut wire)?;
-    Ok((answer, is_ask(&wire) && wire.failures() == 0))
+    let answered = ask_once(alloc, &m, 0, &command, 5, wire);
+    drop(command);
+    let Ok(answer) = answered else {
+        return false;
+    };
+    answer == wanted && is_ask(wire) && wire.failures() == 0
 }
 
-/// Whether that is answered over such a wire, and the Ask is all that was sent.
-fn is_answered(alloc: Global, coming: &[&[u8]], wanted: AskAnswer) -> Result<bool, Fail> {
-    let (answer, is_sent) = asked(alloc, coming)?;
-    Ok(answer == wanted && is_sent)
-}
-
-#[test]
-fn an_answer_is_received(rt: HostRuntime) -> Result<(), Fail> {
-    assert!(rt; is_answered(rt.alloc(), &[&ASKED], AskAnswer::Asked(0))?);
-    assert!(rt; is_answered(rt.alloc(), &[&FULL], AskAnswer::Refused(60))?);
-    Ok(())
-}
-
-#[test]
-fn what_is_no_answer_is_passed_over(rt: HostRuntime) -> Result<(), Fail> {
-    let others: [&[u8]; 4] = [&OTHER_TOKEN, &OTHER_MEMBER, &ASK, &ASKED[..28]];
-    for other in others {
-        assert!(rt; is_answered(rt.alloc(), &[other, &ASKED], AskAnswer::Asked(0))?);
+/// The same over a wire that gives these datagrams.
+fn is_answered(alloc: Global, coming: &[&[u8]], wanted: AskAnswer) -> bool {
+    match memory_wire(alloc, coming) {
+        Ok(mut wire) => answers(alloc, &mut wire, wanted),
+        Err(_) => false,
     }
-    Ok(())
 }
 
 #[test]
-fn the_sixth_datagram_is_too_late(rt: HostRuntime) -> Result<(), Fail> {
+fn an_answer_is_received(rt: HostRuntime) {
+    assert!(rt;
+        is_answered(rt.alloc(), &[&ASKED], AskAnswer::Asked(0))
+            && is_answered(rt.alloc(), &[&FULL], AskAnswer::Refused(60))
+    );
+}
+
+#[test]
+fn what_is_no_answer_is_passed_over(rt: HostRuntime) {
+    let others: [&[u8]; 4] = [&OTHER_TOKEN, &OTHER_MEMBER, &ASK, &ASKED[..28]];
+    for other in &others {
+        assert!(rt; is_answered(rt.alloc(), &[other, &ASKED], AskAnswer::Asked(0)));
+    }
+}
+
+#[test]
+fn the_sixth_datagram_is_too_late(rt: HostRuntime) {
     let other: &[u8] = &OTHER_TOKEN;
     let coming: [&[u8]; 6] = [other, other, other, other, other, &ASKED];
-    assert!(rt; is_answered(rt.alloc(), &coming[1..], AskAnswer::Asked(0))?);
-    assert!(rt; is_answered(rt.alloc(), &coming, AskAnswer::NoAnswer)?);
-    Ok(())
+    assert!(rt; is_answered(rt.alloc(), &coming[1..], AskAnswer::Asked(0)));
+    assert!(rt; is_answered(rt.alloc(), &coming, AskAnswer::NoAnswer));
 }
 
 #[test]
-fn nothing_that_comes_is_no_answer(rt: HostRuntime) -> Result<(), Fail> {
-    assert!(rt; is_answered(rt.alloc(), &[], AskAnswer::NoAnswer)?);
-    Ok(())
+fn nothing_that_comes_is_no_answer(rt: HostRuntime) {
+    assert!(rt; is_answered(rt.alloc(), &[], AskAnswer::NoAnswer));
 }

@@ -1,8 +1,8 @@
 use cli_files::{KeyFault, key_from, key_text, new_key};
 use std::alloc::Global;
 use std::io::{self, ErrorKind};
+use std::panic::Expect;
 use std::random::RandomSource;
-use std::test::Fail;
 
 /// A source whose bytes are all fives.
 struct Fives;
@@ -26,11 +26,13 @@ impl RandomSource for Broken {
 }
 
 #[test]
-fn a_key_is_its_sources(rt: HostRuntime) -> Result<(), Fail> {
-    assert!(rt; new_key(&Fives)? == [0x55; 32]);
+fn a_key_is_its_sources(rt: HostRuntime) {
+    let fives = new_key(&Fives).expect(&rt, "a key");
+    assert!(rt; fives == [0x55; 32]);
     assert!(rt; new_key(&Broken).is_err());
-    assert!(rt; new_key(&rt)? != new_key(&rt)?);
-    Ok(())
+    let first = new_key(&rt).expect(&rt, "a key");
+    let second = new_key(&rt).expect(&rt, "a key");
+    assert!(rt; first != second);
 }
 
 /// What a reader of these bytes has for a key.
@@ -40,20 +42,18 @@ fn read(alloc: Global, text: &[u8]) -> Result<[u8; 32], KeyFault> {
 }
 
 #[test]
-fn a_key_is_read_as_it_was_written(rt: HostRuntime) -> Result<(), Fail> {
+fn a_key_is_read_as_it_was_written(rt: HostRuntime) {
     let alloc = rt.alloc();
-    let key = new_key(&rt)?;
-    let text = key_text(alloc, &key)?;
-    assert_eq!(rt; text.as_str().len(), 65);
+    let key = new_key(&rt).expect(&rt, "a key");
+    let text = key_text(alloc, &key).expect(&rt, "memory");
+    assert!(rt; text.as_str().len() == 65);
     assert!(rt; read(alloc, text.as_bytes()) == Ok(key));
-    Ok(())
 }
 
 #[test]
-fn another_text_is_no_key(rt: HostRuntime) -> Result<(), Fail> {
+fn another_text_is_no_key(rt: HostRuntime) {
     let digits = [b'a'; 66];
     for n in [0, 1, 63, 65, 66] {
         assert!(rt; read(rt.alloc(), &digits[..n]) == Err(KeyFault::NoKey));
     }
-    Ok(())
 }

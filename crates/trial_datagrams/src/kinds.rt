@@ -3,192 +3,184 @@ use crate::bytes::{
     ACCEPT, ADD, ASK, ASK_REFUSED, ASKED, LEARNED, NACK, NEED, PREPARE, PREPARE_ALL, PROMISE,
     PROMISE_ALL, VOTE,
 };
-use crate::party::{expect, expect_written, party};
-use px_wire::{EntryView, Message, decode};
+use crate::party::{is_written, party};
+use px_wire::{EntryView, Message, MessageView, Proposal, decode};
 use std::alloc::Global;
-use std::test::Fail;
 
-/// Whether it is the entry of [`ADD`].
-fn is_add(entry: &EntryView) -> bool {
-    entry.origin() == 0 && entry.number() == 0 && entry.bytes() == ADD
-}
+/// A datagram of each kind, and for whom it is.
+const EACH_KIND: [(u8, &[u8]); 12] = [
+    (1, PREPARE),
+    (0, PROMISE),
+    (1, ACCEPT),
+    (1, VOTE),
+    (0, NACK),
+    (0, NEED),
+    (0, LEARNED),
+    (0, ASK),
+    (255, ASKED),
+    (255, ASK_REFUSED),
+    (1, PREPARE_ALL),
+    (0, PROMISE_ALL),
+];
 
-fn expect_each(alloc: Global, all: &[(u8, &[u8])]) -> Result<(), Fail> {
-    for (to, bytes) in all {
-        expect_written(alloc, &party(*to)?, bytes)?;
+/// Whether it is written as it was read.
+fn is_written_for(alloc: Global, row: &(u8, &[u8])) -> bool {
+    let (to, bytes) = *row;
+    match party(to) {
+        Some(reader) => is_written(alloc, &reader, bytes),
+        None => false,
     }
-    Ok(())
 }
 
 #[test]
-fn each_kind_is_written_as_it_was_read(rt: HostRuntime) -> Result<(), Fail> {
-    expect_each(
-        rt.alloc(),
-        &[
-            (1, PREPARE),
-            (0, PROMISE),
-            (1, ACCEPT),
-            (1, VOTE),
-            (0, NACK),
-            (0, NEED),
-            (0, LEARNED),
-            (0, ASK),
-            (255, ASKED),
-            (255, ASK_REFUSED),
-            (1, PREPARE_ALL),
-            (0, PROMISE_ALL),
-        ],
-    )
+fn each_kind_is_written_as_it_was_read(rt: HostRuntime) {
+    for row in &EACH_KIND {
+        assert!(rt; is_written_for(rt.alloc(), row));
+    }
 }
 
-#[test]
-fn a_promise_tells_what_was_accepted(_rt: HostRuntime) -> Result<(), Fail> {
-    let reader = party(0)?;
-    let (from, message) = decode(&reader, PROMISE)?;
-    expect(from == 1, "another sender")?;
-    let Message::Promise {
-        ballot,
-        position,
-        accepted,
-    } = message
-    else {
-        return Err("another message".into());
-    };
-    expect(ballot == 512 && position == 5, "of another round or place")?;
-    let proposal = accepted.ok_or("nothing accepted")?;
-    expect(proposal.ballot == 257, "accepted in another round")?;
-    expect(is_add(&proposal.entry), "another entry")
+/// An entry's origin, its number and its bytes.
+type Entry = (u8, u64, &'static [u8]);
+
+/// For whom a datagram is, its bytes, from whom it is, its kind and the numbers in it, and the entry in it.
+pub type Row = (u8, &'static [u8], u8, [u64; 4], Option<Entry>);
+
+/// The ballot in which an entry was accepted, or 0.
+fn ballot_of(accepted: &Option<Proposal<EntryView>>) -> u64 {
+    match accepted {
+        Some(proposal) => proposal.ballot,
+        None => 0,
+    }
 }
 
-/// Member 1 reads an Accept of that sender for round 1 of 0, position 5 and the entry of [`ADD`].
-fn expect_accept(bytes: &[u8], sender: u8) -> Result<(), Fail> {
-    let reader = party(1)?;
-    let (from, message) = decode(&reader, bytes)?;
-    expect(from == sender, "another sender")?;
+/// The number of a message's kind, as a datagram has it, and the numbers in the message.
+fn numbers_of(message: &MessageView) -> [u64; 4] {
     match message {
+        Message::Prepare { ballot, position } => [1, *ballot, u64::from(*position), 0],
+        Message::Promise {
+            ballot,
+            position,
+            accepted,
+        } => [2, *ballot, u64::from(*position), ballot_of(accepted)],
         Message::Accept {
-            ballot: 256,
-            position: 5,
-            entry,
-        } => expect(is_add(&entry), "another entry"),
-        _ => Err("another message".into()),
-    }
-}
-
-/// The same of a Vote.
-fn expect_vote(bytes: &[u8], sender: u8) -> Result<(), Fail> {
-    let reader = party(1)?;
-    let (from, message) = decode(&reader, bytes)?;
-    expect(from == sender, "another sender")?;
-    match message {
+            ballot,
+            position,
+            ..
+        } => [3, *ballot, u64::from(*position), 0],
         Message::Vote {
-            ballot: 256,
-            position: 5,
-            entry,
-        } => expect(is_add(&entry), "another entry"),
-        _ => Err("another message".into()),
+            ballot,
+            position,
+            ..
+        } => [4, *ballot, u64::from(*position), 0],
+        Message::Nack {
+            ballot,
+            position,
+            promised,
+        } => [5, *ballot, u64::from(*position), *promised],
+        Message::Need { position } => [6, u64::from(*position), 0, 0],
+        Message::Learned { position, .. } => [7, u64::from(*position), 0, 0],
+        Message::Ask { .. } => [8, 0, 0, 0],
+        Message::Asked { token, number } => [9, *token, *number, 0],
+        Message::AskRefused { token, code } => [10, *token, u64::from(*code), 0],
+        Message::PrepareAll { ballot, position } => [11, *ballot, u64::from(*position), 0],
+        Message::PromiseAll {
+            ballot,
+            position,
+            top,
+            ..
+        } => [12, *ballot, u64::from(*position), u64::from(*top)],
     }
 }
 
-/// Member 0 reads that the entry of [`ADD`] was learned at position 5.
-fn expect_learned(bytes: &[u8], sender: u8) -> Result<(), Fail> {
-    let reader = party(0)?;
-    let (from, message) = decode(&reader, bytes)?;
-    expect(from == sender, "another sender")?;
-    match message {
-        Message::Learned { position: 5, entry } => expect(is_add(&entry), "another entry"),
-        _ => Err("another message".into()),
-    }
-}
-
-#[test]
-fn entries_of_proposals_votes_and_tellings(_rt: HostRuntime) -> Result<(), Fail> {
-    expect_accept(ACCEPT, 0)?;
-    expect_vote(VOTE, 2)?;
-    expect_learned(LEARNED, 2)
-}
-
-/// Whether member 0 reads a Nack of member 1 for round 1 of 0 at position 5, which has promised round 2 of 1.
-fn is_nack(bytes: &[u8]) -> Result<bool, Fail> {
-    let reader = party(0)?;
-    let (from, message) = decode(&reader, bytes)?;
-    Ok(
-        from == 1
-            && matches!(
-                message,
-                Message::Nack {
-                    ballot: 256,
-                    position: 5,
-                    promised: 513
-                }
-            ),
-    )
-}
-
-/// Whether member 0 reads a PromiseAll of member 1 for round 1 of 0 and the first position, with nothing accepted.
-fn is_promise_all(bytes: &[u8]) -> Result<bool, Fail> {
-    let reader = party(0)?;
-    let (from, message) = decode(&reader, bytes)?;
-    Ok(
-        from == 1
-            && matches!(
-                message,
-                Message::PromiseAll {
-                    ballot: 256,
-                    position: 0,
-                    top: 0,
-                    accepted: None
-                }
-            ),
-    )
-}
-
-#[test]
-fn a_nack_and_a_promise_of_all_positions(_rt: HostRuntime) -> Result<(), Fail> {
-    expect(is_nack(NACK)?, "another message")?;
-    expect(is_promise_all(PROMISE_ALL)?, "another message")
-}
-
-/// Member 0 reads an Ask of 255 with token 9.
-fn expect_ask(bytes: &[u8]) -> Result<(), Fail> {
-    let reader = party(0)?;
-    let (from, message) = decode(&reader, bytes)?;
-    expect(from == 255, "another sender")?;
-    match message {
-        Message::Ask { entry } => {
-            expect(entry.origin() == 255, "another origin")?;
-            expect(entry.number() == 9, "another token")
+/// Whether it is that entry.
+fn is_entry(entry: &EntryView, wanted: Option<Entry>) -> bool {
+    match wanted {
+        Some((origin, number, bytes)) => {
+            entry.origin() == origin && entry.number() == number && entry.bytes() == bytes
         }
-        _ => Err("another message".into()),
+        None => false,
     }
 }
 
-/// Whether 255 reads that member 0 has taken its asking of token 9 in as number 4.
-fn is_asked(bytes: &[u8]) -> Result<bool, Fail> {
-    let reader = party(255)?;
-    let (from, message) = decode(&reader, bytes)?;
-    Ok(
-        from == 0
-            && matches!(
-                message,
-                Message::Asked {
-                    token: 9,
-                    number: 4
-                }
-            ),
-    )
+/// Whether that entry is in the message, or none.
+fn has_entry(message: &MessageView, wanted: Option<Entry>) -> bool {
+    match message {
+        Message::Accept { entry, .. }
+        | Message::Vote { entry, .. }
+        | Message::Learned { entry, .. }
+        | Message::Ask { entry } => is_entry(entry, wanted),
+        Message::Promise {
+            accepted: Some(proposal),
+            ..
+        }
+        | Message::PromiseAll {
+            accepted: Some(proposal),
+            ..
+        } => is_entry(&proposal.entry, wanted),
+        _ => wanted.is_none(),
+    }
 }
 
-/// Whether 255 reads that its asking of token 9 is refused by 60.
-fn is_ask_refused(bytes: &[u8]) -> Result<bool, Fail> {
-    let reader = party(255)?;
-    let (_, message) = decode(&reader, bytes)?;
-    Ok(matches!(message, Message::AskRefused { token: 9, code: 60 }))
+/// Whether the datagram is read so.
+pub fn is_read(row: &Row) -> bool {
+    let (to, bytes, sender, numbers, entry) = *row;
+    let Some(reader) = party(to) else {
+        return false;
+    };
+    match decode(&reader, bytes) {
+        Ok((from, message)) => {
+            from == sender && numbers_of(&message) == numbers && has_entry(&message, entry)
+        }
+        Err(_) => false,
+    }
 }
+
+/// A Promise of member 1 for round 2 of 0 at position 5: it accepted the entry of [`ADD`] in round 1 of 1.
+const PROMISED: Row = (0, PROMISE, 1, [2, 512, 5, 257], Some((0, 0, ADD)));
 
 #[test]
-fn clients_and_their_answers(_rt: HostRuntime) -> Result<(), Fail> {
-    expect_ask(ASK)?;
-    expect(is_asked(ASKED)?, "another message")?;
-    expect(is_ask_refused(ASK_REFUSED)?, "another message")
+fn a_promise_tells_what_was_accepted(rt: HostRuntime) {
+    assert!(rt; is_read(&PROMISED));
+}
+
+/// The entry of [`ADD`] at position 5: an Accept and a Vote for round 1 of 0, and what was learned.
+const WITH_ENTRIES: [Row; 3] = [
+    (1, ACCEPT, 0, [3, 256, 5, 0], Some((0, 0, ADD))),
+    (1, VOTE, 2, [4, 256, 5, 0], Some((0, 0, ADD))),
+    (0, LEARNED, 2, [7, 5, 0, 0], Some((0, 0, ADD))),
+];
+
+#[test]
+fn entries_of_proposals_votes_and_tellings(rt: HostRuntime) {
+    for row in &WITH_ENTRIES {
+        assert!(rt; is_read(row));
+    }
+}
+
+/// A Nack of member 1 for round 1 of 0 at position 5, which has promised round 2 of 1.
+const REFUSED: Row = (0, NACK, 1, [5, 256, 5, 513], None);
+
+/// A PromiseAll of member 1 for round 1 of 0 and the first position, with nothing accepted.
+const PROMISED_ALL: Row = (0, PROMISE_ALL, 1, [12, 256, 0, 0], None);
+
+#[test]
+fn a_nack_and_a_promise_of_all_positions(rt: HostRuntime) {
+    assert!(rt; is_read(&REFUSED) && is_read(&PROMISED_ALL));
+}
+
+/// The entry of [`ASK`].
+const ASKED_ENTRY: &[u8] = b"\x01\xff\0\0\0\0\0\0\0\x09\x05\0\x03bad\0\x01\0\x04\x20\x0a\0\0\x01";
+
+/// An Ask of 255 with token 9, which member 0 has taken in as number 4, or refuses by 60.
+const OF_CLIENTS: [Row; 3] = [
+    (0, ASK, 255, [8, 0, 0, 0], Some((255, 9, ASKED_ENTRY))),
+    (255, ASKED, 0, [9, 9, 4, 0], None),
+    (255, ASK_REFUSED, 0, [10, 9, 60, 0], None),
+];
+
+#[test]
+fn clients_and_their_answers(rt: HostRuntime) {
+    for row in &OF_CLIENTS {
+        assert!(rt; is_read(row));
+    }
 }

@@ -1,36 +1,44 @@
 //! A wire that keeps what a member sends to itself.
 
+use crate::party::memory_wire;
+use crate::sockets::{has, has_none, hears};
 use px_transport::{LoopbackWire, MemoryWire, Wire};
-use std::test::Fail;
+use std::panic::Expect;
+
+/// Whether what member 2 sends to itself comes back before what comes from below.
+fn comes_back<W: Wire>(wire: &mut W) -> bool {
+    let is_sent = wire.send(2, b"one") && wire.send(2, b"two") && wire.send(1, b"to another");
+    wire.wait(60_000);
+    let is_back = has(wire, b"one") && hears(wire, 20, b"two");
+    is_sent && is_back && hears(wire, 20, b"from below") && has_none(wire)
+}
+
+/// Whether it sends itself one more than is kept.
+fn sends_itself_65<W: Wire>(wire: &mut W) -> bool {
+    for _ in 0..65 {
+        if !wire.send(2, b"to itself") {
+            return false;
+        }
+    }
+    true
+}
+
+/// Whether the wire below was handed two datagrams, the last one for member 2.
+fn is_handed_two(below: &MemoryWire) -> bool {
+    let Some(sent) = below.sent() else {
+        return false;
+    };
+    let Some(last) = sent.last() else {
+        return false;
+    };
+    sent.len() == 2 && last.0 == 2
+}
 
 #[test]
-fn what_a_member_sends_to_itself_comes_back_first(rt: HostRuntime) -> Result<(), Fail> {
-    let mut coming = Vec::new(rt.alloc());
-    coming.push(Vec::from_slice(rt.alloc(), b"from below")?)?;
-    let mut wire = LoopbackWire::new(rt.alloc(), MemoryWire::new(rt.alloc(), coming), 2);
-    let mut room = [0u8; 100];
-    for text in [b"one", b"two"] {
-        assert!(rt; wire.send(2, text));
-    }
-    assert!(rt; wire.send(1, b"to another"));
-    wire.wait(60_000);
-    assert_eq!(rt; wire.poll(&mut room), Some(3));
-    assert!(rt; &room[..3] == b"one".as_slice());
-    assert_eq!(rt; wire.recv(&mut room), Some(3));
-    assert!(rt; &room[..3] == b"two".as_slice());
-    assert_eq!(rt; wire.recv(&mut room), Some(10));
-    assert_eq!(rt; wire.poll(&mut room), None);
-    for _ in 0..65 {
-        assert!(rt; wire.send(2, b"to itself"));
-    }
+fn what_a_member_sends_to_itself_comes_back_first(rt: HostRuntime) {
+    let below = memory_wire(rt.alloc(), &[b"from below"]).expect(&rt, "memory");
+    let mut wire = LoopbackWire::new(rt.alloc(), below, 2);
+    assert!(rt; comes_back(&mut wire) && sends_itself_65(&mut wire));
     let below = wire.into_inner();
-    let Some(sent) = below.sent() else {
-        return Err(Fail::new("not told"));
-    };
-    assert_eq!(rt; sent.len(), 2);
-    let Some((to, _)) = sent.last() else {
-        return Err(Fail::new("not handed on"));
-    };
-    assert_eq!(rt; *to, 2);
-    Ok(())
+    assert!(rt; is_handed_two(&below));
 }

@@ -1,16 +1,11 @@
 //! The cluster of the trials, and what is read and written in it.
+use px_transport::MemoryWire;
 use px_wire::{Membership, WireFault, decode, encode};
-use std::alloc::Global;
-use std::test::Fail;
-
-/// Refuses what isn't so.
-pub fn expect(is_so: bool, what: &'static str) -> Result<(), Fail> {
-    if is_so { Ok(()) } else { Err(Fail::new(what)) }
-}
+use std::alloc::{AllocError, Global};
 
 /// One of three members of cluster 7, or 255.
-pub fn party(me: u8) -> Result<Membership, Fail> {
-    Ok(Membership::new(7, 3, me).ok_or("three members")?)
+pub fn party(me: u8) -> Option<Membership> {
+    Membership::new(7, 3, me)
 }
 
 /// Whether the reader refuses the bytes by this code at this offset.
@@ -21,18 +16,8 @@ pub fn is_refused(reader: &Membership, bytes: &[u8], code: u8, offset: usize) ->
     }
 }
 
-/// Refuses a datagram that the party reads, or refuses by another code or at another offset.
-pub fn expect_fault(me: u8, bytes: &[u8], code: u8, offset: usize) -> Result<(), Fail> {
-    let reader = party(me)?;
-    if is_refused(&reader, bytes, code, offset) {
-        Ok(())
-    } else {
-        Err(Fail::new(format_args!("not {code} at {offset}")))
-    }
-}
-
 /// The bytes with others in the place of those from there on.
-pub fn changed(alloc: Global, bytes: &[u8], at: usize, put: &[u8]) -> Result<Vec<u8>, Fail> {
+pub fn changed(alloc: Global, bytes: &[u8], at: usize, put: &[u8]) -> Result<Vec<u8>, AllocError> {
     let mut copy = Vec::from_slice(alloc, bytes)?;
     let mut place = at;
     for byte in put {
@@ -44,15 +29,46 @@ pub fn changed(alloc: Global, bytes: &[u8], at: usize, put: &[u8]) -> Result<Vec
     Ok(copy)
 }
 
-/// What the sender of a datagram writes for the message in it.
-pub fn written_again(alloc: Global, reader: &Membership, bytes: &[u8]) -> Result<Vec<u8>, Fail> {
-    let (from, message) = decode(reader, bytes)?;
-    let sender = Membership::new(reader.cluster(), reader.members(), from).ok_or("a sender")?;
-    Ok(encode(alloc, &sender, reader.me(), &message)?)
+/// Bytes behind others.
+pub fn joined(alloc: Global, front: &[u8], back: &[u8]) -> Result<Vec<u8>, AllocError> {
+    let mut bytes = Vec::from_slice(alloc, front)?;
+    bytes.extend_from_slice(back)?;
+    Ok(bytes)
 }
 
-/// Refuses a datagram that isn't written as it was read.
-pub fn expect_written(alloc: Global, reader: &Membership, bytes: &[u8]) -> Result<(), Fail> {
-    let written = written_again(alloc, reader, bytes)?;
-    expect(written.as_slice() == bytes, "other bytes are written")
+/// What the sender of a datagram writes for the message in it.
+pub fn written_again(alloc: Global, reader: &Membership, bytes: &[u8]) -> Option<Vec<u8>> {
+    let Ok((from, message)) = decode(reader, bytes) else {
+        return None;
+    };
+    let Some(sender) = Membership::new(reader.cluster(), reader.members(), from) else {
+        return None;
+    };
+    encode(alloc, &sender, reader.me(), &message).ok()
+}
+
+/// Whether a datagram is written as it was read.
+pub fn is_written(alloc: Global, reader: &Membership, bytes: &[u8]) -> bool {
+    match written_again(alloc, reader, bytes) {
+        Some(written) => written.as_slice() == bytes,
+        None => false,
+    }
+}
+
+/// Whether these are the bytes in hexadecimal digits.
+pub fn has_digits(alloc: Global, bytes: &[u8], digits: &str) -> bool {
+    match hex::encode(alloc, bytes) {
+        Ok(text) => text.as_str() == digits,
+        Err(_) => false,
+    }
+}
+
+/// A wire in memory that gives these datagrams.
+pub fn memory_wire(alloc: Global, coming: &[&[u8]]) -> Result<MemoryWire, AllocError> {
+    let mut given = Vec::new(alloc);
+    for bytes in coming {
+        let copy = Vec::from_slice(alloc, bytes)?;
+        given.push(copy)?;
+    }
+    Ok(MemoryWire::new(alloc, given))
 }

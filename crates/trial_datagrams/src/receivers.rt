@@ -1,12 +1,15 @@
-use px_packet::{Arrival, Header, Kind, PiecesHeld, Start, write_piece};
+use crate::pieces::piece_of;
+use px_packet::{Arrival, Header, Kind, PiecesHeld, Start};
 use px_transport::{PacketOutcome, Receiver};
-use std::alloc::Global;
-use std::test::Fail;
+use std::panic::Expect;
 
 const MINE: Start = Start {
     number: 4,
     salt: 40,
 };
+
+/// A datagram of two pieces.
+const ZEROS: [u8; 1_161] = [0; 1_161];
 
 /// A packet of a start of member 0 for this start of member 1.
 fn packet(number: u32, kind: Kind, counter: u64) -> Header {
@@ -22,80 +25,99 @@ fn packet(number: u32, kind: Kind, counter: u64) -> Header {
     }
 }
 
-/// A piece of 1,161 zeros.
-fn piece(alloc: Global, index: u8) -> Result<Vec<u8>, Fail> {
-    if index > 1 {
-        return Err(Fail::new("no such piece"));
+/// Whether the body is given.
+fn is_whole(receiver: &mut Receiver, header: &Header, body: &[u8]) -> bool {
+    match receiver.take(header, body, 0) {
+        PacketOutcome::Whole(given) => given == body,
+        _ => false,
     }
-    let mut bytes = Vec::new(alloc);
-    write_piece(9, &[0; 1_161], index, &mut bytes)?;
-    Ok(bytes)
+}
+
+/// Whether it was accepted before.
+fn is_repeated(receiver: &mut Receiver, header: &Header, body: &[u8]) -> bool {
+    match receiver.take(header, body, 1) {
+        PacketOutcome::Dropped(arrival) => arrival == Arrival::Repeated,
+        _ => false,
+    }
+}
+
+/// Whether member 2, and 3, which is none, were never heard.
+fn knows_no_other(receiver: &Receiver) -> bool {
+    receiver.start_of(2) == Start::NEVER && receiver.start_of(3) == Start::NEVER
 }
 
 #[test]
-fn a_datagram_is_given_once(rt: HostRuntime) -> Result<(), Fail> {
-    let mut receiver = Receiver::new(rt.alloc(), 3, MINE)?;
+fn a_datagram_is_given_once(rt: HostRuntime) {
+    let mut receiver = Receiver::new(rt.alloc(), 3, MINE).expect(&rt, "memory");
     let header = packet(2, Kind::Whole, 1);
-    assert!(rt; receiver.start() == MINE);
-    assert!(rt; receiver.start_of(0) == Start::NEVER);
-    let PacketOutcome::Whole(body) = receiver.take(&header, b"ab", 0) else {
-        return Err(Fail::new("not given"));
-    };
-    assert!(rt; body == b"ab".as_slice());
-    let PacketOutcome::Dropped(arrival) = receiver.take(&header, b"ab", 1) else {
-        return Err(Fail::new("given again"));
-    };
-    assert!(rt; arrival == Arrival::Repeated);
-    assert!(rt; receiver.start_of(0) == header.start);
-    assert!(rt; receiver.start_of(2) == Start::NEVER);
-    assert!(rt; receiver.start_of(3) == Start::NEVER);
-    Ok(())
+    assert!(rt; receiver.start() == MINE && receiver.start_of(0) == Start::NEVER);
+    assert!(rt;
+        is_whole(&mut receiver, &header, b"ab") && is_repeated(&mut receiver, &header, b"ab")
+    );
+    assert!(rt; receiver.start_of(0) == header.start && knows_no_other(&receiver));
+}
+
+/// Whether the piece is kept, and nothing given.
+fn is_kept(receiver: &mut Receiver, header: &Header, piece: &[u8], now: u64) -> bool {
+    matches!(receiver.take(header, piece, now), PacketOutcome::Nothing)
+}
+
+/// Whether the zeros are given.
+fn is_joined(receiver: &mut Receiver, header: &Header, piece: &[u8], now: u64) -> bool {
+    match receiver.take(header, piece, now) {
+        PacketOutcome::Joined(datagram) => datagram.as_slice() == ZEROS.as_slice(),
+        _ => false,
+    }
+}
+
+/// Whether it is reported at 105, and then due at 155, that the last piece was kept.
+fn is_reported(receiver: &mut Receiver) -> bool {
+    let is_due = receiver.due() == Some(105) && receiver.report(1, 105).is_none();
+    let is_held = receiver.report(0, 105) == Some(PiecesHeld { name: 9, bits: 2 });
+    is_due && is_held && receiver.due() == Some(155)
 }
 
 #[test]
-fn a_datagram_is_given_with_its_last_piece(rt: HostRuntime) -> Result<(), Fail> {
-    let alloc = rt.alloc();
-    let mut receiver = Receiver::new(alloc, 3, MINE)?;
-    let last = piece(alloc, 1)?;
-    let first = piece(alloc, 0)?;
-    let packet_outcome = receiver.take(&packet(2, Kind::Piece, 1), last.as_slice(), 100);
-    assert!(rt; matches!(&packet_outcome, PacketOutcome::Nothing));
-    assert!(rt; receiver.due() == Some(105));
-    assert!(rt; receiver.report(1, 105).is_none());
-    assert!(rt; receiver.report(0, 105) == Some(PiecesHeld { name: 9, bits: 2 }));
-    assert!(rt; receiver.due() == Some(155));
-    let PacketOutcome::Joined(datagram) = receiver.take(
-        &packet(2, Kind::Piece, 2),
-        first.as_slice(),
-        130,
-    ) else {
-        return Err(Fail::new("not given"));
-    };
-    assert!(rt; datagram.as_slice() == [0; 1_161].as_slice());
-    Ok(())
+fn a_datagram_is_given_with_its_last_piece(rt: HostRuntime) {
+    let mut receiver = Receiver::new(rt.alloc(), 3, MINE).expect(&rt, "memory");
+    let last = piece_of(rt.alloc(), 9, &ZEROS, 1).expect(&rt, "memory");
+    let first = piece_of(rt.alloc(), 9, &ZEROS, 0).expect(&rt, "memory");
+    let is_kept = is_kept(&mut receiver, &packet(2, Kind::Piece, 1), &last, 100);
+    assert!(rt; is_kept && is_reported(&mut receiver));
+    assert!(rt; is_joined(&mut receiver, &packet(2, Kind::Piece, 2), &first, 130));
 }
 
 #[test]
-fn a_start_anew_begins_without_pieces(rt: HostRuntime) -> Result<(), Fail> {
-    let alloc = rt.alloc();
-    let mut receiver = Receiver::new(alloc, 3, MINE)?;
-    let last = piece(alloc, 1)?;
-    let first = piece(alloc, 0)?;
-    let packet_outcome = receiver.take(&packet(2, Kind::Piece, 1), last.as_slice(), 100);
-    assert!(rt; matches!(&packet_outcome, PacketOutcome::Nothing));
-    let packet_outcome = receiver.take(&packet(3, Kind::Piece, 1), first.as_slice(), 110);
-    assert!(rt; matches!(&packet_outcome, PacketOutcome::Nothing));
+fn a_start_anew_begins_without_pieces(rt: HostRuntime) {
+    let mut receiver = Receiver::new(rt.alloc(), 3, MINE).expect(&rt, "memory");
+    let last = piece_of(rt.alloc(), 9, &ZEROS, 1).expect(&rt, "memory");
+    let first = piece_of(rt.alloc(), 9, &ZEROS, 0).expect(&rt, "memory");
+    assert!(rt;
+        is_kept(&mut receiver, &packet(2, Kind::Piece, 1), &last, 100)
+            && is_kept(&mut receiver, &packet(3, Kind::Piece, 1), &first, 110)
+    );
     assert!(rt; receiver.report(0, 130) == Some(PiecesHeld { name: 9, bits: 1 }));
-    Ok(())
+}
+
+/// Whether it is given which pieces the sender of the packet has.
+fn is_held(receiver: &mut Receiver, header: &Header, body: &[u8], wanted: PiecesHeld) -> bool {
+    match receiver.take(header, body, 0) {
+        PacketOutcome::Held(held) => held == wanted,
+        _ => false,
+    }
 }
 
 #[test]
-fn pieces_held_are_given(rt: HostRuntime) -> Result<(), Fail> {
-    let mut receiver = Receiver::new(rt.alloc(), 3, MINE)?;
+fn pieces_held_are_given(rt: HostRuntime) {
+    let mut receiver = Receiver::new(rt.alloc(), 3, MINE).expect(&rt, "memory");
+    let header = packet(2, Kind::PiecesHeld, 1);
     let body = [0, 0, 0, 9, 0, 0, 0, 2];
-    let PacketOutcome::Held(held) = receiver.take(&packet(2, Kind::PiecesHeld, 1), &body, 0) else {
-        return Err(Fail::new("not given"));
-    };
-    assert!(rt; held == PiecesHeld { name: 9, bits: 2 });
-    Ok(())
+    assert!(rt;
+        is_held(
+            &mut receiver,
+            &header,
+            &body,
+            PiecesHeld { name: 9, bits: 2 }
+        )
+    );
 }

@@ -1,6 +1,7 @@
 use cli_files::{KnownMember, StartsFault, read_starts, write_starts};
 use px_packet::Start;
-use std::test::Fail;
+use std::alloc::Global;
+use std::panic::Expect;
 
 const TEXT: &str = "pfx starts 1\n\
     00000004000000280000000000000009\n\
@@ -20,16 +21,28 @@ const MEMBERS: [KnownMember; 2] = [
     },
 ];
 
+/// Whether the members are read.
+fn is_read(alloc: Global, text: &[u8]) -> bool {
+    match read_starts(alloc, text) {
+        Ok(members) => members.as_slice() == MEMBERS.as_slice(),
+        Err(_) => false,
+    }
+}
+
+/// Whether the text is refused so.
+fn is_refused(alloc: Global, text: &[u8], wanted: StartsFault) -> bool {
+    match read_starts(alloc, text) {
+        Ok(_) => false,
+        Err(fault) => fault == wanted,
+    }
+}
+
 #[test]
-fn a_file_of_starts_is_read_as_it_was_written(rt: HostRuntime) -> Result<(), Fail> {
-    let alloc = rt.alloc();
-    let text = write_starts(alloc, &MEMBERS)?;
-    assert!(rt; text.as_slice() == TEXT.as_bytes());
-    let Ok(members) = read_starts(alloc, TEXT.as_bytes()) else {
-        return Err(Fail::new("not read"));
-    };
-    assert!(rt; members.as_slice() == MEMBERS.as_slice());
-    assert!(rt; read_starts(alloc, b"pfx starts 2\n").err() == Some(StartsFault::Version));
-    assert!(rt; read_starts(alloc, b"pfx starts 1\n0").err() == Some(StartsFault::Damaged));
-    Ok(())
+fn a_file_of_starts_is_read_as_it_was_written(rt: HostRuntime) {
+    let text = write_starts(rt.alloc(), &MEMBERS).expect(&rt, "memory");
+    assert!(rt; text.as_slice() == TEXT.as_bytes() && is_read(rt.alloc(), TEXT.as_bytes()));
+    assert!(rt;
+        is_refused(rt.alloc(), b"pfx starts 2\n", StartsFault::Version)
+            && is_refused(rt.alloc(), b"pfx starts 1\n0", StartsFault::Damaged)
+    );
 }
