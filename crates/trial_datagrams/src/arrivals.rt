@@ -23,7 +23,7 @@ const KNOWN: Start = Start {
 type Row = (u32, u32, Start, Kind, u64, Arrival);
 
 /// Packets of one start.
-const OF_ONE_START: [Row; 6] = [
+static OF_ONE_START: [Row; 6] = [
     (2, 20, MINE, Kind::Whole, 5, Arrival::Accepted),
     (2, 20, MINE, Kind::Whole, 5, Arrival::Repeated),
     (2, 20, MINE, Kind::Whole, 3, Arrival::Accepted),
@@ -33,13 +33,13 @@ const OF_ONE_START: [Row; 6] = [
 ];
 
 /// Packets for an earlier start.
-const FOR_EARLIER: [Row; 2] = [
+static FOR_EARLIER: [Row; 2] = [
     (2, 20, EARLIER, Kind::Piece, 1, Arrival::OtherEcho),
     (2, 20, EARLIER, Kind::State, 1, Arrival::Accepted),
 ];
 
 /// Packets of other starts, behind those.
-const OF_OTHERS: [Row; 3] = [
+static OF_OTHERS: [Row; 3] = [
     (2, 21, MINE, Kind::Whole, 2, Arrival::OtherMachine),
     (1, 10, MINE, Kind::Whole, 2, Arrival::OldStart),
     (5, 50, MINE, Kind::Whole, 1, Arrival::Accepted),

@@ -23,9 +23,9 @@ fn has_fault(alloc: Global, row: &Row) -> bool {
 }
 
 /// A Prepare of member 0 for its first round and the first position.
-const PREPARED: kinds::Row = (1, PREPARE, 0, [1, 256, 0, 0], None);
+static PREPARED: kinds::Row = (1, PREPARE, 0, [1, 256, 0, 0], None);
 
-const NO_KIND: Row = (1, PREPARE, 12, &[13], 55, 12);
+static NO_KIND: Row = (1, PREPARE, 12, &[13], 55, 12);
 
 #[test]
 fn a_datagram_vector(rt: HostRuntime) {
@@ -35,9 +35,9 @@ fn a_datagram_vector(rt: HostRuntime) {
 }
 
 /// A Need of member 2 for position 5.
-const NEEDED: kinds::Row = (0, NEED, 2, [6, 5, 0, 0], None);
+static NEEDED: kinds::Row = (0, NEED, 2, [6, 5, 0, 0], None);
 
-const NO_NEEDS: [Row; 3] = [
+static NO_NEEDS: [Row; 3] = [
     (0, NEED, 9, &[4], 54, 9),
     (0, NEED, 10, &[3], 54, 10),
     (0, NEED, 14, &[0x0f, 0x42, 0x40], 57, 13),
@@ -53,16 +53,16 @@ fn a_need_and_its_faults(rt: HostRuntime) {
 }
 
 /// A PrepareAll of member 0 for its first round and the first position.
-const PREPARED_ALL: kinds::Row = (1, PREPARE_ALL, 0, [11, 256, 0, 0], None);
+static PREPARED_ALL: kinds::Row = (1, PREPARE_ALL, 0, [11, 256, 0, 0], None);
 
-const NO_TOP: Row = (0, PROMISE_ALL, 26, &[0x0f, 0x42, 0x41], 57, 25);
+static NO_TOP: Row = (0, PROMISE_ALL, 26, &[0x0f, 0x42, 0x41], 57, 25);
 
 #[test]
 fn one_prepare_for_all_positions(rt: HostRuntime) {
     assert!(rt; is_read(&PREPARED_ALL) && has_fault(rt.alloc(), &NO_TOP));
 }
 
-const NO_VALUES: [Row; 7] = [
+static NO_VALUES: [Row; 7] = [
     (1, ACCEPT, 19, &[0], 57, 13),
     (1, ACCEPT, 20, &[2], 57, 13),
     (0, PROMISE, 31, &[2], 57, 25),

@@ -18,7 +18,7 @@ type Row = (
     Option<u64>,
 );
 
-const HEADS: [Row; 12] = [
+static HEADS: [Row; 12] = [
     (PREPARE, 0, 1, Kind::Prepare, Some(256), Some(0), None),
     (PROMISE, 1, 0, Kind::Promise, Some(512), Some(5), None),
     (ACCEPT, 0, 1, Kind::Accept, Some(256), Some(5), None),
@@ -89,10 +89,10 @@ fn ends_there(alloc: Global, row: &(&[u8], usize)) -> bool {
 }
 
 /// Where the head of a datagram ends.
-const ENDS: [(&[u8], usize); 4] = [(VOTE, 25), (LEARNED, 17), (ASKED, 29), (ASK, 13)];
+static ENDS: [(&[u8], usize); 4] = [(VOTE, 25), (LEARNED, 17), (ASKED, 29), (ASK, 13)];
 
 /// Another format, another version and a thirteenth kind.
-const NO_HEADS: [&[u8]; 3] = [
+static NO_HEADS: [&[u8]; 3] = [
     b"PFXS\x01\0\0\0\x07\x03\xff\0\x08",
     b"PFXR\x02\0\0\0\x07\x03\xff\0\x08",
     b"PFXR\x01\0\0\0\x07\x03\xff\0\x0d",

@@ -8,7 +8,7 @@ use px_wire::{EntryView, Message, MessageView, Proposal, decode};
 use std::alloc::Global;
 
 /// A datagram of each kind, and for whom it is.
-const EACH_KIND: [(u8, &[u8]); 12] = [
+static EACH_KIND: [(u8, &[u8]); 12] = [
     (1, PREPARE),
     (0, PROMISE),
     (1, ACCEPT),
@@ -136,7 +136,7 @@ pub fn is_read(row: &Row) -> bool {
 }
 
 /// A Promise of member 1 for round 2 of 0 at position 5: it accepted the entry of [`ADD`] in round 1 of 1.
-const PROMISED: Row = (0, PROMISE, 1, [2, 512, 5, 257], Some((0, 0, ADD)));
+static PROMISED: Row = (0, PROMISE, 1, [2, 512, 5, 257], Some((0, 0, ADD)));
 
 #[test]
 fn a_promise_tells_what_was_accepted(rt: HostRuntime) {
@@ -144,7 +144,7 @@ fn a_promise_tells_what_was_accepted(rt: HostRuntime) {
 }
 
 /// The entry of [`ADD`] at position 5: an Accept and a Vote for round 1 of 0, and what was learned.
-const WITH_ENTRIES: [Row; 3] = [
+static WITH_ENTRIES: [Row; 3] = [
     (1, ACCEPT, 0, [3, 256, 5, 0], Some((0, 0, ADD))),
     (1, VOTE, 2, [4, 256, 5, 0], Some((0, 0, ADD))),
     (0, LEARNED, 2, [7, 5, 0, 0], Some((0, 0, ADD))),
@@ -158,10 +158,10 @@ fn entries_of_proposals_votes_and_tellings(rt: HostRuntime) {
 }
 
 /// A Nack of member 1 for round 1 of 0 at position 5, which has promised round 2 of 1.
-const REFUSED: Row = (0, NACK, 1, [5, 256, 5, 513], None);
+static REFUSED: Row = (0, NACK, 1, [5, 256, 5, 513], None);
 
 /// A PromiseAll of member 1 for round 1 of 0 and the first position, with nothing accepted.
-const PROMISED_ALL: Row = (0, PROMISE_ALL, 1, [12, 256, 0, 0], None);
+static PROMISED_ALL: Row = (0, PROMISE_ALL, 1, [12, 256, 0, 0], None);
 
 #[test]
 fn a_nack_and_a_promise_of_all_positions(rt: HostRuntime) {
@@ -172,7 +172,7 @@ fn a_nack_and_a_promise_of_all_positions(rt: HostRuntime) {
 const ASKED_ENTRY: &[u8] = b"\x01\xff\0\0\0\0\0\0\0\x09\x05\0\x03bad\0\x01\0\x04\x20\x0a\0\0\x01";
 
 /// An Ask of 255 with token 9, which member 0 has taken in as number 4, or refuses by 60.
-const OF_CLIENTS: [Row; 3] = [
+static OF_CLIENTS: [Row; 3] = [
     (0, ASK, 255, [8, 0, 0, 0], Some((255, 9, ASKED_ENTRY))),
     (255, ASKED, 0, [9, 9, 4, 0], None),
     (255, ASK_REFUSED, 0, [10, 9, 60, 0], None),

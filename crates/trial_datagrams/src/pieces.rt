@@ -72,7 +72,7 @@ fn pieces_in_any_order_make_the_datagram(rt: HostRuntime) {
 const HELD: PiecesHeld = PiecesHeld { name: 7, bits: 5 };
 
 /// When they are reported.
-const REPORTED: [u64; 6] = [115, 165, 265, 415, 615, 865];
+static REPORTED: [u64; 6] = [115, 165, 265, 415, 615, 865];
 
 /// Whether the first and the last piece come, and nothing is reported yet.
 fn are_kept(alloc: Global, to: &mut Reassembly, sent: &[u8]) -> bool {

@@ -9,7 +9,7 @@ const MINE: Start = Start {
 };
 
 /// A datagram of two pieces.
-const ZEROS: [u8; 1_161] = [0; 1_161];
+static ZEROS: [u8; 1_161] = [0; 1_161];
 
 /// A packet of a start of member 0 for this start of member 1.
 fn packet(number: u32, kind: Kind, counter: u64) -> Header {

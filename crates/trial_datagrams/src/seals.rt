@@ -7,7 +7,7 @@ use std::panic::Expect;
 type Case = (&'static [u8], &'static [u8], &'static str);
 
 /// The cases of RFC 4231. Of the fifth the first half of the tag alone is known.
-const CASES: [Case; 7] = [
+static CASES: [Case; 7] = [
     (
         &[0x0b; 20],
         b"Hi There",
@@ -67,7 +67,7 @@ fn tags_are_those_of_rfc_4231(rt: HostRuntime) {
 /// A group: the byte of its secret, its cluster and members; and whether its key is that of the first.
 type Group = (u8, u32, &'static [&'static str], bool);
 
-const GROUPS: [Group; 6] = [
+static GROUPS: [Group; 6] = [
     (7, 7, &["a:1", "b:2"], true),
     (8, 7, &["a:1", "b:2"], false),
     (7, 8, &["a:1", "b:2"], false),
@@ -103,7 +103,7 @@ fn another_group_has_another_key(rt: HostRuntime) {
 /// A secret, and texts that are none: shorter ones, and one behind an empty line.
 const SECRET: &[u8] = b"5a5a5a5a5a5a5a5a5a5a5a5a5a5a5a5a5a5a5a5a5a5a5a5a5a5a5a5a5a5a5aFf\n";
 
-const NO_SECRETS: [&[u8]; 5] = [
+static NO_SECRETS: [&[u8]; 5] = [
     b"5a5a",
     b"",
     b"\n",

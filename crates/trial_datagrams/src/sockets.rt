@@ -2,8 +2,11 @@ use crate::bench::Bench;
 use node_udp::{BindFault, UdpWire, parse_address};
 use pf_addr::Addr;
 use px_transport::Wire;
+use std::alloc::Global;
 use std::cell::Cell;
+use std::net::{Net, UdpSocket};
 use std::panic::Expect;
+use std::time::Clock;
 
 /// The front of a datagram of a client: its sender is 255.
 const ASK: [u8; 13] = [0x50, 0x46, 0x58, 0x52, 1, 0, 0, 0, 7, 2, 255, 0, 8];
@@ -13,6 +16,17 @@ const OF_ONE: [u8; 13] = [0x50, 0x46, 0x58, 0x52, 1, 0, 0, 0, 7, 2, 1, 0, 8];
 
 /// Bytes that are no datagram, with 255 where one has its sender.
 const NO_DATAGRAM: [u8; 13] = [0, 0, 0, 0, 0, 0, 0, 0, 0, 0, 255, 0, 8];
+
+/// The wire of a member, or of a client, whose wait has so many milliseconds, one at least.
+fn bound<R: Net + Clock + Copy>(
+    rt: &R,
+    alloc: Global,
+    addresses: &[&str],
+    me: u8,
+    wait_ms: u32,
+) -> Result<UdpWire<UdpSocket, R>, BindFault> {
+    UdpWire::bind(rt, alloc, addresses, me, wait_ms.max(1))
+}
 
 /// Whether the room begins with the bytes, if any came, and is as it was behind them: 7 everywhere.
 fn holds(room: &[u8], came: Option<usize>, wanted: &[u8]) -> bool {
@@ -84,22 +98,22 @@ fn talk<W: Wire>(one: &mut W, other: &mut W, client: &mut W) -> bool {
 #[test]
 fn datagrams_go_between_members_and_who_asks(rt: HostRuntime) {
     let members = ["127.0.0.1:39471", "127.0.0.1:39472"];
-    let mut one = UdpWire::bind(&rt, rt.alloc(), &members, 0, 10).expect(&rt, "a socket");
-    let mut other = UdpWire::bind(&rt, rt.alloc(), &members, 1, 10).expect(&rt, "a socket");
-    let mut client = UdpWire::bind(&rt, rt.alloc(), &members[..1], 255, 10).expect(&rt, "a socket");
+    let mut one = bound(&rt, rt.alloc(), &members, 0, 10).expect(&rt, "a socket");
+    let mut other = bound(&rt, rt.alloc(), &members, 1, 10).expect(&rt, "a socket");
+    let mut client = bound(&rt, rt.alloc(), &members[..1], 255, 10).expect(&rt, "a socket");
     assert!(rt; talk(&mut one, &mut other, &mut client));
 }
 
 /// Whether the member with this number gets no socket.
 fn is_refused(rt: HostRuntime, members: &[&str], me: u8) -> bool {
-    match UdpWire::bind(&rt, rt.alloc(), members, me, 10) {
+    match bound(&rt, rt.alloc(), members, me, 10) {
         Ok(_) => false,
         Err(fault) => fault == BindFault::NoSocket,
     }
 }
 
 /// Texts that are no address.
-const NO_ADDRESSES: [&str; 13] = [
+static NO_ADDRESSES: [&str; 13] = [
     "127.0.0.1",
     "127.0.0.1:",
     "127.0.0.1:0",
@@ -120,14 +134,14 @@ fn an_address_has_a_port(rt: HostRuntime) {
     for text in &NO_ADDRESSES {
         assert!(rt; is_refused(rt, &["127.0.0.1:39473", text], 0), "{text}");
     }
-    let wire = UdpWire::bind(&rt, rt.alloc(), &["127.0.0.1:39473"], 0, 10).expect(&rt, "a socket");
+    let wire = bound(&rt, rt.alloc(), &["127.0.0.1:39473"], 0, 10).expect(&rt, "a socket");
     assert!(rt; wire.failures() == 0);
 }
 
 #[test]
 fn two_members_do_not_share_an_address(rt: HostRuntime) {
     let members = ["127.0.0.1:39474", "127.0.0.1:39474"];
-    let _one = UdpWire::bind(&rt, rt.alloc(), &members, 0, 10).expect(&rt, "a socket");
+    let _one = bound(&rt, rt.alloc(), &members, 0, 10).expect(&rt, "a socket");
     assert!(rt; is_refused(rt, &members, 1));
 }
 
@@ -151,8 +165,8 @@ fn a_wait_ends_whatever_comes(rt: HostRuntime) {
         now: &now,
         step,
     };
-    let mut one = UdpWire::bind(&bench, rt.alloc(), &members, 0, 1000).expect(&rt, "a socket");
-    let mut other = UdpWire::bind(&rt, rt.alloc(), &members, 1, 10).expect(&rt, "a socket");
+    let mut one = bound(&bench, rt.alloc(), &members, 0, 1000).expect(&rt, "a socket");
+    let mut other = bound(&rt, rt.alloc(), &members, 1, 10).expect(&rt, "a socket");
     assert!(rt; ends(&mut one, &mut other));
 }
 
@@ -176,7 +190,7 @@ fn heard<A: Wire, B: Wire>(one: &mut A, other: &mut B, now: &Cell<u64>, millis: 
 /// Members, how many milliseconds go by between two receives, and how many datagrams come.
 type Slow = ([&'static str; 2], u64, u32);
 
-const SLOW: [Slow; 3] = [
+static SLOW: [Slow; 3] = [
     (["127.0.0.1:39477", "127.0.0.1:39478"], 5, 128),
     (["127.0.0.1:39487", "127.0.0.1:39488"], 10, 64),
     (["127.0.0.1:39497", "127.0.0.1:39498"], 60_000, 64),
@@ -192,10 +206,10 @@ fn is_received(rt: HostRuntime, row: &Slow) -> bool {
         now: &now,
         step,
     };
-    let Ok(mut one) = UdpWire::bind(&bench, rt.alloc(), members, 0, 640) else {
+    let Ok(mut one) = bound(&bench, rt.alloc(), members, 0, 640) else {
         return false;
     };
-    let Ok(mut other) = UdpWire::bind(&rt, rt.alloc(), members, 1, 10) else {
+    let Ok(mut other) = bound(&rt, rt.alloc(), members, 1, 10) else {
         return false;
     };
     heard(&mut one, &mut other, &now, *millis) == *wanted
@@ -222,10 +236,10 @@ fn goes_on(rt: HostRuntime, members: &[&str], step: Option<u64>) -> bool {
         now: &now,
         step,
     };
-    let Ok(mut one) = UdpWire::bind(&bench, rt.alloc(), members, 0, 10) else {
+    let Ok(mut one) = bound(&bench, rt.alloc(), members, 0, 10) else {
         return false;
     };
-    let Ok(mut other) = UdpWire::bind(&rt, rt.alloc(), members, 1, 10) else {
+    let Ok(mut other) = bound(&rt, rt.alloc(), members, 1, 10) else {
         return false;
     };
     goes_back(&mut one, &mut other, &now)
@@ -255,8 +269,8 @@ fn each_receive_of_a_client_waits(rt: HostRuntime) {
         now: &now,
         step,
     };
-    let mut one = UdpWire::bind(&rt, rt.alloc(), &members, 0, 10).expect(&rt, "a socket");
-    let mut client = UdpWire::bind(&bench, rt.alloc(), &members, 255, 10).expect(&rt, "a socket");
+    let mut one = bound(&rt, rt.alloc(), &members, 0, 10).expect(&rt, "a socket");
+    let mut client = bound(&bench, rt.alloc(), &members, 255, 10).expect(&rt, "a socket");
     assert!(rt; answers(&mut one, &mut client));
 }
 
@@ -276,8 +290,8 @@ fn polls<W: Wire>(one: &mut W, other: &mut W) -> bool {
 #[test]
 fn a_poll_takes_what_has_come_and_waits_for_none(rt: HostRuntime) {
     let members = ["127.0.0.1:39461", "127.0.0.1:39462"];
-    let mut one = UdpWire::bind(&rt, rt.alloc(), &members, 0, 60_000).expect(&rt, "a socket");
-    let mut other = UdpWire::bind(&rt, rt.alloc(), &members, 1, 10).expect(&rt, "a socket");
+    let mut one = bound(&rt, rt.alloc(), &members, 0, 60_000).expect(&rt, "a socket");
+    let mut other = bound(&rt, rt.alloc(), &members, 1, 10).expect(&rt, "a socket");
     assert!(rt; polls(&mut one, &mut other));
 }
 
@@ -312,16 +326,16 @@ fn takes<W: Wire>(one: &mut W, other: &mut W, stranger: &mut W) -> bool {
 fn a_stranger_is_dropped_unless_it_asks(rt: HostRuntime) {
     let members = ["127.0.0.1:39463", "127.0.0.1:39464"];
     let elsewhere = ["127.0.0.1:39463", "127.0.0.1:39465"];
-    let mut one = UdpWire::bind(&rt, rt.alloc(), &members, 0, 1000).expect(&rt, "a socket");
-    let mut other = UdpWire::bind(&rt, rt.alloc(), &members, 1, 10).expect(&rt, "a socket");
-    let mut stranger = UdpWire::bind(&rt, rt.alloc(), &elsewhere, 1, 10).expect(&rt, "a socket");
+    let mut one = bound(&rt, rt.alloc(), &members, 0, 1000).expect(&rt, "a socket");
+    let mut other = bound(&rt, rt.alloc(), &members, 1, 10).expect(&rt, "a socket");
+    let mut stranger = bound(&rt, rt.alloc(), &elsewhere, 1, 10).expect(&rt, "a socket");
     let are_dropped = drops(&mut one, &mut stranger) && one.strangers() == 3;
     let are_taken = takes(&mut one, &mut other, &mut stranger) && one.strangers() == 3;
     assert!(rt; are_dropped && are_taken);
 }
 
 /// Texts that are no address in brackets.
-const NO_BRACKETS: [&str; 11] = [
+static NO_BRACKETS: [&str; 11] = [
     "[2001:db8::1]",
     "[2001:db8::1]:",
     "[2001:db8::1]:0",
@@ -354,11 +368,11 @@ fn sends<W: Wire>(from: &mut W, one: &mut W, bytes: &[u8]) -> bool {
 #[test]
 fn datagrams_go_over_ipv6(rt: HostRuntime) {
     let members = ["[::1]:39466", "[::1]:39467"];
-    let Ok(mut one) = UdpWire::bind(&rt, rt.alloc(), &members, 0, 1000) else {
+    let Ok(mut one) = bound(&rt, rt.alloc(), &members, 0, 1000) else {
         return;
     };
-    let mut other = UdpWire::bind(&rt, rt.alloc(), &members, 1, 10).expect(&rt, "a socket");
-    let mut client = UdpWire::bind(&rt, rt.alloc(), &members[..1], 255, 10).expect(&rt, "a socket");
+    let mut other = bound(&rt, rt.alloc(), &members, 1, 10).expect(&rt, "a socket");
+    let mut client = bound(&rt, rt.alloc(), &members[..1], 255, 10).expect(&rt, "a socket");
     let is_heard = sends(&mut other, &mut one, b"hello") && sends(&mut client, &mut one, &ASK);
     assert!(rt; is_heard && one.strangers() == 0);
 }
@@ -367,9 +381,9 @@ fn datagrams_go_over_ipv6(rt: HostRuntime) {
 #[test]
 fn a_name_is_looked_up(rt: HostRuntime) {
     let members = ["localhost:39468", "127.0.0.1:39469"];
-    let Ok(mut one) = UdpWire::bind(&rt, rt.alloc(), &members, 0, 1000) else {
+    let Ok(mut one) = bound(&rt, rt.alloc(), &members, 0, 1000) else {
         return;
     };
-    let mut client = UdpWire::bind(&rt, rt.alloc(), &members[..1], 255, 10).expect(&rt, "a socket");
+    let mut client = bound(&rt, rt.alloc(), &members[..1], 255, 10).expect(&rt, "a socket");
     assert!(rt; sends(&mut client, &mut one, &ASK));
 }

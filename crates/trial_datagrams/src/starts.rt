@@ -7,7 +7,7 @@ const TEXT: &str = "pfx starts 1\n\
     00000004000000280000000000000009\n\
     00000000000000000000000000000000\n";
 
-const MEMBERS: [KnownMember; 2] = [
+static MEMBERS: [KnownMember; 2] = [
     KnownMember {
         start: Start {
             number: 4,
