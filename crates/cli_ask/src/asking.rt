@@ -86,8 +86,8 @@ fn waiting(alloc: Global) -> Result<Reply, AllocError> {
     })
 }
 
-/// Asks again while that is to be done and time is left, if it may be asked again at all. Where the time is over in the
-/// midst of an ask, the answer is the one before.
+/// Asks again while that is to be done and time is left, if it may be asked again at all. Where the time is over behind
+/// an answer, that is the answer; in the midst of an ask that may be made again, the one before.
 fn ask_on<RT: Net + Clock>(
     rt: &RT,
     alloc: Global,
@@ -102,6 +102,9 @@ fn ask_on<RT: Net + Clock>(
         if is_once || !is_open(call, &found) {
             return found;
         }
+        if ask >= AT_ONCE {
+            pause(rt, PAUSE);
+        }
         if deadline.left(rt).is_err() {
             return if is_waiting && found.is_err() {
                 Ok(waiting(alloc)?)
@@ -110,9 +113,6 @@ fn ask_on<RT: Net + Clock>(
             };
         }
         is_waiting = found.is_ok();
-        if ask >= AT_ONCE {
-            pause(rt, PAUSE);
-        }
     }
     Err(AskFault::BadAnswer)
 }

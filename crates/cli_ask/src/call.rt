@@ -93,6 +93,15 @@ fn add_parameter(target: &mut String, name: &str, value: &str) -> Result<(), All
     utf8_percent_encode(value, NON_ALPHANUMERIC).append_to(target)
 }
 
+/// Adds how many positions the node must have applied, if any.
+fn add_position(alloc: Global, target: &mut String, at: u32) -> Result<(), AllocError> {
+    if at > 0 {
+        let number = at.to_string(alloc)?;
+        add_parameter(target, "at", number.as_str())?;
+    }
+    Ok(())
+}
+
 /// A path with the anchor, the table and the position that the words name.
 fn target_in(
     alloc: Global,
@@ -107,10 +116,7 @@ fn target_in(
     if let Some(table) = matches.get_str("table") {
         add_parameter(&mut target, "t", table)?;
     }
-    if at > 0 {
-        let number = at.to_string(alloc)?;
-        add_parameter(&mut target, "at", number.as_str())?;
-    }
+    add_position(alloc, &mut target, at)?;
     Ok(target)
 }
 
@@ -167,10 +173,11 @@ fn listing(
     Ok(Some(Call::get(alloc, target, Kind::List)))
 }
 
-/// A path that ends in a word.
-fn path_with(alloc: Global, path: &str, word: &str) -> Result<String, AllocError> {
+/// A path that ends in a word, with the position that the words name.
+fn path_with(alloc: Global, path: &str, word: &str, at: u32) -> Result<String, AllocError> {
     let mut target = String::from_str(alloc, path)?;
     utf8_percent_encode(word, NON_ALPHANUMERIC.remove(b'.')).append_to(&mut target)?;
+    add_position(alloc, &mut target, at)?;
     Ok(target)
 }
 
@@ -195,14 +202,14 @@ fn own_call(
         ["health"] => target_in(alloc, "/readyz", matches, 0)?,
         ["metrics"] => target_in(alloc, "/metrics", matches, 0)?,
         ["log"] => target_in(alloc, "/v1/log", matches, at)?,
-        ["log", from] => path_with(alloc, "/v1/log?from=", from)?,
-        ["request", request] => path_with(alloc, "/v1/requests/", request)?,
+        ["log", from] => path_with(alloc, "/v1/log?from=", from, at)?,
+        ["request", request] => path_with(alloc, "/v1/requests/", request, at)?,
         ["sync"] => return Ok(Some(sync(alloc)?)),
         ["stop"] => {
             let target = String::from_str(alloc, "/v1/stop")?;
             return Ok(Some(Call::new("POST", target, Vec::new(alloc), Kind::Read)));
         }
-        ["test", packets @ ..] => {
+        ["test", packets @ ..] if !packets.is_empty() => {
             let target = target_in(alloc, "/v1/test", matches, at)?;
             let body = lines_of(alloc, packets)?;
             return Ok(Some(Call::new("POST", target, body, Kind::Test)));

@@ -138,7 +138,9 @@ impl TextFiles {
         mut files: Vec<TextFile>,
     ) -> Result<bool, AllocError> {
         for old in self.written.as_slice() {
-            if !has_name(files.as_slice(), old.name.as_str()) && !old.text.is_empty() {
+            if !has_name(files.as_slice(), old.name.as_str())
+                && !(old.text.is_empty() && old.is_put)
+            {
                 files.push(TextFile {
                     name: String::from_str(alloc, old.name.as_str())?,
                     text: String::new(alloc),

@@ -59,8 +59,8 @@ fn checked(
     )
 }
 
-/// The format that a store says, 0 where that is none of a node's, or it has no such table; none of a store that says
-/// nothing yet, in which a node that is started writes it.
+/// The format that a store says, 0 where that is none of a node's, or it has no such table; none of a store that has
+/// lost its node's row.
 fn format_of(
     rt: &HostRuntime,
     path: &str,
@@ -77,7 +77,8 @@ fn format_of(
     }
 }
 
-/// What is refused of a store of format 3, which is taken as a node takes it: that writes nothing.
+/// What is refused of a store of format 3, or without its node's row, which is taken as a node takes it: that writes
+/// nothing.
 #[tactic(auto, using(crate::proofs::Stores::by_fault, crate::proofs::Stores::sound))]
 fn adopted(
     rt: &HostRuntime,
@@ -135,8 +136,7 @@ fn judged(
 {
     let mut conn = conn;
     match format_of(rt, words.store, &mut conn) {
-        Ok(None) => Outcome::Sound,
-        Ok(Some(3)) => adopted(rt, alloc, words, m, conn),
+        Ok(None | Some(3)) => adopted(rt, alloc, words, m, conn),
         Ok(Some(1 | 2)) => owned(rt, words, m, &mut conn),
         Ok(Some(_)) => untaken(rt, words.store, m, AdoptFault::StoreVersion, &mut conn),
         Err(outcome) => outcome,

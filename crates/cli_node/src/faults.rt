@@ -114,13 +114,24 @@ pub(crate) fn say_place(rt: &HostRuntime, words: NodeWords<'_, '_, '_>) {
     );
 }
 
-/// Says of the members' addresses which the system doesn't know. Whether it knows all.
+/// Says of the members' addresses which the system doesn't know, and which have no port. Whether none is such.
 pub(crate) fn say_unknown(rt: &HostRuntime, words: NodeWords<'_, '_, '_>) -> bool {
     let mut are_known = true;
     for member in words.members {
-        if let Err(error) = (*member).to_socket_addrs(rt) {
-            are_known = false;
-            let _said = eprintln!(rt; "pfx: error: address {}: {error}", Shown(*member));
+        match (*member).to_socket_addrs(rt) {
+            Ok(mut found) => {
+                if !found.any(|address| address.port() != 0) {
+                    are_known = false;
+                    let _said = eprintln!(rt;
+                        "pfx: error: address {}: it has no port",
+                        Shown(*member)
+                    );
+                }
+            }
+            Err(error) => {
+                are_known = false;
+                let _said = eprintln!(rt; "pfx: error: address {}: {error}", Shown(*member));
+            }
         }
     }
     are_known
