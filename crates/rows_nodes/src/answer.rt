@@ -1,7 +1,7 @@
 //! What a reader answers.
 
 use crate::kept::{Kept, record};
-use crate::member::opened;
+use crate::member::{Member, opened};
 use pf_node::{Datagram, Node, Received};
 use px_records::When;
 use px_wire::{Membership, WireFault, decode, encode};
@@ -23,13 +23,13 @@ pub enum Answer {
 #[derive(Drop)]
 pub struct Reader {
     membership: Membership,
-    node: Option<Node<Kept>>,
+    node: Option<Member<Kept>>,
     out: Vec<Datagram>,
     alloc: Global,
 }
 
 /// A node with an empty record in memory. None where there is no memory, and for 255, who has none.
-pub fn node_of(alloc: Global, m: Membership) -> Option<Node<Kept>> {
+pub fn node_of(alloc: Global, m: Membership) -> Option<Member<Kept>> {
     if m.me() >= m.members() {
         return None;
     }
@@ -68,7 +68,8 @@ impl Reader {
     fn is_ignored(&mut self, bytes: &[u8], fault: WireFault) -> bool {
         match &mut self.node {
             None => self.membership.me() >= self.membership.members(),
-            Some(node) => {
+            Some(member) => {
+                let node = &mut member.node;
                 let is_ignored = match node.receive(bytes, &mut self.out) {
                     Ok(Received::Ignored(why)) => why == fault,
                     _ => false,

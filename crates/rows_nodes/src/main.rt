@@ -53,15 +53,13 @@ use px_records::When;
 use std::alloc::Global;
 use std::io;
 
-/// Three members with empty records in memory, of which the first one's `k`-th commit fails; none with 0.
-fn begun(alloc: Global, k: u64, when: When, is_once: bool) -> Option<Run<Kept>> {
-    Run::new(
-        alloc,
-        record(alloc, k, when),
-        record(alloc, 0, when),
-        record(alloc, 0, when),
-        is_once,
-    )
+/// Three members with empty records in memory join the run; the first one's `k`-th commit fails, none with 0. Whether
+/// there was memory for that.
+fn begin(alloc: Global, run: &mut Run<Kept>, k: u64, when: When) -> bool {
+    run.has_room()
+        && run.join(0, record(alloc, k, when))
+        && run.join(1, record(alloc, 0, when))
+        && run.join(2, record(alloc, 0, when))
 }
 
 /// How many of the line's first that many steps were done, until one is refused. None where one can't be made.
@@ -94,16 +92,22 @@ fn write_done(rt: &HostRuntime, run: &Run<Kept>, steps: u32) -> io::Result<()> {
 
 /// Writes what a line's run gives.
 fn write_run(rt: &HostRuntime, line: &str, is_once: bool) -> io::Result<()> {
-    let Some(mut run) = begun(rt.alloc(), 0, When::Before, is_once) else {
-        return println!(rt; "nothing");
+    let mut run = Run::new(rt.alloc(), is_once);
+    let steps = if begin(rt.alloc(), &mut run, 0, When::Before) {
+        follow(&mut run, line, usize::MAX)
+    } else {
+        None
     };
-    match follow(&mut run, line, usize::MAX) {
+    match steps {
         Some(steps) => {
             let written = write_done(rt, &run, steps);
             write_members(rt, run)?;
             written
         }
-        None => println!(rt; "nothing"),
+        None => {
+            drop(run);
+            println!(rt; "nothing")
+        }
     }
 }
 

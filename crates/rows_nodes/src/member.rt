@@ -2,6 +2,7 @@
 
 ghost use Rattle.std.specs.Prelude.{◌≡◌};
 
+use crate::kept::{Kept, mended};
 use pf_node::{Command, Datagram, Membership, Node, NodeFault, Received};
 use px_records::Records;
 use std::alloc::Global;
@@ -9,15 +10,69 @@ use std::alloc::Global;
 /// How often a call is made again before it is given up.
 const TRIES: u8 = 20;
 
+/// A node that is closed where it is dropped: that of a closed node's parts needs no proof here.
+pub struct Member<R: Records + Drop> {
+    pub node: Node<R>,
+}
+
+impl<R: Records + Drop> Drop for Member<R> {
+    fn drop(self) {
+        let Member { node } = self;
+        drop(node.close());
+    }
+}
+
+impl<R: Records + Drop> Member<R> {
+    /// Its record.
+    pub fn close(self) -> R {
+        let Member { node } = self;
+        node.close()
+    }
+
+    /// It starts anew with its record.
+    pub fn reopened(self, alloc: Global) -> Option<Member<R>> {
+        let Member { node } = self;
+        let m = node.membership();
+        match Node::open(alloc, m, node.close()) {
+            Ok(node) => Some(Member { node }),
+            Err((_, records)) => {
+                drop(records);
+                None
+            }
+        }
+    }
+}
+
+impl Member<Kept> {
+    /// It starts anew with its record, of which no commit fails any more.
+    pub fn mended(self, alloc: Global) -> Option<Member<Kept>> {
+        let Member { node } = self;
+        let m = node.membership();
+        match Node::open(alloc, m, mended(node.close())) {
+            Ok(node) => Some(Member { node }),
+            Err((_, records)) => {
+                drop(records);
+                None
+            }
+        }
+    }
+}
+
 /// The member of this number with this record.
-pub fn opened<R: Records + Drop>(alloc: Global, me: u8, records: R) -> Option<Node<R>>
+pub fn opened<R: Records + Drop>(alloc: Global, me: u8, records: R) -> Option<Member<R>>
     requires { R.members records ≡ 3 }
 {
     let m = Membership::new(7, 3, me)?;
     if m.me() >= m.members() {
         return None;
     }
-    Node::open(alloc, m, records).ok()
+    match Node::open(alloc, m, records) {
+        Ok(node) => Some(Member { node }),
+        Err((_, records)) => {
+            drop(records);
+            None
+        }
+    }
 }
 
 /// What a member receives.

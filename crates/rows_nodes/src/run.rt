@@ -2,7 +2,7 @@
 
 ghost use Rattle.std.specs.Prelude.{◌≡◌};
 
-use crate::member::{Counters, Event, call, opened, take};
+use crate::member::{Counters, Event, Member, call, opened, take};
 use crate::step::Step;
 use pf_entry::decode;
 use pf_node::{Command, Datagram, Node, NodeFault};
@@ -15,9 +15,9 @@ const ROOM: usize = 128;
 
 /// The members, all that was sent between them, in order, and what was refused.
 #[derive(Drop)]
-pub struct Run<R: Records> {
+pub struct Run<R: Records + Drop> {
     alloc: Global,
-    members: Vec<Node<R>>,
+    members: Vec<Member<R>>,
     /// All that was handed out, in order.
     pub sent: Vec<Datagram>,
     /// What was refused.
@@ -30,12 +30,6 @@ fn command(alloc: Global, digits: &str) -> Option<Command> {
     let bytes = hex::decode(alloc, digits).ok()?;
     let entry = decode(bytes.as_slice()).ok()?.to_entry(alloc).ok()?;
     Some(entry.command)
-}
-
-/// The member, started anew with its record.
-fn reopened<R: Records + Drop>(alloc: Global, node: Node<R>) -> Option<Node<R>> {
-    let m = node.membership();
-    Node::open(alloc, m, node.close()).ok()
 }
 
 /// Whether the call is refused as one of a node that has failed, and hands nothing out.
@@ -64,35 +58,38 @@ fn refuses_all<R: Records>(alloc: Global, node: &mut Node<R>, bytes: &[u8]) -> b
         && is_failed(node, Event::Comes(bytes), &mut out)
 }
 
-/// The three members with these records.
-fn members<R: Records + Drop>(alloc: Global, zero: R, one: R, two: R) -> Option<Vec<Node<R>>>
-    requires zero { R.members zero ≡ 3 }
-    requires one { R.members one ≡ 3 }
-    requires two { R.members two ≡ 3 }
+/// The member of this number with this record joins the others.
+fn join<R: Records + Drop>(alloc: Global, members: &mut Vec<Member<R>>, me: u8, records: R) -> bool
+    requires { R.members records ≡ 3 }
 {
-    let mut members = Vec::with_capacity(alloc, 3).ok()?;
-    let _zero = members.push(opened(alloc, 0, zero)?);
-    let _one = members.push(opened(alloc, 1, one)?);
-    let _two = members.push(opened(alloc, 2, two)?);
-    Some(members)
+    match opened(alloc, me, records) {
+        Some(member) => members.push(member).is_ok(),
+        None => false,
+    }
 }
 
 impl<R: Records + Drop> Run<R> {
-    /// Members with these records, and nothing sent. A refused call is made again, or ends the run.
-    pub fn new(alloc: Global, zero: R, one: R, two: R, is_once: bool) -> Option<Run<R>>
-        requires zero { R.members zero ≡ 3 }
-        requires one { R.members one ≡ 3 }
-        requires two { R.members two ≡ 3 }
-    {
-        let sent = Vec::with_capacity(alloc, ROOM).ok()?;
-        let members = members(alloc, zero, one, two)?;
-        Some(Run {
+    /// No members, and nothing sent. A refused call is made again, or ends the run.
+    pub fn new(alloc: Global, is_once: bool) -> Run<R> {
+        Run {
             alloc,
-            members,
-            sent,
+            members: Vec::new(alloc),
+            sent: Vec::new(alloc),
             counters: Counters::new(),
             is_once,
-        })
+        }
+    }
+
+    /// Makes room for the members and the messages. Whether there was memory for that.
+    pub fn has_room(&mut self) -> bool {
+        self.members.reserve(3).is_ok() && self.sent.reserve(ROOM).is_ok()
+    }
+
+    /// The member of this number with this record joins. Whether there was memory for that.
+    pub fn join(&mut self, me: u8, records: R) -> bool
+        requires { R.members records ≡ 3 }
+    {
+        join(self.alloc, &mut self.members, me, records)
     }
 
     /// The member is asked the command.
@@ -102,9 +99,9 @@ impl<R: Records + Drop> Run<R> {
         command: &Command,
         out: &mut Vec<Datagram>,
     ) -> Option<bool> {
-        let node = self.members.get_mut(member)?;
+        let member = self.members.get_mut(member)?;
         Some(take(
-            node,
+            &mut member.node,
             Event::Asks(command),
             out,
             &mut self.counters,
@@ -122,14 +119,14 @@ impl<R: Records + Drop> Run<R> {
 
     /// The member's clock ticks.
     fn tick(&mut self, member: usize, out: &mut Vec<Datagram>) -> Option<bool> {
-        let node = self.members.get_mut(member)?;
+        let node = &mut self.members.get_mut(member)?.node;
         Some(take(node, Event::Ticks, out, &mut self.counters, self.is_once))
     }
 
     /// The message comes to its addressee.
     fn deliver(&mut self, number: usize, out: &mut Vec<Datagram>) -> Option<bool> {
         let datagram = self.sent.get(number)?;
-        let node = self.members.get_mut(datagram.to as usize)?;
+        let node = &mut self.members.get_mut(datagram.to as usize)?.node;
         let event = Event::Comes(datagram.bytes.as_slice());
         Some(take(node, event, out, &mut self.counters, self.is_once))
     }
@@ -149,8 +146,10 @@ impl<R: Records + Drop> Run<R> {
         if member >= self.members.len() {
             return None;
         }
-        let node = reopened(self.alloc, self.members.remove(member))?;
-        self.members.insert(member, node).ok()
+        match self.members.remove(member).reopened(self.alloc) {
+            Some(anew) => self.members.insert(member, anew).ok(),
+            None => None,
+        }
     }
 
     /// The member's clock ticks, what it hands out is lost, and it starts anew.
@@ -183,14 +182,14 @@ impl<R: Records + Drop> Run<R> {
 
     /// Whether the first member refuses each further call as one that has failed, and hands nothing out.
     pub fn is_closed(&mut self) -> bool {
-        let Some(node) = self.members.get_mut(0) else {
-            return false;
-        };
-        refuses_all(self.alloc, node, first(&self.sent))
+        match self.members.get_mut(0) {
+            Some(member) => refuses_all(self.alloc, &mut member.node, first(&self.sent)),
+            None => false,
+        }
     }
 
     /// The members, in order, and what was sent.
-    pub fn end(self) -> (Vec<Node<R>>, Vec<Datagram>) {
+    pub fn end(self) -> (Vec<Member<R>>, Vec<Datagram>) {
         (self.members, self.sent)
     }
 }

@@ -1,7 +1,7 @@
 //! What a run gives, as lines.
 
-use crate::member::{Counters, Seen, look};
-use pf_node::{Datagram, Node};
+use crate::member::{Counters, Member, Seen, look};
+use pf_node::Datagram;
 use px_model::{Entry, Meta, Slot};
 use px_records::Records;
 use std::io;
@@ -97,9 +97,17 @@ fn write_record<R: Records>(rt: &HostRuntime, records: &mut R) -> io::Result<()>
     Ok(())
 }
 
+/// Writes what a member shows, and what it leaves in this record.
+fn write_left<R: Records>(rt: &HostRuntime, seen: Seen, records: &mut R) -> io::Result<()> {
+    write_seen(rt, seen)?;
+    write_record(rt, records)
+}
+
 /// Writes what the member shows, and what it leaves in its record.
-pub fn write_member<R: Records + Drop>(rt: &HostRuntime, node: Node<R>) -> io::Result<()> {
-    write_seen(rt, look(&node))?;
-    let mut records = node.close();
-    write_record(rt, &mut records)
+pub fn write_member<R: Records + Drop>(rt: &HostRuntime, member: Member<R>) -> io::Result<()> {
+    let seen = look(&member.node);
+    let mut records = member.close();
+    let written = write_left(rt, seen, &mut records);
+    drop(records);
+    written
 }

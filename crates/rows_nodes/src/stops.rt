@@ -1,34 +1,26 @@
 //! Runs that end after each of their steps, and runs of which each commit of the first member fails.
 
-use crate::kept::{Kept, mended};
+use crate::kept::Kept;
 use crate::member::look;
 use crate::run::Run;
 use crate::shown::{write_member, write_seen};
-use crate::{begun, follow};
-use pf_node::Node;
+use crate::{begin, follow};
 use px_records::When;
-use std::alloc::Global;
 use std::io;
-
-/// The first member, started anew with its record, of which no commit fails any more.
-fn reopened(alloc: Global, node: Node<Kept>) -> Option<Node<Kept>> {
-    let m = node.membership();
-    Node::open(alloc, m, mended(node.close())).ok()
-}
 
 /// Writes what the first member's record shows, opened again; and behind a run to its end what each member shows.
 fn write_end(rt: &HostRuntime, run: Run<Kept>, is_whole: bool) -> io::Result<()> {
     let (mut members, _sent) = run.end();
     if is_whole {
-        for node in &members {
-            write_seen(rt, look(node))?;
+        for member in &members {
+            write_seen(rt, look(&member.node))?;
         }
     }
     if members.is_empty() {
         return println!(rt; "nothing");
     }
-    match reopened(rt.alloc(), members.remove(0)) {
-        Some(node) => write_member(rt, node),
+    match members.remove(0).mended(rt.alloc()) {
+        Some(member) => write_member(rt, member),
         None => println!(rt; "wrong"),
     }
 }
@@ -50,10 +42,12 @@ fn write_steps(rt: &HostRuntime, run: &mut Run<Kept>, steps: Option<u32>) -> io:
 /// Writes what the first that many steps of a line give, where the first member's `k`-th commit fails. Whether one
 /// did.
 fn write_one(rt: &HostRuntime, line: &str, k: u64, when: When, most: usize) -> io::Result<bool> {
-    let Some(mut run) = begun(rt.alloc(), k, when, true) else {
+    let mut run = Run::new(rt.alloc(), true);
+    if !begin(rt.alloc(), &mut run, k, when) {
+        drop(run);
         println!(rt; "nothing")?;
         return Ok(false);
-    };
+    }
     let steps = follow(&mut run, line, most);
     let written = write_steps(rt, &mut run, steps);
     let is_whole = k > 0 && !run.counters.is_stopped;
