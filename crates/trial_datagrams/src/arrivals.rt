@@ -46,7 +46,7 @@ static OF_OTHERS: [Row; 3] = [
 ];
 
 /// Whether the packet is taken so.
-fn is_taken(peer: &mut Peer, row: &Row) -> bool {
+fn is_accepted(peer: &mut Peer, row: &Row) -> bool {
     let (number, salt, echo, kind, counter, wanted) = *row;
     let header = Header {
         cluster: 7,
@@ -62,9 +62,9 @@ fn is_taken(peer: &mut Peer, row: &Row) -> bool {
 }
 
 /// Whether each of the packets is taken so, one after the other.
-fn are_taken(peer: &mut Peer, rows: &[Row]) -> bool {
+fn are_accepted(peer: &mut Peer, rows: &[Row]) -> bool {
     for row in rows {
-        if !is_taken(peer, row) {
+        if !is_accepted(peer, row) {
             return false;
         }
     }
@@ -74,12 +74,12 @@ fn are_taken(peer: &mut Peer, rows: &[Row]) -> bool {
 #[test]
 fn a_packet_is_accepted_once(rt: HostRuntime) {
     let mut peer = Peer::new(rt.alloc(), Start::NEVER).expect(&rt, "memory");
-    assert!(rt; are_taken(&mut peer, &OF_ONE_START));
+    assert!(rt; are_accepted(&mut peer, &OF_ONE_START));
 }
 
 #[test]
 fn a_packet_of_another_start_is_not_accepted(rt: HostRuntime) {
     let mut peer = Peer::new(rt.alloc(), Start::NEVER).expect(&rt, "memory");
-    assert!(rt; are_taken(&mut peer, &FOR_EARLIER) && peer.start() == KNOWN);
-    assert!(rt; are_taken(&mut peer, &OF_OTHERS));
+    assert!(rt; are_accepted(&mut peer, &FOR_EARLIER) && peer.start() == KNOWN);
+    assert!(rt; are_accepted(&mut peer, &OF_OTHERS));
 }

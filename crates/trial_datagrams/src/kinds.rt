@@ -171,7 +171,7 @@ fn a_nack_and_a_promise_of_all_positions(rt: HostRuntime) {
 /// The entry of [`ASK`].
 const ASKED_ENTRY: &[u8] = b"\x01\xff\0\0\0\0\0\0\0\x09\x05\0\x03bad\0\x01\0\x04\x20\x0a\0\0\x01";
 
-/// An Ask of 255 with token 9, which member 0 has taken in as number 4, or refuses by 60.
+/// An Ask of 255 with token 9, which member 0 accepted as number 4, or refuses by 60.
 static OF_CLIENTS: [Row; 3] = [
     (0, ASK, 255, [8, 0, 0, 0], Some((255, 9, ASKED_ENTRY))),
     (255, ASKED, 0, [9, 9, 4, 0], None),

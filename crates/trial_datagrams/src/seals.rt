@@ -100,7 +100,7 @@ fn another_group_has_another_key(rt: HostRuntime) {
     }
 }
 
-/// A secret, and texts that are none: shorter ones, and one behind an empty line.
+/// A secret, and what is none: shorter ones, and one behind an empty line.
 const SECRET: &[u8] = b"5a5a5a5a5a5a5a5a5a5a5a5a5a5a5a5a5a5a5a5a5a5a5a5a5a5a5a5a5a5a5aFf\n";
 
 static NO_SECRETS: [&[u8]; 5] = [

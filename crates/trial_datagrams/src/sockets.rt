@@ -17,7 +17,7 @@ const OF_ONE: [u8; 13] = [0x50, 0x46, 0x58, 0x52, 1, 0, 0, 0, 7, 2, 1, 0, 8];
 /// Bytes that are no datagram, with 255 where one has its sender.
 const NO_DATAGRAM: [u8; 13] = [0, 0, 0, 0, 0, 0, 0, 0, 0, 0, 255, 0, 8];
 
-/// The wire of a member, or of a client, whose wait has so many milliseconds, one at least.
+/// The wire of a member, or of a client, with a wait of that number of milliseconds, at least one.
 fn bound<R: Net + Clock + Copy>(
     rt: &R,
     alloc: Global,
@@ -196,7 +196,7 @@ static SLOW: [Slow; 3] = [
     (["127.0.0.1:39497", "127.0.0.1:39498"], 60_000, 64),
 ];
 
-/// Whether that many come to a member with a wait of 640 ms.
+/// Whether a member with a wait of 640 ms gets that many.
 fn is_received(rt: HostRuntime, row: &Slow) -> bool {
     let (members, millis, wanted) = row;
     let now = Cell::new(0);
@@ -330,8 +330,8 @@ fn a_stranger_is_dropped_unless_it_asks(rt: HostRuntime) {
     let mut other = bound(&rt, rt.alloc(), &members, 1, 10).expect(&rt, "a socket");
     let mut stranger = bound(&rt, rt.alloc(), &elsewhere, 1, 10).expect(&rt, "a socket");
     let are_dropped = drops(&mut one, &mut stranger) && one.strangers() == 3;
-    let are_taken = takes(&mut one, &mut other, &mut stranger) && one.strangers() == 3;
-    assert!(rt; are_dropped && are_taken);
+    let are_accepted = takes(&mut one, &mut other, &mut stranger) && one.strangers() == 3;
+    assert!(rt; are_dropped && are_accepted);
 }
 
 /// Texts that are no address in brackets.
