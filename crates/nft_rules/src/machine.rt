@@ -11,12 +11,17 @@ use pf_rules::{Interface, InterfaceName};
 use std::alloc::{AllocError, Global};
 
 /// An interface of the machine, and its groups.
-#[derive(Drop)]
 pub struct MachineInterface {
     /// Its name.
     pub name: InterfaceName,
     /// The groups that it is in.
     pub groups: Vec<InterfaceName>,
+}
+
+impl Drop for MachineInterface {
+    fn drop(self) {
+        let MachineInterface { name: _, groups: _ } = self;
+    }
 }
 
 /// The groups of an interface, if it is the machine's.

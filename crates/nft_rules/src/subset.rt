@@ -212,10 +212,15 @@ pub struct Chain<'c> {
 }
 
 /// A ruleset: of one direction.
-#[derive(Drop)]
 pub struct NftRuleset<'c> {
     /// The sets that its rules name.
     pub sets: Vec<NamedSet<'c>>,
     /// Its chains, that at the hook first.
     pub chains: Vec<Chain<'c>>,
+}
+
+impl<'c> Drop for NftRuleset<'c> {
+    fn drop(self) {
+        let NftRuleset { sets: _, chains: _ } = self;
+    }
 }

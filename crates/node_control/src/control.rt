@@ -76,7 +76,6 @@ struct Entrance {
 }
 
 /// The control socket of a node.
-#[derive(Drop)]
 pub struct ControlSocket {
     operators: Entrance,
     figures: Option<Entrance>,
@@ -86,6 +85,19 @@ pub struct ControlSocket {
     is_figures_first: bool,
     /// The node's health as it was said last.
     health: Health,
+}
+
+impl Drop for ControlSocket {
+    fn drop(self) {
+        let ControlSocket {
+            operators: _,
+            figures: _,
+            poll: _,
+            events: _,
+            is_figures_first: _,
+            health: _,
+        } = self;
+    }
 }
 
 /// Takes away a socket that a node left which is gone: whether the path is free now.

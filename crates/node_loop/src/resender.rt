@@ -29,7 +29,6 @@ use std::alloc::{AllocError, Global};
 /// accepts: those that it wasn't sent again yet where it comes on, and all where it doesn't, or comes on by just one
 /// three times in a row, each 20 ms at most. The votes that the member sent to itself are among these, since it drops
 /// those outside its window: [`Resender::repeat_own`] hands it those again that its window has reached.
-#[derive(Drop)]
 pub struct Resender {
     me: u8,
     members: u8,
@@ -37,6 +36,18 @@ pub struct Resender {
     now: u64,
     latest: Latest,
     votes: Votes,
+}
+
+impl Drop for Resender {
+    fn drop(self) {
+        let Resender {
+            me: _,
+            members: _,
+            now: _,
+            latest: _,
+            votes: _,
+        } = self;
+    }
 }
 
 impl Resender {

@@ -20,7 +20,6 @@ const HEADS: usize = 64;
 /// Room for the datagram that comes in a turn, and for what is sent; and what is sent again, what was seen of other
 /// members, and what went over the wire. It is kept from turn to turn: no turn clears the bytes of an earlier one,
 /// which remain behind what came.
-#[derive(Drop)]
 pub struct Room {
     pub(crate) bytes: Vec<u8>,
     pub(crate) out: Vec<Datagram>,
@@ -33,6 +32,20 @@ pub struct Room {
     pub(crate) hears_asks: bool,
     pub(crate) counts: RoundCounts,
     ghost whole: { length bytes.items ≡ 33057 },
+}
+
+impl Drop for Room {
+    fn drop(self) {
+        let Room {
+            bytes: _,
+            out: _,
+            peer_progress: _,
+            heads: _,
+            resender: _,
+            hears_asks: _,
+            counts: _,
+        } = self;
+    }
 }
 
 impl Room {

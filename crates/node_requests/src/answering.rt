@@ -77,19 +77,6 @@ impl<R: Records> RequestHandler<R> {
         }
     }
 
-    /// The node, with which the request handler ends.
-    pub fn close(self) -> Node<R>
-        ensures { result ≡ self.node }
-    {
-        let RequestHandler {
-            node,
-            is_stopping: _,
-            accepted: _,
-            alloc: _,
-        } = self;
-        node
-    }
-
     /// What an action lists, as a script's line prints it, at the configuration after the positions that are applied:
     /// 404 where there is no such table, 400 of an action that lists nothing.
     pub fn list(&self, action: &Action) -> Result<Answer, AllocError>

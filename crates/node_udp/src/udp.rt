@@ -63,7 +63,6 @@ impl<T: Drop> From<AllocFailed<T>> for BindFault {
 /// A datagram that comes from elsewhere than a member's address is given as an empty one, which is nobody's, and is
 /// counted, unless it has a head ([`Head::read`]) whose sender is 255, a client. With [`UdpWire::hear_members`] its
 /// address alone decides, and no byte of it is looked at.
-#[derive(Drop)]
 pub struct UdpWire<S, C> {
     socket: S,
     clock: C,
@@ -83,6 +82,26 @@ pub struct UdpWire<S, C> {
     hears_asks: bool,
     strangers: u64,
     failures: u64,
+}
+
+impl<S: Drop, C: Drop> Drop for UdpWire<S, C> {
+    fn drop(self) {
+        let UdpWire {
+            socket: _,
+            clock: _,
+            peers: _,
+            me: _,
+            wait: _,
+            left: _,
+            since: _,
+            last: _,
+            timeout: _,
+            is_blocking: _,
+            hears_asks: _,
+            strangers: _,
+            failures: _,
+        } = self;
+    }
 }
 
 /// The addresses of the strings.

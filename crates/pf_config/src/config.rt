@@ -49,7 +49,6 @@ pub const RULES_MAX: usize = 1024;
 pub(crate) const ENTRIES_MAX: usize = 4096;
 
 /// Anchors with their rules and tables, and the interfaces that are skipped.
-#[derive(Drop)]
 pub struct Config {
     alloc: Global,
     skip: Skipped,
@@ -58,6 +57,18 @@ pub struct Config {
     has_fleeting: bool,
     /// How many paths more there may be at least. Where it is 0 they are counted before one comes in.
     room: usize,
+}
+
+impl Drop for Config {
+    fn drop(self) {
+        let Config {
+            alloc: _,
+            skip: _,
+            main: _,
+            has_fleeting: _,
+            room: _,
+        } = self;
+    }
 }
 
 impl Model for Config {

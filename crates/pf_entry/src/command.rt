@@ -6,15 +6,19 @@ ghost use Rattle.pf_entry.specs.Entry.{is_origin};
 use pf_rules::{Path, Profile, TableEntry, TableName};
 
 /// One address or more.
-#[derive(Drop)]
 pub struct SomeAddresses {
     /// The addresses, in the order given.
     pub items: Vec<TableEntry>,
     pub ghost some: { 0 < length items.items },
 }
 
+impl Drop for SomeAddresses {
+    fn drop(self) {
+        let SomeAddresses { items: _ } = self;
+    }
+}
+
 /// A change of the configuration, with the path of the anchor that it changes.
-#[derive(Drop)]
 pub enum Command {
     /// Reads a ruleset by a profile, and makes it the anchor's rules and tables.
     Load {
@@ -74,6 +78,37 @@ pub enum Command {
         /// The table.
         table: TableName,
     },
+}
+
+impl Drop for Command {
+    fn drop(self) {
+        match self {
+            Command::Load {
+                path: _,
+                profile: _,
+                text: _,
+            } => {}
+            Command::FlushRules { path: _ } => {}
+            Command::FlushTables { path: _ } => {}
+            Command::FlushAll { path: _ } => {}
+            Command::Add {
+                path: _,
+                table: _,
+                addresses: _,
+            } => {}
+            Command::Delete {
+                path: _,
+                table: _,
+                addresses: _,
+            } => {}
+            Command::Replace {
+                path: _,
+                table: _,
+                addresses: _,
+            } => {}
+            Command::FlushTable { path: _, table: _ } => {}
+        }
+    }
 }
 
 /// A command, who asked for it (a member, or 255), and its number there, below 2^48.

@@ -10,7 +10,6 @@ use pf_rules::{Direction, InterfaceName, TcpFlags};
 use std::marker::Model;
 
 /// A packet record: what the filter reads of a packet that belongs to no state. It is made by `parse_packet`.
-#[derive(Drop)]
 pub struct Packet {
     pub(crate) direction: Direction,
     pub(crate) interface: InterfaceName,
@@ -26,6 +25,24 @@ pub struct Packet {
     pub(crate) stem: usize,
     ghost within: { stem ≤ length interface },
     ghost cut: { take stem interface ≡ without_digits interface },
+}
+
+impl Drop for Packet {
+    fn drop(self) {
+        let Packet {
+            direction: _,
+            interface: _,
+            groups: _,
+            protocol: _,
+            source: _,
+            source_port: _,
+            destination: _,
+            destination_port: _,
+            flags: _,
+            icmp_type: _,
+            stem: _,
+        } = self;
+    }
 }
 
 impl Model for Packet {

@@ -270,11 +270,4 @@ impl<R: Records> Node<R> {
     {
         self.replica.forget();
     }
-
-    /// Gives the record back. Takes no memory.
-    pub fn close(self) -> R
-        ensures { result ≡ records_of self }
-    {
-        self.replica.close()
-    }
 }

@@ -83,7 +83,7 @@ impl<R: Records> Node<R> {
         };
         match bring_up(&mut node) {
             Ok(()) => Ok(node),
-            Err(_) => Err((NodeFault::Memory, node.replica.close())),
+            Err(_) => Err((NodeFault::Memory, node.close())),
         }
     }
 }

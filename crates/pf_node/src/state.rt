@@ -5,6 +5,7 @@ ghost use Rattle.std.specs.Coded.{Coded-set, coded_option};
 ghost use Rattle.px_model.specs.Step.{front};
 ghost use Rattle.px_replica.specs.Replicas.{learned_by};
 ghost use Rattle.pf_node.specs.Applied.{after};
+ghost use Rattle.pf_node.specs.Nodes.{records_of};
 ghost use Rattle.pf_node.specs.inner.Outcomes.{outcomes_below};
 ghost use Rattle.pf_node.specs.inner.Requests.{AreWithin, AreBounds};
 
@@ -16,7 +17,6 @@ use px_replica::Replica;
 use std::alloc::Global;
 
 /// A member of the cluster. Its configuration is always that after the first learned entries, as many as are applied.
-#[derive(Drop)]
 pub struct Node<R: Records> {
     pub(crate) replica: Replica<R>,
     pub(crate) config: Config,
@@ -31,4 +31,34 @@ pub struct Node<R: Records> {
     ghost numbered: { AreWithin (learned_by replica) numbers.origin applied numbers.last },
     ghost bounded: { AreBounds (learned_by replica) numbers.origin numbers.bounds.items },
     ghost stretched: { 256 * length numbers.bounds.items ≤ applied },
+}
+
+impl<R: Records> Node<R> {
+    /// Gives the record back. Takes no memory.
+    pub fn close(self) -> R
+        ensures { result ≡ records_of self }
+    {
+        let Node {
+            replica,
+            config: _,
+            applied: _,
+            outcomes: _,
+            numbers: _,
+            alloc: _,
+        } = self;
+        replica.close()
+    }
+}
+
+impl<R: Records + Drop> Drop for Node<R> {
+    fn drop(self) {
+        let Node {
+            replica: _,
+            config: _,
+            applied: _,
+            outcomes: _,
+            numbers: _,
+            alloc: _,
+        } = self;
+    }
 }

@@ -9,12 +9,17 @@ use std::marker::Model;
 
 /// The name of an interface or of a group of them: a letter, and up to 14 letters, digits, `_`, `-` and `.`
 /// (pf.conf(5), `on`). It is seen as its bytes, which are in it: no memory is taken for it.
-#[derive(Drop)]
 pub struct InterfaceName {
     bytes: [u8; 15],
     len: u8,
     ghost fits: { len ≤ 15 },
     ghost form: { is_interface_text (take len bytes) ≡ true },
+}
+
+impl Drop for InterfaceName {
+    fn drop(self) {
+        let InterfaceName { bytes: _, len: _ } = self;
+    }
 }
 
 impl Model for InterfaceName {

@@ -10,7 +10,6 @@ use std::alloc::{AllocError, Global};
 use std::rc::Rc;
 
 /// Which anchors an anchor rule evaluates, named relative to the anchor that holds the rule (pf.conf(5), ANCHORS).
-#[derive(Drop)]
 pub struct Target {
     /// The names that lead to the anchor: 1 to 8 in a rule that a ruleset gives.
     pub names: Vec<Name>,
@@ -18,8 +17,16 @@ pub struct Target {
     pub children: bool,
 }
 
+impl Drop for Target {
+    fn drop(self) {
+        let Target {
+            names: _,
+            children: _,
+        } = self;
+    }
+}
+
 /// An anchor rule without the block that it may carry.
-#[derive(Drop)]
 pub struct AnchorHeading {
     /// The anchors that it evaluates.
     pub target: Target,
@@ -29,9 +36,18 @@ pub struct AnchorHeading {
     pub conditions: Conditions,
 }
 
+impl Drop for AnchorHeading {
+    fn drop(self) {
+        let AnchorHeading {
+            target: _,
+            quick: _,
+            conditions: _,
+        } = self;
+    }
+}
+
 /// A rule that evaluates anchors (pf.conf(5), ANCHORS).
 #[cycle(item)]
-#[derive(Drop)]
 pub struct AnchorRule {
     /// What it says without its block.
     pub heading: AnchorHeading,
@@ -39,12 +55,31 @@ pub struct AnchorRule {
     pub block: Option<Rc<Vec<Item>>>,
 }
 
+impl Drop for AnchorRule {
+    #[cycle(item_drop)]
+    fn drop(self) {
+        let AnchorRule {
+            heading: _,
+            block: _,
+        } = self;
+    }
+}
+
 /// What is evaluated in its turn.
 #[cycle(item)]
-#[derive(Drop)]
 pub enum Item {
     Filter(Rule),
     Anchor(AnchorRule),
+}
+
+impl Drop for Item {
+    #[cycle(item_drop)]
+    fn drop(self) {
+        match self {
+            Item::Filter(_) => {}
+            Item::Anchor(_) => {}
+        }
+    }
 }
 
 impl Target {

@@ -12,10 +12,15 @@ use std::marker::Model;
 
 /// The name of an anchor within another: 1 to 63 letters, digits, `_`, `-` and `.`, but not `.` and `..` (pf.conf(5),
 /// ANCHORS). It is seen as its bytes.
-#[derive(Drop)]
 pub struct Name {
     text: String,
     ghost form: { is_anchor_text (string_bytes text) ≡ true },
+}
+
+impl Drop for Name {
+    fn drop(self) {
+        let Name { text: _ } = self;
+    }
 }
 
 impl Model for Name {

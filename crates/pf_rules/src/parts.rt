@@ -20,14 +20,21 @@ pub enum Direction {
 }
 
 /// An interface or a group of them, or, negated, each other one.
-#[derive(Drop)]
 pub struct Interface {
     pub negated: bool,
     pub name: InterfaceName,
 }
 
+impl Drop for Interface {
+    fn drop(self) {
+        let Interface {
+            negated: _,
+            name: _,
+        } = self;
+    }
+}
+
 /// A set of addresses.
-#[derive(Drop)]
 pub enum Addresses {
     /// Those that agree with the prefix.
     Prefix(Prefix),
@@ -37,8 +44,17 @@ pub enum Addresses {
     Table(TableName),
 }
 
+impl Drop for Addresses {
+    fn drop(self) {
+        match self {
+            Addresses::Prefix(_) => {}
+            Addresses::Range(_) => {}
+            Addresses::Table(_) => {}
+        }
+    }
+}
+
 /// Which addresses are meant.
-#[derive(Drop)]
 pub enum Host {
     /// Every address.
     Any,
@@ -46,6 +62,16 @@ pub enum Host {
     In(Addresses),
     /// Those that aren't in the set, of either family.
     NotIn(Addresses),
+}
+
+impl Drop for Host {
+    fn drop(self) {
+        match self {
+            Host::Any => {}
+            Host::In(_) => {}
+            Host::NotIn(_) => {}
+        }
+    }
 }
 
 /// Which ports are meant (pf.conf(5), `port`).

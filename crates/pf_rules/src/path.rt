@@ -13,11 +13,16 @@ pub const PATH_MAX: usize = 8;
 
 /// The path of an anchor that commands may name: the names of the anchors that lead to it, 8 at most, none of an
 /// unnamed block. The main ruleset's path has no name (pf.conf(5), ANCHORS).
-#[derive(Drop)]
 pub struct Path {
     names: Vec<Name>,
     ghost few: { length names.items ≤ 8 },
     ghost named: { list_all is_path_name names.items ≡ true },
+}
+
+impl Drop for Path {
+    fn drop(self) {
+        let Path { names: _ } = self;
+    }
 }
 
 impl Model for Path {

@@ -15,7 +15,6 @@ pub enum Action {
 }
 
 /// What a packet must be for a rule to match. Where nothing is said every packet will do.
-#[derive(Drop)]
 pub struct Conditions {
     pub direction: Option<Direction>,
     pub interface: Option<Interface>,
@@ -30,8 +29,24 @@ pub struct Conditions {
     pub icmp_type: Option<u8>,
 }
 
+impl Drop for Conditions {
+    fn drop(self) {
+        let Conditions {
+            direction: _,
+            interface: _,
+            family: _,
+            protocol: _,
+            source: _,
+            source_port: _,
+            destination: _,
+            destination_port: _,
+            flags: _,
+            icmp_type: _,
+        } = self;
+    }
+}
+
 /// A filter rule.
-#[derive(Drop)]
 pub struct Rule {
     pub action: Action,
     /// Whether the evaluation ends where the rule matches.
@@ -39,4 +54,15 @@ pub struct Rule {
     pub conditions: Conditions,
     /// Whether a state would be kept of what the rule passes.
     pub keeps_state: bool,
+}
+
+impl Drop for Rule {
+    fn drop(self) {
+        let Rule {
+            action: _,
+            quick: _,
+            conditions: _,
+            keeps_state: _,
+        } = self;
+    }
 }

@@ -15,10 +15,15 @@ use std::marker::Model;
 
 /// The name of a table: 1 to 31 letters, digits, `_` and `-`, but no word that both profiles reserve (pf.conf(5),
 /// TABLES). It is seen as its bytes.
-#[derive(Drop)]
 pub struct TableName {
     text: String,
     ghost form: { is_table_name One (string_bytes text) ≡ true },
+}
+
+impl Drop for TableName {
+    fn drop(self) {
+        let TableName { text: _ } = self;
+    }
 }
 
 impl Model for TableName {

@@ -18,12 +18,22 @@ use std::marker::Model;
 use std::rc::Rc;
 
 /// A table: a set of signed prefixes, and two flags.
-#[derive(Drop)]
 pub struct Table {
     persist: bool,
     is_const: bool,
     entry_count: usize,
     parts: Rc<Vec<Part>>,
+}
+
+impl Drop for Table {
+    fn drop(self) {
+        let Table {
+            persist: _,
+            is_const: _,
+            entry_count: _,
+            parts: _,
+        } = self;
+    }
 }
 
 impl Model for Table {

@@ -9,13 +9,18 @@ use std::alloc::{AllocError, Global};
 use std::collections::BTreeMap;
 
 /// The macros that are known, in the order of their definitions.
-#[derive(Drop)]
 pub struct Macros {
     all: Vec<Macro>,
     /// Where the last definition of each name stands.
     last: BTreeMap<Vec<u8>, usize>,
     ghost found: { IsIndex (map definition_of all.items) last },
     ghost within: { IsWithin (map definition_of all.items) last },
+}
+
+impl Drop for Macros {
+    fn drop(self) {
+        let Macros { all: _, last: _ } = self;
+    }
 }
 
 impl Macros {

@@ -7,13 +7,22 @@ use std::rc::Rc;
 
 /// An entry with its spelling. Copies share the bytes, so an entry that is sent to fifteen members, waits and is
 /// learned has its bytes in memory once.
-#[derive(Drop)]
 pub struct Entry {
     pub(crate) origin: u8,
     pub(crate) number: u64,
     pub(crate) bytes: Rc<Vec<u8>>,
     ghost long: { 10 ≤ length bytes.value.items },
     ghost is_spelled: { renamed bytes.value.items origin number ≡ bytes.value.items },
+}
+
+impl Drop for Entry {
+    fn drop(self) {
+        let Entry {
+            origin: _,
+            number: _,
+            bytes: _,
+        } = self;
+    }
 }
 
 /// An entry whose spelling is in bytes that somebody else owns, as in a datagram.

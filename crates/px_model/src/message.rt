@@ -6,7 +6,6 @@ use crate::record::Proposal;
 /// Ballots are `round * 256 + member`, positions are below 1,000,000, numbers and tokens below 2^48.
 ///
 /// Source: Paxos Made Simple, 2.2, 2.3 and 3; the last three are this project's own.
-#[derive(Drop)]
 pub enum Message<E> {
     /// A prepare request for one position.
     Prepare {
@@ -100,6 +99,58 @@ pub enum Message<E> {
         /// 60 or 62.
         code: u8,
     },
+}
+
+impl<E: Drop> Drop for Message<E> {
+    fn drop(self) {
+        match self {
+            Message::Prepare {
+                ballot: _,
+                position: _,
+            } => {}
+            Message::Promise {
+                ballot: _,
+                position: _,
+                accepted: _,
+            } => {}
+            Message::PrepareAll {
+                ballot: _,
+                position: _,
+            } => {}
+            Message::PromiseAll {
+                ballot: _,
+                position: _,
+                top: _,
+                accepted: _,
+            } => {}
+            Message::Accept {
+                ballot: _,
+                position: _,
+                entry: _,
+            } => {}
+            Message::Vote {
+                ballot: _,
+                position: _,
+                entry: _,
+            } => {}
+            Message::Nack {
+                ballot: _,
+                position: _,
+                promised: _,
+            } => {}
+            Message::Need { position: _ } => {}
+            Message::Learned {
+                position: _,
+                entry: _,
+            } => {}
+            Message::Ask { entry: _ } => {}
+            Message::Asked {
+                token: _,
+                number: _,
+            } => {}
+            Message::AskRefused { token: _, code: _ } => {}
+        }
+    }
 }
 
 /// What a member takes a step on.

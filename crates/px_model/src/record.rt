@@ -15,7 +15,6 @@ pub struct Meta {
 /// A ballot and the entry that it carries. A ballot is `round * 256 + member`, and compared as that number.
 ///
 /// Source: Paxos Made Simple, 2.2.
-#[derive(Drop)]
 pub struct Proposal<E> {
     /// The ballot, from 256 on.
     pub ballot: u64,
@@ -23,15 +22,32 @@ pub struct Proposal<E> {
     pub entry: E,
 }
 
+impl<E: Drop> Drop for Proposal<E> {
+    fn drop(self) {
+        let Proposal {
+            ballot: _,
+            entry: _,
+        } = self;
+    }
+}
+
 /// The acceptor at one position.
 ///
 /// Source: Paxos Made Simple, 2.2 and 3.
-#[derive(Drop)]
 pub struct Slot {
     /// The ballot promised there, 0 for none. That promised at all positions is in [`Meta`].
     pub promised: u64,
     /// The accepted proposal of highest ballot.
     pub accepted: Option<Proposal<Entry>>,
+}
+
+impl Drop for Slot {
+    fn drop(self) {
+        let Slot {
+            promised: _,
+            accepted: _,
+        } = self;
+    }
 }
 
 /// One change of the record. It is committed before anything that rests on it is sent.

@@ -21,7 +21,6 @@ use std::collections::BTreeMap;
 
 /// A record in memory. It never fails: a call answers `Memory` or does what it is for, at the cost of the logarithm of
 /// what it holds.
-#[derive(Drop)]
 pub struct MemoryRecords {
     members: u8,
     meta: Meta,
@@ -34,6 +33,19 @@ pub struct MemoryRecords {
     ghost top_is: { top ≡ step.top (slots_in slots) } by { IsTop-prop top slots },
     ghost end_is: { IsEnd (learned_in learned) end } by { IsEnd-prop (learned_in learned) end },
     ghost fits: { AllFits members meta slots learned } by { AllFits-prop members meta slots learned },
+}
+
+impl Drop for MemoryRecords {
+    fn drop(self) {
+        let MemoryRecords {
+            members: _,
+            meta: _,
+            slots: _,
+            learned: _,
+            top: _,
+            end: _,
+        } = self;
+    }
 }
 
 impl MemoryRecords {

@@ -173,11 +173,4 @@ impl<R: Records> Replica<R> {
     {
         self.member.forget();
     }
-
-    /// Gives the record back. Takes no memory.
-    pub fn close(self) -> R
-        ensures { result ≡ records_of self }
-    {
-        self.records
-    }
 }

@@ -2,6 +2,7 @@
 
 ghost use Rattle.std.specs.Prelude.{◌≡◌, false};
 ghost use Rattle.px_replica.specs.Members.{log_of, group_of};
+ghost use Rattle.px_replica.specs.Replicas.{records_of};
 ghost use Rattle.px_replica.specs.inner.Props.{agree_prop};
 
 use crate::member::Member;
@@ -12,7 +13,6 @@ use std::alloc::Global;
 /// what its record has as learned.
 ///
 /// Source: Paxos Made Simple, 2.5 and 3.
-#[derive(Drop)]
 pub struct Replica<R: Records> {
     pub(crate) records: R,
     pub(crate) member: Member,
@@ -25,4 +25,32 @@ pub struct Replica<R: Records> {
         (R.stored records).learned ≡ log_of member } by { agree_prop is_failed (R.is_honest records)
             (R.stored records).learned (log_of member) },
     ghost recorded: { is_failed ≡ false → R.is_honest records → round ≡ (R.stored records).meta.round },
+}
+
+impl<R: Records> Replica<R> {
+    /// Gives the record back. Takes no memory.
+    pub fn close(self) -> R
+        ensures { result ≡ records_of self }
+    {
+        let Replica {
+            records,
+            member: _,
+            round: _,
+            is_failed: _,
+            alloc: _,
+        } = self;
+        records
+    }
+}
+
+impl<R: Records + Drop> Drop for Replica<R> {
+    fn drop(self) {
+        let Replica {
+            records: _,
+            member: _,
+            round: _,
+            is_failed: _,
+            alloc: _,
+        } = self;
+    }
 }

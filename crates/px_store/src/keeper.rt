@@ -1,5 +1,7 @@
 //! The keeper and what stays true of it.
 ghost use Rattle.sqlite.specs.Held.{state};
+ghost use Rattle.std.specs.Prelude.{◌≡◌};
+ghost use Rattle.px_store.specs.View.{connection_of};
 ghost use Rattle.px_store.specs.inner.Ready.{IsReady, IsReady-prop, AreBounded, AreBounded-prop};
 ghost use Rattle.px_store.specs.inner.Ready.{AreAhead, AreAhead-prop, IsOwned, IsOwned-prop};
 
@@ -10,7 +12,6 @@ use sqlite::{Alter, Connection};
 use std::alloc::Global;
 
 /// The record in a database.
-#[derive(Drop)]
 pub struct SqlRecords<S: Alter> {
     pub(crate) conn: Connection<S>,
     pub(crate) identity: Identity,
@@ -26,4 +27,34 @@ pub struct SqlRecords<S: Alter> {
         (state S.Store conn) },
     // after a failure too
     ghost owned: { IsOwned identity (state S.Store conn) } by { IsOwned-prop identity (state S.Store conn) },
+}
+
+impl<S: Alter> SqlRecords<S> {
+    /// Gives the connection back, to be closed or taken again. It takes no memory, and may be called after a failure.
+    pub fn release(self) -> Connection<S>
+        ensures { result ≡ connection_of self }
+    {
+        let SqlRecords {
+            conn,
+            identity: _,
+            meta: _,
+            failures: _,
+            ahead: _,
+            alloc: _,
+        } = self;
+        conn
+    }
+}
+
+impl<S: Alter + Drop> Drop for SqlRecords<S> {
+    fn drop(self) {
+        let SqlRecords {
+            conn: _,
+            identity: _,
+            meta: _,
+            failures: _,
+            ahead: _,
+            alloc: _,
+        } = self;
+    }
 }

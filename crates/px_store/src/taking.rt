@@ -131,19 +131,4 @@ impl<S: Alter> SqlRecords<S> {
             Err(fault) => Err((fault, conn)),
         }
     }
-
-    /// Gives the connection back, to be closed or taken again. It takes no memory, and may be called after a failure.
-    pub fn release(self) -> Connection<S>
-        ensures { result ≡ connection_of self }
-    {
-        let SqlRecords {
-            conn,
-            identity: _,
-            meta: _,
-            failures: _,
-            ahead: _,
-            alloc: _,
-        } = self;
-        conn
-    }
 }

@@ -17,12 +17,22 @@ const MOST_KEPT: usize = 64;
 /// A wire that keeps what a member sends to itself, and gives that back before it asks the wire below. Where 64 are
 /// kept or memory is refused, a datagram goes to the wire below as any other. In place of one that is longer than the
 /// slice an empty one is given, which is no member's.
-#[derive(Drop)]
 pub struct LoopbackWire<W> {
     below: W,
     me: u8,
     kept: VecDeque<Vec<u8>>,
     alloc: Global,
+}
+
+impl<W: Drop> Drop for LoopbackWire<W> {
+    fn drop(self) {
+        let LoopbackWire {
+            below: _,
+            me: _,
+            kept: _,
+            alloc: _,
+        } = self;
+    }
 }
 
 impl<W: Wire> LoopbackWire<W> {

@@ -26,7 +26,6 @@ const REPORTS_MAX: u8 = 8;
 ///
 /// Beside what it is handed it sends packets of kind state, each second and to a member that showed a new start; which
 /// pieces of a datagram have come; and pieces again that a member lacks.
-#[derive(Drop)]
 pub struct PacketWire<W, C> {
     inner: W,
     clock: C,
@@ -40,6 +39,22 @@ pub struct PacketWire<W, C> {
     dropped: u64,
     copies: u64,
     ghost room: { length incoming.items ≡ ROOM_BYTES },
+}
+
+impl<W: Drop, C: Drop> Drop for PacketWire<W, C> {
+    fn drop(self) {
+        let PacketWire {
+            inner: _,
+            clock: _,
+            began: _,
+            sender: _,
+            receiver: _,
+            incoming: _,
+            failures: _,
+            dropped: _,
+            copies: _,
+        } = self;
+    }
 }
 
 /// The clock's reading.
