@@ -1,8 +1,13 @@
 //! A script's changes are asked at a control socket, one after the other.
 
+ghost use Rattle.std.specs.Prelude.{◌≡◌, ◌==◌, IfOk, map};
+ghost use Rattle.cli_ask.specs.Answers.{outcome_behind};
+ghost use Rattle.cli_ask.specs.Scripting.{call_for, printed, went_value, went_by_outcome, Makes};
+
 use crate::answers::outcome_behind;
 use crate::asking::ask_at;
-use crate::exchange::AskFault;
+use crate::control::Control;
+use crate::exchange::{AskFault, Reply};
 use crate::script::{Change, Left, ScriptFault, next_change};
 use crate::telling::{tell_left, tell_line};
 use cli_io::{Status, out_of_memory};
@@ -14,10 +19,9 @@ use std::time::Clock;
 /// What comes of a change that was made.
 const MADE: &[u8] = b"ok";
 
-/// What is asked at which control socket.
+/// What is asked.
 #[derive(Clone, Copy)]
 pub(crate) struct ScriptRequest<'a> {
-    pub(crate) control: &'a str,
     pub(crate) script: &'a [u8],
     /// The first line that is asked.
     pub(crate) from: u64,
@@ -28,6 +32,7 @@ pub(crate) struct ScriptRequest<'a> {
 }
 
 /// How a change went.
+#[derive(Drop)]
 enum Went {
     /// It was made: what is printed.
     Made(Vec<u8>),
@@ -35,24 +40,40 @@ enum Went {
     Stopped(Vec<u8>),
 }
 
-/// Asks one change, and waits for what comes of it.
-fn make<RT: Net + Clock, E: Write>(
-    rt: &RT,
-    alloc: Global,
-    request: &ScriptRequest<'_>,
-    change: &Change<'_>,
-    errors: &mut E,
-) -> Result<Went, AskFault> {
-    let Some(call) = change.call(alloc)? else {
-        return Ok(Went::Stopped(Vec::from_slice(alloc, b"refused 40\n")?));
-    };
-    let reply = ask_at(rt, alloc, request.control, &call, request.seconds)?;
-    tell_left(reply.front, errors);
+/// How a change went, by its answer: it was made where the outcome begins with `ok`.
+fn went_by(alloc: Global, reply: Reply) -> Result<Went, AllocError>
+    ensures { IfOk result (λ went. printed went
+        ≡ went_by_outcome (outcome_behind reply.body.items) reply.body.items) }
+{
     let outcome = outcome_behind(reply.body.as_slice());
     if outcome.starts_with(MADE) {
         return Ok(Went::Made(Vec::from_slice(alloc, outcome)?));
     }
     Ok(Went::Stopped(reply.body))
+}
+
+/// Asks one change, and waits for what comes of it.
+fn make<RT: Net + Clock, C: Control, E: Write>(
+    rt: &RT,
+    alloc: Global,
+    control: &mut C,
+    seconds: u32,
+    change: &Change<'_>,
+    errors: &mut E,
+) -> Result<Went, AskFault>
+    ensures { Makes (C.exchanged control.old) (C.exchanged control.new)
+        (call_for (map (λ w. w.now) change.now.words.items) change.now.text.items) (seconds == 0) (went_value result) }
+{
+    let Some(call) = change.call(alloc)? else {
+        return Ok(Went::Stopped(Vec::from_slice(alloc, b"refused 40\n")?));
+    };
+    match ask_at(rt, alloc, control, &call, seconds) {
+        Ok(reply) => {
+            tell_left(reply.front, errors);
+            Ok(went_by(alloc, reply)?)
+        }
+        Err(fault) => Err(fault),
+    }
 }
 
 /// Writes what ends a script, and the line at which it ended.
@@ -67,15 +88,16 @@ fn write_end<W: Write>(alloc: Global, said: &[u8], line: u64, writer: &mut W) ->
 }
 
 /// Asks one change and writes what came of it; none where it was made, else how the script ends.
-fn ask_one<RT: Net + Clock, W: Write, E: Write>(
+fn ask_one<RT: Net + Clock, C: Control, W: Write, E: Write>(
     rt: &RT,
     alloc: Global,
-    request: &ScriptRequest<'_>,
+    control: &mut C,
+    seconds: u32,
     change: &Change<'_>,
     writer: &mut W,
     errors: &mut E,
 ) -> Option<Status> {
-    match make(rt, alloc, request, change, errors) {
+    match make(rt, alloc, control, seconds, change, errors) {
         Ok(Went::Made(said)) => match writer.write_all(said.as_slice()) {
             Ok(()) => None,
             Err(_) => Some(Status::Failed),
@@ -89,9 +111,10 @@ fn ask_one<RT: Net + Clock, W: Write, E: Write>(
 
 /// Asks the script's changes, each once what came of the one before it is known, and writes a line of each. It ends at
 /// the first that isn't made, or of which nobody knows, with the number of its line.
-pub(crate) fn ask_script<RT: Net + Clock, W: Write, E: Write>(
+pub(crate) fn ask_script<RT: Net + Clock, C: Control, W: Write, E: Write>(
     rt: &RT,
     alloc: Global,
+    control: &mut C,
     request: &ScriptRequest<'_>,
     writer: &mut W,
     errors: &mut E,
@@ -111,7 +134,15 @@ pub(crate) fn ask_script<RT: Net + Clock, W: Write, E: Write>(
             if request.is_terminal {
                 tell_line(change.line, errors);
             }
-            if let Some(status) = ask_one(rt, alloc, request, &change, writer, errors) {
+            if let Some(status) = ask_one(
+                rt,
+                alloc,
+                control,
+                request.seconds,
+                &change,
+                writer,
+                errors,
+            ) {
                 return status;
             }
         }
