@@ -1,2 +1,5 @@
 pub mod Lines
+pub mod Numbers
+pub mod Names
+pub mod Series
 pub mod Fronts

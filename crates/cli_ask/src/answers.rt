@@ -7,7 +7,7 @@ use crate::call::Kind;
 
 /// How long the first line is, without its newline.
 #[tactic(auto, using(crate::proofs::Fronts::line_len_le))]
-fn line_len(text: &[u8]) -> usize
+pub(crate) fn line_len(text: &[u8]) -> usize
     ensures value { result ≡ line_len text.now }
     ensures within { result ≤ length text.now }
 {
@@ -24,7 +24,7 @@ fn word_len(text: &[u8]) -> usize
 }
 
 /// What is behind the first byte.
-fn behind_first(text: &[u8]) -> &[u8]
+pub(crate) fn behind_first(text: &[u8]) -> &[u8]
     ensures { result.now ≡ behind_first text.now }
 {
     match text {

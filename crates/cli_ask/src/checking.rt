@@ -1,5 +1,13 @@
 //! What words of a change are refused for before a node is asked.
 
+ghost use Rattle.std.specs.Prelude.{◌≡◌, IfOk};
+ghost use Rattle.clap.specs.Words.{found_of, rows_of};
+ghost use Rattle.pf_entry.specs.Owned.{command_value};
+ghost use Rattle.pf_grammar.specs.Reading.{reading};
+ghost use Rattle.cli_ask.specs.Checking.{text_refusal, command_refusal, args_refusal, is_checked, refusal_of};
+
+use crate::arguments::{is_given, value_of};
+use crate::call::Kind;
 use clap::ArgMatches;
 use pf_arguments::{Action, Command, from_matches};
 use pf_grammar::{ParseFault, Place, Profile, parse};
@@ -20,7 +28,9 @@ fn refused_text(
     place: Place,
     profile: Profile,
     text: &[u8],
-) -> Result<Option<Refused>, AllocError> {
+) -> Result<Option<Refused>, AllocError>
+    ensures { IfOk result (λ r. r ≡ text_refusal (reading place profile text.now)) }
+{
     match parse(alloc, text, place, profile) {
         Ok(_rules) => Ok(None),
         Err(ParseFault::Memory) => Err(AllocError),
@@ -35,7 +45,9 @@ fn refused_text(
 pub(crate) fn refused_command(
     alloc: Global,
     command: &Command,
-) -> Result<Option<Refused>, AllocError> {
+) -> Result<Option<Refused>, AllocError>
+    ensures { IfOk result (λ r. r ≡ command_refusal (command_value command.now)) }
+{
     match command {
         Command::Load {
             path,
@@ -55,11 +67,13 @@ pub(crate) fn refused_command(
 
 /// What pfctl's arguments are refused for before a node is asked, as `ctl` refuses them: 40, 24, 1 to 3, 41, and of the
 /// text that they load 10 to 19, with its line. What reads a ruleset and doesn't load it is 40.
-pub(crate) fn refused_args(
+fn refused_args(
     alloc: Global,
     matches: &ArgMatches<'_>,
     text: &[u8],
-) -> Result<Option<Refused>, AllocError> {
+) -> Result<Option<Refused>, AllocError>
+    ensures { IfOk result (λ r. r ≡ args_refusal (rows_of (found_of matches.now)) text.now) }
+{
     match from_matches(alloc, matches, text) {
         Ok(Action::Change(command)) => refused_command(alloc, &command),
         Ok(Action::CheckOnly(_)) => Ok(Some(Refused { code: 40, line: 0 })),
@@ -69,4 +83,31 @@ pub(crate) fn refused_args(
             None => Err(AllocError),
         },
     }
+}
+
+/// Whether a request is checked: a node's own subcommands aren't, nor is a change where the arguments say that it isn't
+/// looked at.
+fn is_checked(kind: Kind, is_unchecked: bool) -> bool
+    ensures { result ≡ is_checked kind is_unchecked }
+{
+    match kind {
+        Kind::Read | Kind::Test | Kind::Sync => false,
+        Kind::List | Kind::TableTest => true,
+        Kind::Change => !is_unchecked,
+    }
+}
+
+/// What a request is refused for before a node is asked.
+pub(crate) fn refusal_of(
+    alloc: Global,
+    matches: &ArgMatches<'_>,
+    kind: Kind,
+    text: &[u8],
+) -> Result<Option<Refused>, AllocError>
+    ensures { IfOk result (λ r. r ≡ refusal_of kind (rows_of (found_of matches.now)) text.now) }
+{
+    if is_checked(kind, is_given(value_of(matches, "unchecked"))) {
+        return refused_args(alloc, matches, text);
+    }
+    Ok(None)
 }

@@ -1,11 +1,10 @@
 //! One request and its answer over a Unix socket.
 
-ghost use Rattle.std.specs.Prelude.{◌≤◌, length};
+ghost use Rattle.std.specs.Prelude.{◌≡◌};
 
 use crate::call::{Call, Kind};
+use crate::reply::{reply_in, request_bytes};
 use cli_io::{InputFault, read_all};
-use httparse::Status;
-use httparse::spans::{EMPTY_HEADER_SPAN, HeaderSpan, parse_response};
 use std::alloc::{AllocError, Global};
 use std::io::{self, ErrorKind, Read, Write};
 use std::net::Net;
@@ -14,9 +13,6 @@ use std::time::{Clock, Duration, Instant};
 
 /// How long an answer is waited for, in seconds, where nothing else is asked for.
 pub(crate) const PATIENCE: u32 = 10;
-
-/// How many fields an answer's head has at most.
-const FIELDS: usize = 64;
 
 /// Why there is no answer.
 #[derive(Clone, Copy, PartialEq, Eq)]
@@ -30,6 +26,10 @@ pub enum AskFault {
 }
 
 impl From<AllocError> for AskFault {
+    ghost use Rattle.cli_ask.specs.declared.exchange.AskFault.TheVariants.{Memory};
+
+    ghost from_gives = { λ _ e. e ≡ Memory };
+
     fn from(_error: AllocError) -> AskFault {
         AskFault::Memory
     }
@@ -45,43 +45,31 @@ pub struct Reply {
     pub applied: Option<u32>,
 }
 
-/// The request's bytes.
-fn request_bytes(alloc: Global, call: &Call) -> Result<Vec<u8>, AllocError> {
-    let head = format!(in alloc;
-        "{} {} HTTP/1.1\r\nhost: pfx\r\nconnection: close\r\ncontent-length: {}\r\n\r\n",
-        call.method,
-        call.target,
-        call.body.len()
-    )?;
-    let mut bytes = Vec::from_slice(alloc, head.as_bytes())?;
-    bytes.extend_from_slice(call.body.as_slice())?;
-    Ok(bytes)
-}
-
 /// Until when answers are waited for, however they come.
 #[derive(Clone, Copy)]
 pub(crate) struct Deadline {
-    start: Instant,
+    /// When that began; none where the clock can't be read, and then the time is over.
+    start: Option<Instant>,
     limit: Duration,
 }
 
 impl Deadline {
     /// The given number of seconds from now on.
-    pub(crate) fn new<RT: Clock>(rt: &RT, seconds: u32) -> Result<Deadline, AskFault> {
-        match Instant::now(rt) {
-            Ok(start) => Ok(Deadline {
-                start,
-                limit: Duration::from_secs(u64::from(seconds)),
-            }),
-            Err(_) => Err(AskFault::BadAnswer),
+    pub(crate) fn new<RT: Clock>(rt: &RT, seconds: u32) -> Deadline {
+        Deadline {
+            start: Instant::now(rt).ok(),
+            limit: Duration::from_secs(u64::from(seconds)),
         }
     }
 
     /// How long that is; an error where it has passed.
     pub(crate) fn left<RT: Clock>(self, rt: &RT) -> io::Result<Duration> {
+        let Some(start) = self.start else {
+            return Err(io::Error::from(ErrorKind::TimedOut));
+        };
         let left = self
             .limit
-            .saturating_sub(Instant::now(rt)?.duration_since(self.start));
+            .saturating_sub(Instant::now(rt)?.duration_since(start));
         if left.is_zero() {
             Err(io::Error::from(ErrorKind::TimedOut))
         } else {
@@ -111,56 +99,6 @@ fn connect<RT: Net + Clock>(rt: &RT, control: &str, deadline: Deadline) -> io::R
     let stream = UnixStream::connect(rt, control)?;
     stream.set_write_timeout(Some(deadline.left(rt)?))?;
     Ok(stream)
-}
-
-/// The value of the first of the answer's fields that has this name.
-fn field_of<'a>(bytes: &'a [u8], fields: &[HeaderSpan], wanted: &[u8]) -> Option<&'a str> {
-    for field in fields {
-        let name = bytes.get(field.name.start..field.name.end);
-        let value = bytes.get(field.value.start..field.value.end);
-        if let (Some(name), Some(value)) = (name, value) {
-            if name.eq_ignore_ascii_case(wanted) {
-                return std::str::from_utf8(value).ok();
-            }
-        }
-    }
-    None
-}
-
-/// Whether the answer's fields say that its body has this length, or say nothing of it.
-fn has_length(bytes: &[u8], fields: &[HeaderSpan], len: usize) -> bool {
-    match field_of(bytes, fields, b"content-length") {
-        Some(value) => value.parse::<usize>().ok() == Some(len),
-        None => true,
-    }
-}
-
-/// The number in a field of the answer.
-fn number_in(bytes: &[u8], fields: &[HeaderSpan], name: &[u8]) -> Option<u32> {
-    field_of(bytes, fields, name)?.parse::<u32>().ok()
-}
-
-/// The answer that the bytes are.
-fn reply_in(alloc: Global, bytes: &[u8]) -> Result<Reply, AskFault> {
-    let mut fields = [EMPTY_HEADER_SPAN; FIELDS];
-    let Ok(Status::Complete(head)) = parse_response(bytes, &mut fields) else {
-        return Err(AskFault::BadAnswer);
-    };
-    let Some(body) = bytes.get(head.len..) else {
-        return Err(AskFault::BadAnswer);
-    };
-    let Some(fields) = fields.get(..head.headers) else {
-        return Err(AskFault::BadAnswer);
-    };
-    if !has_length(bytes, fields, body.len()) {
-        return Err(AskFault::BadAnswer);
-    }
-    Ok(Reply {
-        code: head.code,
-        body: Vec::from_slice(alloc, body)?,
-        front: number_in(bytes, fields, b"pfx-front"),
-        applied: number_in(bytes, fields, b"pfx-applied"),
-    })
 }
 
 /// Asks once at the control socket, over a connection of its own.
@@ -196,7 +134,7 @@ pub fn read_at<RT: Net + Clock>(
     control: &str,
     target: String,
 ) -> Result<Reply, AskFault> {
-    let deadline = Deadline::new(rt, PATIENCE)?;
+    let deadline = Deadline::new(rt, PATIENCE);
     let call = Call::get(alloc, target, Kind::Read);
     let reply = exchange(rt, alloc, control, &call, deadline)?;
     if reply.code == 200 {

@@ -6,11 +6,12 @@
 //! - [`read_at`], [`pause`]: one read at a control socket with its [`Reply`], and the time between two.
 //! - [`change_line`]: the line of a change that is sent, and [`laws`]: it is read as the arguments that it was made of.
 //!
-//! Within: `words` has the arguments as `clap` reads them, `call` what is sent for them, `checking` what they are
-//! refused for before that, `exchange` one request and its answer over the socket, `asking` how often it is asked,
-//! `answers` whether an answer says that what was asked for was done, `outcome` what a run writes and how it ends,
-//! `showing` an answer for a terminal, `script` reads the changes of a script, `scripting` asks them, and `telling` has
-//! what is printed for people on standard error.
+//! Within: `words` has the arguments as `clap` reads them, `arguments` what is sent for them, a `call` with its
+//! `target`, `checking` what they are refused for before that. `control` is whoever answers, `exchange` one request
+//! over the socket, `reply` its bytes and those of the answer. `asking` has how often it is asked, `commands` what is
+//! answered of a command, `verdicts` verdicts in parts, `answers` whether an answer says that what was asked for was
+//! done, `outcome` what a run writes and how it ends, `showing` an answer for a terminal, `script` reads the changes of
+//! a script, `scripting` asks them, and `telling` has what is printed for people on standard error.
 //!
 //! # Why
 //!
@@ -18,21 +19,29 @@
 //!   other; `main` picks one by the first arguments.
 //! - **The client reads a ruleset before it asks** (by `from_matches` and `parse`), not the node: the node accepts what
 //!   is asked, so the model's Ask stays what a change is, and `--unchecked` is the client's alone.
+//! - What is asked, and how often, is stated over a trait (`Control`), whose ghost has the requests and their answers,
+//!   since no contract can say what a socket gives.
 #![tactic(auto)]
 
 mod answers;
+mod arguments;
 mod asking;
 mod call;
 mod checking;
+mod commands;
+mod control;
 mod exchange;
 pub mod laws;
 mod outcome;
+mod reply;
 mod running;
 mod script;
 mod scripting;
 mod sending;
 mod showing;
+mod target;
 mod telling;
+mod verdicts;
 mod words;
 
 pub use asking::pause;

@@ -14,6 +14,7 @@ use std::alloc::{AllocError, Global};
 use std::io::Write;
 
 /// What a run gives.
+#[derive(Drop)]
 pub(crate) enum Outcome {
     /// The answer to a request of that kind.
     Answered(Kind, Reply),

@@ -1,13 +1,18 @@
 //! A run of `ask` with `--control`.
 
-ghost use Rattle.std.specs.Prelude.{◌≡◌, ◌≢◌, ◌⊎◌, [], Some, None, IfOk, IfErr, IfSome, codes, option_map};
-ghost use Rattle.cli_ask.specs.Outcomes.{unreadable};
-ghost use Rattle.cli_ask.specs.declared.outcome.Outcome.TheVariants.{Memory, Unread};
+ghost use Rattle.std.specs.Prelude.{◌≡◌, ◌⊎◌, Some, IfOk, IfErr, option_map};
+ghost use Rattle.clap.specs.Words.{found_of, rows_of};
+ghost use Rattle.cli_ask.specs.Asking.{answer_value};
+ghost use Rattle.cli_ask.specs.Outcomes.{unreadable, number_at, IsText, IsUnread, HasNoText, Replied, AsksWith, Asks};
+ghost use Rattle.cli_ask.specs.declared.outcome.Outcome.TheVariants.{Memory};
 
+use crate::arguments::{call_in, value_of};
 use crate::asking::ask_at;
-use crate::call::{Call, Kind, call_in};
-use crate::checking::{Refused, refused_args};
-use crate::exchange::AskFault;
+use crate::call::Kind;
+use crate::checking::{Refused, refusal_of};
+use crate::commands::is_command;
+use crate::control::{Control, ControlSocket};
+use crate::exchange::{AskFault, Reply};
 use crate::outcome::{Outcome, refused, write_outcome};
 use crate::script::refused_script;
 use crate::scripting::{ScriptRequest, ask_script};
@@ -20,95 +25,133 @@ use std::convert::AsStr;
 use std::fs;
 use std::io::{Read, Write};
 
-/// The text that an option names: of the input for `-`, else of a file; none without it. A file that can't be read is
-/// 90.
+/// The number that an option has.
+fn number_at(matches: &ArgMatches<'_>, id: &str) -> Option<u32>
+    ensures { result ≡ number_at (rows_of (found_of matches.now)) id.now }
+{
+    matches.get_one::<u32>(id)
+}
+
+/// What can't be read gives: memory ran out, or this.
+fn unread(fault: InputFault, outcome: Outcome) -> Outcome
+    ensures { (result ≡ Memory) ⊎ (result ≡ outcome) }
+{
+    match fault {
+        InputFault::Memory => Outcome::Memory,
+        InputFault::Failed | InputFault::TooLong => outcome,
+    }
+}
+
+/// The text of a file. One that can't be read is 90.
+fn text_of_file(rt: &HostRuntime, alloc: Global, path: &str) -> Result<Vec<u8>, Outcome>
+    ensures { IfErr result (λ outcome. (outcome ≡ Memory) ⊎ (outcome ≡ unreadable)) }
+{
+    let Ok(mut file) = fs::open(rt, path) else {
+        return Err(refused(UNREADABLE));
+    };
+    match read_all(alloc, &mut file) {
+        Ok(text) => Ok(text),
+        Err(fault) => Err(unread(fault, refused(UNREADABLE))),
+    }
+}
+
+/// The text that a name stands for: of the input for `-`, else of a file.
+fn text_named<R: Read>(
+    rt: &HostRuntime,
+    alloc: Global,
+    name: &str,
+    reader: &mut R,
+) -> Result<Vec<u8>, Outcome>
+    ensures text { IfOk result (λ text. IsText (Some name.now) (R.remaining reader.old) text.items) }
+    ensures unread { IfErr result (λ outcome. IsUnread name.now outcome) }
+{
+    if name == "-" {
+        return match read_all(alloc, reader) {
+            Ok(text) => Ok(text),
+            Err(fault) => Err(unread(fault, Outcome::Unread)),
+        };
+    }
+    text_of_file(rt, alloc, name)
+}
+
+/// The text that an option names; none without it.
 fn text_for<R: Read>(
     rt: &HostRuntime,
     alloc: Global,
     named: Option<&str>,
     reader: &mut R,
 ) -> Result<Vec<u8>, Outcome>
-    ensures none { option_map (λ t. t.now) named.entry ≡ None → IfOk result (λ text. text.items ≡ []) }
-    ensures input { option_map (λ t. t.now) named.entry ≡ Some (codes "-") →
-        IfOk result (λ text. IfSome (R.remaining reader.old) (λ input. text.items ≡ input)) }
-    ensures file { option_map (λ t. t.now) named.entry ≢ Some (codes "-") →
-        IfErr result (λ outcome. (outcome ≡ Memory) ⊎ (outcome ≡ unreadable)) }
-    ensures why { IfErr result (λ outcome. (outcome ≡ Memory) ⊎ ((outcome ≡ Unread) ⊎ (outcome ≡ unreadable))) }
+    ensures text { IfOk result (λ text. IsText (option_map (λ n. n.now) named.entry) (R.remaining reader.old)
+        text.items) }
+    ensures none { IfErr result (λ outcome. HasNoText (option_map (λ n. n.now) named.entry) outcome) }
 {
-    let read = match named {
-        None => return Ok(Vec::new(alloc)),
-        Some("-") => read_all(alloc, reader),
-        Some(path) => {
-            let Ok(mut file) = fs::open(rt, path) else {
-                return Err(refused(UNREADABLE));
-            };
-            match read_all(alloc, &mut file) {
-                Err(InputFault::Failed | InputFault::TooLong) => return Err(refused(UNREADABLE)),
-                read => read,
-            }
-        }
-    };
-    match read {
-        Ok(text) => Ok(text),
-        Err(InputFault::Memory) => Err(Outcome::Memory),
-        Err(InputFault::Failed | InputFault::TooLong) => Err(Outcome::Unread),
+    match named {
+        Some(name) => text_named(rt, alloc, name, reader),
+        None => Ok(Vec::new(alloc)),
     }
 }
 
-/// What pfctl's arguments are refused for before a node is asked; of a change nothing where they say that it isn't
-/// looked at.
-fn checked(
-    alloc: Global,
-    matches: &ArgMatches<'_>,
-    call: &Call,
-    text: &[u8],
-) -> Result<Option<Refused>, AllocError> {
-    match call.kind {
-        Kind::Read | Kind::Test | Kind::Sync => Ok(None),
-        Kind::Change if matches.get_flag("unchecked") => Ok(None),
-        Kind::List | Kind::TableTest | Kind::Change => refused_args(alloc, matches, text),
-    }
-}
-
-/// What the words give.
-fn outcome_of<R: Read>(
-    rt: &HostRuntime,
-    alloc: Global,
-    matches: &ArgMatches<'_>,
-    reader: &mut R,
-) -> Outcome {
-    let Some(control) = matches.get_str("control") else {
-        return refused(40);
-    };
-    if matches.get_one::<u32>("from").is_some() {
-        return refused(40);
-    }
-    let seconds = matches.get_one::<u32>("wait").unwrap_or(0);
-    let at = matches.get_one::<u32>("at").unwrap_or(0);
-    let text = match text_for(rt, alloc, matches.get_str("file"), reader) {
-        Ok(text) => text,
-        Err(outcome) => return outcome,
-    };
-    let call = match call_in(alloc, matches, text.as_slice(), at) {
-        Ok(Some(call)) => call,
-        Ok(None) => return refused(40),
-        Err(_) => return Outcome::Memory,
-    };
-    match checked(alloc, matches, &call, text.as_slice()) {
-        Ok(None) => {}
-        Ok(Some(refused)) => return Outcome::Refused(refused),
-        Err(_) => return Outcome::Memory,
-    }
-    match ask_at(rt, alloc, control, &call, seconds) {
+/// What an answer gives. Of a command's it is said how many positions are left, once the log nears its end.
+fn replied(rt: &HostRuntime, kind: Kind, answer: Result<Reply, AskFault>) -> Outcome
+    ensures { Replied kind (answer_value answer) result }
+{
+    match answer {
         Ok(reply) => {
-            if call.kind == Kind::Change || call.kind == Kind::Sync {
+            if is_command(kind) {
                 tell_left(rt, reply.front);
             }
-            Outcome::Answered(call.kind, reply)
+            Outcome::Answered(kind, reply)
         }
         Err(AskFault::Memory) => Outcome::Memory,
         Err(AskFault::NoAnswer) => refused(85),
         Err(AskFault::BadAnswer) => refused(86),
+    }
+}
+
+/// Makes the request that the arguments spell with this text.
+fn ask_with<C: Control>(
+    rt: &HostRuntime,
+    alloc: Global,
+    matches: &ArgMatches<'_>,
+    control: &mut C,
+    text: &[u8],
+) -> Outcome
+    ensures { AsksWith (C.exchanged control.old) (C.exchanged control.new) (rows_of (found_of matches.now)) text.now
+        result }
+{
+    let at = number_at(matches, "at").unwrap_or(0);
+    let call = match call_in(alloc, matches, text, at) {
+        Ok(Some(call)) => call,
+        Ok(None) => return refused(40),
+        Err(_) => return Outcome::Memory,
+    };
+    match refusal_of(alloc, matches, call.kind, text) {
+        Ok(None) => {}
+        Ok(Some(refused)) => return Outcome::Refused(refused),
+        Err(_) => return Outcome::Memory,
+    }
+    let seconds = number_at(matches, "wait").unwrap_or(0);
+    let answer = ask_at(rt, alloc, control, &call, seconds);
+    replied(rt, call.kind, answer)
+}
+
+/// What the arguments give at a control socket.
+fn outcome_of<C: Control, R: Read>(
+    rt: &HostRuntime,
+    alloc: Global,
+    matches: &ArgMatches<'_>,
+    control: &mut C,
+    reader: &mut R,
+) -> Outcome
+    ensures { Asks (C.exchanged control.old) (C.exchanged control.new) (rows_of (found_of matches.now))
+        (R.remaining reader.old) result }
+{
+    if number_at(matches, "from").is_some() {
+        return refused(40);
+    }
+    match text_for(rt, alloc, value_of(matches, "file"), reader) {
+        Ok(text) => ask_with(rt, alloc, matches, control, text.as_slice()),
+        Err(outcome) => outcome,
     }
 }
 
@@ -157,13 +200,18 @@ fn run_script<R: Read, W: Write>(
         Err(outcome) => return write_outcome(alloc, outcome, writer),
     };
     let request = ScriptRequest {
-        control,
         script: script.as_slice(),
         from: u64::from(matches.get_one::<u32>("from").unwrap_or(1)),
         seconds: matches.get_one::<u32>("wait").unwrap_or(WAIT).max(1),
     };
     match checked_script(alloc, matches, &request) {
-        Ok(None) => ask_script(rt, alloc, &request, writer),
+        Ok(None) => ask_script(
+            rt,
+            alloc,
+            &mut ControlSocket { rt, path: control },
+            &request,
+            writer,
+        ),
         Ok(Some(refused)) => write_outcome(alloc, Outcome::Refused(refused), writer),
         Err(_) => out_of_memory(writer),
     }
@@ -196,7 +244,10 @@ pub fn run_control_ask<S: AsStr, R: Read, W: Write>(
             if let Some(file) = inner.get_str("script") {
                 return run_script(rt, alloc, inner, file, reader, writer);
             }
-            let outcome = outcome_of(rt, alloc, inner, reader);
+            let outcome = match inner.get_str("control") {
+                Some(path) => outcome_of(rt, alloc, inner, &mut ControlSocket { rt, path }, reader),
+                None => refused(40),
+            };
             write_outcome(alloc, outcome, writer)
         }
         None => Status::Usage,

@@ -1,5 +1,9 @@
 //! The changes of a script in the form of `ctl`'s.
 
+ghost use Rattle.std.specs.Prelude.{◌≡◌, IfOk, map, option_map};
+ghost use Rattle.cli_ask.specs.Calls.{call_value};
+ghost use Rattle.cli_ask.specs.Scripting.{call_for};
+
 use crate::call::Call;
 use crate::checking::{Refused, refused_command};
 use pf_scripts::{ChangeFault, cut_line, push_bytes, read_change, takes_text, words_in};
@@ -18,9 +22,9 @@ pub(crate) struct Change<'a> {
     /// The number of the line that has its words.
     pub(crate) line: u64,
     /// The words, `pfctl` first.
-    words: Vec<&'a str>,
+    pub(crate) words: Vec<&'a str>,
     /// The text behind them.
-    text: Vec<u8>,
+    pub(crate) text: Vec<u8>,
 }
 
 /// Why there is no next change.
@@ -118,10 +122,13 @@ impl Change<'_> {
     }
 
     /// What is sent for it; none where an argument has a control character.
-    pub(crate) fn call(&self, alloc: Global) -> Result<Option<Call>, AllocError> {
-        match self.words.split_first() {
-            Some((_, args)) => Call::change(alloc, args, self.text.as_slice()),
-            None => Ok(None),
+    pub(crate) fn call(&self, alloc: Global) -> Result<Option<Call>, AllocError>
+        ensures { IfOk result (λ c. option_map call_value c
+            ≡ call_for (map (λ w. w.now) self.now.words.items) self.now.text.items) }
+    {
+        match self.words.as_slice() {
+            [_, args @ ..] => Call::change(alloc, args, self.text.as_slice()),
+            [] => Ok(None),
         }
     }
 }

@@ -1,8 +1,13 @@
 //! A script's changes are asked at a control socket, one after the other.
 
+ghost use Rattle.std.specs.Prelude.{◌≡◌, ◌==◌, IfOk, map};
+ghost use Rattle.cli_ask.specs.Answers.{outcome_behind};
+ghost use Rattle.cli_ask.specs.Scripting.{call_for, printed, went_value, went_by_outcome, Makes};
+
 use crate::answers::outcome_behind;
 use crate::asking::ask_at;
-use crate::exchange::AskFault;
+use crate::control::Control;
+use crate::exchange::{AskFault, Reply};
 use crate::script::{Change, Left, ScriptFault, next_change};
 use crate::telling::{tell_left, tell_line};
 use cli_io::{Status, out_of_memory};
@@ -12,10 +17,9 @@ use std::io::Write;
 /// What comes of a change that was made.
 const MADE: &[u8] = b"ok";
 
-/// What is asked at which control socket.
+/// What is asked.
 #[derive(Clone, Copy)]
 pub(crate) struct ScriptRequest<'a> {
-    pub(crate) control: &'a str,
     pub(crate) script: &'a [u8],
     /// The first line that is asked.
     pub(crate) from: u64,
@@ -24,6 +28,7 @@ pub(crate) struct ScriptRequest<'a> {
 }
 
 /// How a change went.
+#[derive(Drop)]
 enum Went {
     /// It was made: what is printed.
     Made(Vec<u8>),
@@ -31,23 +36,39 @@ enum Went {
     Stopped(Vec<u8>),
 }
 
-/// Asks one change, and waits for what comes of it.
-fn make(
-    rt: &HostRuntime,
-    alloc: Global,
-    request: &ScriptRequest<'_>,
-    change: &Change<'_>,
-) -> Result<Went, AskFault> {
-    let Some(call) = change.call(alloc)? else {
-        return Ok(Went::Stopped(Vec::from_slice(alloc, b"refused 40\n")?));
-    };
-    let reply = ask_at(rt, alloc, request.control, &call, request.seconds)?;
-    tell_left(rt, reply.front);
+/// How a change went, by its answer: it was made where the outcome begins with `ok`.
+fn went_by(alloc: Global, reply: Reply) -> Result<Went, AllocError>
+    ensures { IfOk result (λ went. printed went
+        ≡ went_by_outcome (outcome_behind reply.body.items) reply.body.items) }
+{
     let outcome = outcome_behind(reply.body.as_slice());
     if outcome.starts_with(MADE) {
         return Ok(Went::Made(Vec::from_slice(alloc, outcome)?));
     }
     Ok(Went::Stopped(reply.body))
+}
+
+/// Asks one change, and waits for what comes of it.
+fn make<C: Control>(
+    rt: &HostRuntime,
+    alloc: Global,
+    control: &mut C,
+    seconds: u32,
+    change: &Change<'_>,
+) -> Result<Went, AskFault>
+    ensures { Makes (C.exchanged control.old) (C.exchanged control.new)
+        (call_for (map (λ w. w.now) change.now.words.items) change.now.text.items) (seconds == 0) (went_value result) }
+{
+    let Some(call) = change.call(alloc)? else {
+        return Ok(Went::Stopped(Vec::from_slice(alloc, b"refused 40\n")?));
+    };
+    match ask_at(rt, alloc, control, &call, seconds) {
+        Ok(reply) => {
+            tell_left(rt, reply.front);
+            Ok(went_by(alloc, reply)?)
+        }
+        Err(fault) => Err(fault),
+    }
 }
 
 /// Writes what ends a script, and the line at which it ended.
@@ -62,14 +83,15 @@ fn write_end<W: Write>(alloc: Global, said: &[u8], line: u64, writer: &mut W) ->
 }
 
 /// Asks one change and writes what came of it; none where it was made, else how the script ends.
-fn ask_one<W: Write>(
+fn ask_one<C: Control, W: Write>(
     rt: &HostRuntime,
     alloc: Global,
-    request: &ScriptRequest<'_>,
+    control: &mut C,
+    seconds: u32,
     change: &Change<'_>,
     writer: &mut W,
 ) -> Option<Status> {
-    match make(rt, alloc, request, change) {
+    match make(rt, alloc, control, seconds, change) {
         Ok(Went::Made(said)) => match writer.write_all(said.as_slice()) {
             Ok(()) => None,
             Err(_) => Some(Status::Failed),
@@ -83,9 +105,10 @@ fn ask_one<W: Write>(
 
 /// Asks the script's changes, each once what came of the one before it is known, and writes a line of each. It ends at
 /// the first that isn't made, or of which nobody knows, with the number of its line.
-pub(crate) fn ask_script<W: Write>(
+pub(crate) fn ask_script<C: Control, W: Write>(
     rt: &HostRuntime,
     alloc: Global,
+    control: &mut C,
     request: &ScriptRequest<'_>,
     writer: &mut W,
 ) -> Status {
@@ -102,7 +125,7 @@ pub(crate) fn ask_script<W: Write>(
         };
         if change.line >= request.from {
             tell_line(rt, change.line);
-            if let Some(status) = ask_one(rt, alloc, request, &change, writer) {
+            if let Some(status) = ask_one(rt, alloc, control, request.seconds, &change, writer) {
                 return status;
             }
         }

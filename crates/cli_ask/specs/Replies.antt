@@ -1,0 +1,105 @@
+-- What is sent to a node, and what it answers, as HTTP has them.
+use Rattle.std.specs.Prelude.{◌≡◌, ℕ, ◌^◌, ◌≤◌, Bool, true, false, ◌&&◌, ◌==◌, List, [], ◌∷◌, ◌++◌, length, map, nat_lt}
+use Rattle.std.specs.Prelude.{Option, Some, None}
+use Rattle.std.specs.Prelude.{codes, decimal, option_and_then, if◌then◌else◌}
+use Rattle.std.specs.Char.{digit_value}
+use Rattle.std.specs.List.{list_all}
+use Rattle.std.specs.Str.{is_utf8, str_eq_ignore_ascii_case}
+use Rattle.std.specs.Str.Parse.{digits_value, without_leading_plus}
+use Rattle.httparse.specs.Grammar.{ReadsResponse, ResponseHead, status_code}
+use Rattle.httparse.specs.Spans.{name_and_value}
+use Rattle.cli_ask.specs.Calls.{Request}
+use Rattle.cli_ask.specs.declared.exchange.Reply.{Reply}
+use Rattle.cli_ask.specs.declared.reply.TheConstants.{FIELDS}
+
+-- a request's head, with the body's length (RFC 9112)
+abbrev pub request_head : (method target : List ℕ) → (len : ℕ) → List ℕ
+request_head method target len = method ++ codes " " ++ target
+    ++ codes " HTTP/1.1\r\nhost: pfx\r\nconnection: close\r\ncontent-length: " ++ decimal len ++ codes "\r\n\r\n"
+
+abbrev pub request_bytes : Request → List ℕ
+request_bytes r = request_head r.method r.target (length r.body) ++ r.body
+
+-- ---- fields
+
+-- decimal digits
+abbrev pub is_numeral : List ℕ → Bool
+is_numeral ds = nat_lt 0 (length ds) && list_all (λ c. nat_lt (digit_value c) 10) ds
+
+abbrev pub number_if : List ℕ → Option ℕ
+number_if ds = if is_numeral ds && nat_lt (digits_value 10 ds) (2 ^ 32) then Some (digits_value 10 ds) else None
+
+-- the number that digits write, perhaps behind a plus, none from 2^32 on
+abbrev pub number_of : (text : List ℕ) → Option ℕ
+number_of text = number_if (without_leading_plus text)
+
+-- bytes as text, none where they aren't UTF-8
+abbrev pub text_of : List ℕ → Option (List ℕ)
+text_of bytes = if is_utf8 bytes then Some bytes else None
+
+abbrev pub number : List ℕ → Option ℕ
+number bytes = option_and_then number_of (text_of bytes)
+
+-- a field's name and value
+abbrev pub Named : Type 0
+Named = List ℕ × List ℕ
+
+-- the value of the first field of this name, whatever the case of its letters
+abbrev pub field_in : (name : List ℕ) → List Named → Option (List ℕ)
+field_in name [] = None
+field_in name (f ∷ fs) =
+    if str_eq_ignore_ascii_case f.0 name then Some f.1 else field_in name fs
+
+-- the number in the first field of this name
+abbrev pub number_in : (name : List ℕ) → List Named → Option ℕ
+number_in name fields = option_and_then number (field_in name fields)
+
+abbrev pub is_number : ℕ → Option ℕ → Bool
+is_number n None = false
+is_number n (Some m) = m == n
+
+-- the length that the fields say, if they say one
+abbrev pub is_length : ℕ → Option (List ℕ) → Bool
+is_length n None = true
+is_length n (Some text) = is_number n (number text)
+
+abbrev pub has_length : ℕ → List Named → Bool
+has_length n fields = is_length n (field_in (codes "content-length") fields)
+
+-- ---- answers
+
+-- an answer: the status, the body, how many positions the node knows the commands of, and how many it has applied
+pub record Answer : Type 0 where
+  pub code : ℕ
+  pub body : List ℕ
+  pub front : Option ℕ
+  pub applied : Option ℕ
+
+-- the code's
+abbrev pub reply_value : Reply → Answer
+reply_value r = record { code = r.code; body = r.body.items; front = r.front; applied = r.applied }
+
+abbrev pub fields_of : ResponseHead → List Named
+fields_of head = map name_and_value head.fields
+
+-- what a head and a body answer
+abbrev pub answer_of : (code : ℕ) → List Named → (body : List ℕ) → Answer
+answer_of code fields body = record {
+  code = code;
+  body = body;
+  front = number_in (codes "pfx-front") fields;
+  applied = number_in (codes "pfx-applied") fields;
+}
+
+-- the bytes are a head, and a body that is as long as the head says (RFC 9112, 6.3)
+-- Example: with content-length: 3 and the body ab they are none.
+pub record IsAnswer (bytes : List ℕ) (a : Answer) : Type 0 where
+  pub head : ResponseHead
+  pub reads : ReadsResponse bytes head a.body
+  pub whole : has_length (length a.body) (fields_of head) ≡ true
+  pub is : a ≡ answer_of (status_code head) (fields_of head) a.body
+
+-- they are none: no head, or one of more than 64 fields, or a body that isn't as long as the head says
+abbrev pub IsNoAnswer : List ℕ → Type 0
+IsNoAnswer bytes = (head : ResponseHead) → (body : List ℕ) → ReadsResponse bytes head body →
+    length head.fields ≤ FIELDS → has_length (length body) (fields_of head) ≡ false

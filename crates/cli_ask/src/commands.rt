@@ -1,0 +1,204 @@
+//! What a node answers of a command, step by step.
+
+ghost use Rattle.std.specs.Prelude.{◌≡◌, ◌+◌, ◌++◌, IfOk, codes, decimal, min, option_map};
+ghost use Rattle.cli_ask.specs.Calls.{call_value};
+ghost use Rattle.cli_ask.specs.Replies.{reply_value};
+ghost use Rattle.cli_ask.specs.Asking.{is_waiting, waiting, only_line, accepted, is_command, number_after};
+ghost use Rattle.cli_ask.specs.Asking.{outcome_call};
+ghost use Rattle.cli_ask.specs.Asking.{behind_line, code_of, joined, position_in, synced, outcome_in};
+ghost use Rattle.cli_ask.specs.Asking.{outcome_of, answer_value, OrMemory};
+
+use crate::answers::{behind_first, line_len};
+use crate::call::{Call, Kind};
+use crate::exchange::{AskFault, Reply};
+use crate::reply::{number, text_in};
+use std::alloc::{AllocError, Global};
+
+/// What a node answers whose time has not come yet.
+const WAITING: &[u8] = b"waiting\n";
+
+/// What a node answers that accepted a command, before its number.
+const ASKED: &[u8] = b"asked ";
+
+/// What it answers once a command is applied.
+const APPLIED: &[u8] = b"applied ";
+
+/// Whether a node answers that it is waiting.
+pub(crate) fn is_waiting(body: &[u8]) -> bool
+    ensures { result ≡ is_waiting body.now }
+{
+    body == WAITING
+}
+
+/// What replaces an answer to an accepted request that never came.
+pub(crate) fn waiting(alloc: Global) -> Result<Reply, AllocError>
+    ensures { IfOk result (λ r. reply_value r ≡ waiting) }
+{
+    Ok(Reply {
+        code: 503,
+        body: Vec::from_slice(alloc, WAITING)?,
+        front: None,
+        applied: None,
+    })
+}
+
+/// The first line, where it is the whole body; none where it isn't UTF-8.
+fn only_line(body: &[u8]) -> Option<&str>
+    ensures { option_map (λ n. n.now) result ≡ only_line body.now }
+{
+    let (line, end) = body.split_at(line_len(body));
+    if end == b"\n".as_slice() {
+        text_in(line)
+    } else {
+        None
+    }
+}
+
+/// The number of a request that a node accepted, by its answer.
+fn accepted(body: &[u8]) -> Option<&str>
+    ensures { option_map (λ n. n.now) result ≡ accepted body.now }
+{
+    if !body.starts_with(ASKED) {
+        return None;
+    }
+    let (_, rest) = body.split_at(6);
+    only_line(rest)
+}
+
+/// Whether a request is a command.
+pub(crate) fn is_command(kind: Kind) -> bool
+    ensures { result ≡ is_command kind }
+{
+    match kind {
+        Kind::Read | Kind::List | Kind::TableTest | Kind::Test => false,
+        Kind::Sync | Kind::Change => true,
+    }
+}
+
+/// The number of a command whose outcome is waited for.
+pub(crate) fn number_after(kind: Kind, is_once: bool, body: &[u8]) -> Option<&str>
+    ensures { option_map (λ n. n.now) result ≡ number_after kind is_once body.now }
+{
+    if is_command(kind) && !is_once {
+        accepted(body)
+    } else {
+        None
+    }
+}
+
+/// What asks for the outcome of a request.
+pub(crate) fn outcome_call(alloc: Global, number: &str) -> Result<Call, AllocError>
+    ensures { IfOk result (λ c. call_value c ≡ outcome_call number.now) }
+{
+    let mut target = String::from_str(alloc, "/v1/requests/")?;
+    target.push_str(number)?;
+    let mut call = Call::get(alloc, target, Kind::Read);
+    call.is_repeatable = true;
+    Ok(call)
+}
+
+/// What is behind the first line, if that begins so; else all of it.
+pub(crate) fn behind_line<'a>(body: &'a [u8], front: &[u8]) -> &'a [u8]
+    ensures { result.now ≡ behind_line front.now body.now }
+{
+    if !body.starts_with(front) {
+        return body;
+    }
+    let (_, rest) = body.split_at(line_len(body));
+    behind_first(rest)
+}
+
+/// HTTP's status of what came of a command: 503 where it is waited for still.
+fn code_of(reply: &Reply) -> u16
+    ensures { result ≡ code_of (reply_value reply.now) }
+{
+    if is_waiting(reply.body.as_slice()) {
+        503
+    } else {
+        reply.code
+    }
+}
+
+/// The line that a command was accepted, and behind it what came of it.
+fn joined(first: Reply, second: Reply) -> Result<Reply, AllocError>
+    ensures { IfOk result (λ r. reply_value r ≡ joined (reply_value first) (reply_value second)) }
+{
+    let mut body = first.body;
+    body.extend_from_slice(behind_line(second.body.as_slice(), APPLIED))?;
+    Ok(Reply {
+        code: code_of(&second),
+        body,
+        front: second.front,
+        applied: second.applied,
+    })
+}
+
+/// The position in the line that has it.
+fn position_in(body: &[u8]) -> Option<u32>
+    ensures { result ≡ position_in body.now }
+{
+    if !body.starts_with(APPLIED) {
+        return None;
+    }
+    let (_, rest) = body.split_at(8);
+    let (digits, _) = rest.split_at(line_len(rest));
+    number(digits)
+}
+
+/// The line that has a number of positions.
+fn line_at(alloc: Global, position: u32) -> Result<Vec<u8>, AllocError>
+    ensures { IfOk result (λ v. v.items ≡ codes "at " ++ decimal (min (position + 1) 4294967295) ++ codes "\n") }
+{
+    let number = position.saturating_add(1).to_string(alloc)?;
+    let mut line = String::from_str(alloc, "at ")?;
+    line.push_str(number.as_str())?;
+    line.push_str("\n")?;
+    Vec::from_slice(alloc, line.as_bytes())
+}
+
+/// How many positions a node has applied that applied this command.
+fn synced(alloc: Global, reply: Reply) -> Result<Reply, AllocError>
+    ensures { IfOk result (λ r. reply_value r ≡ synced (reply_value reply)) }
+{
+    match position_in(reply.body.as_slice()) {
+        Some(position) => Ok(Reply {
+            code: reply.code,
+            body: line_at(alloc, position)?,
+            front: reply.front,
+            applied: reply.applied,
+        }),
+        None => Ok(Reply {
+            code: code_of(&reply),
+            front: reply.front,
+            applied: reply.applied,
+            body: reply.body,
+        }),
+    }
+}
+
+/// What is answered of a command that was accepted, by what became of it.
+fn outcome_in(alloc: Global, kind: Kind, first: Reply, second: Reply) -> Result<Reply, AllocError>
+    ensures { IfOk result (λ r. reply_value r ≡ outcome_in kind (reply_value first) (reply_value second)) }
+{
+    match kind {
+        Kind::Sync => synced(alloc, second),
+        _ => joined(first, second),
+    }
+}
+
+/// The same of an answer that may be missing.
+pub(crate) fn outcome_of(
+    alloc: Global,
+    kind: Kind,
+    first: Reply,
+    second: Result<Reply, AskFault>,
+) -> Result<Reply, AskFault>
+    ensures { OrMemory (outcome_of kind (reply_value first) (answer_value second)) (answer_value result) }
+{
+    let second = match second {
+        Ok(second) => second,
+        Err(AskFault::Memory) => return Err(AskFault::Memory),
+        Err(AskFault::NoAnswer | AskFault::BadAnswer) => waiting(alloc)?,
+    };
+    Ok(outcome_in(alloc, kind, first, second)?)
+}

@@ -1,0 +1,165 @@
+//! A request as bytes, and bytes as an answer.
+
+ghost use Rattle.std.specs.Prelude.{◌≡◌, Err, IfOk, All, length, map, option_map, string_bytes};
+ghost use Rattle.std.specs.Str.{str_eq_ignore_ascii_case};
+ghost use Rattle.httparse.specs.Spans.{IsHeaderWithin, header_bytes};
+ghost use Rattle.cli_ask.specs.Calls.{call_value};
+ghost use Rattle.cli_ask.specs.Replies.{request_head, request_bytes, number_of, number, text_of, field_in, number_in};
+ghost use Rattle.cli_ask.specs.Replies.{is_number, has_length};
+ghost use Rattle.cli_ask.specs.Replies.{answer_of, reply_value, IsAnswer, IsNoAnswer};
+
+use crate::call::Call;
+use crate::exchange::{AskFault, Reply};
+use httparse::Status;
+use httparse::spans::{EMPTY_HEADER_SPAN, HeaderSpan, parse_response};
+use std::alloc::{AllocError, Global};
+
+/// How many fields an answer's head has at most.
+const FIELDS: usize = 64;
+
+/// A request's head, with the body's length.
+fn request_head(alloc: Global, method: &str, target: &str, len: usize) -> Result<String, AllocError>
+    ensures { IfOk result (λ h. string_bytes h ≡ request_head method.now target.now len) }
+{
+    let len = len.to_string(alloc)?;
+    let mut head = String::from_str(alloc, method)?;
+    head.push_str(" ")?;
+    head.push_str(target)?;
+    head.push_str(" HTTP/1.1\r\nhost: pfx\r\nconnection: close\r\ncontent-length: ")?;
+    head.push_str(len.as_str())?;
+    head.push_str("\r\n\r\n")?;
+    Ok(head)
+}
+
+/// The request's bytes.
+pub(crate) fn request_bytes(alloc: Global, call: &Call) -> Result<Vec<u8>, AllocError>
+    ensures { IfOk result (λ v. v.items ≡ request_bytes (call_value call.now)) }
+{
+    let head = request_head(alloc, call.method, call.target.as_str(), call.body.len())?;
+    let mut bytes = Vec::from_slice(alloc, head.as_bytes())?;
+    bytes.extend_from_slice(call.body.as_slice())?;
+    Ok(bytes)
+}
+
+/// Bytes as text, none where they aren't UTF-8.
+#[tactic(auto, using(pf_scripts::proofs::LinesCut::utf8_text, pf_scripts::proofs::LinesCut::no_text))]
+pub(crate) fn text_in(bytes: &[u8]) -> Option<&str>
+    ensures { option_map (λ s. s.now) result ≡ text_of bytes.now }
+{
+    match std::str::from_utf8(bytes) {
+        Ok(text) => Some(text),
+        Err(_) => None,
+    }
+}
+
+/// The number that digits write, perhaps behind a plus, none from 2^32 on.
+fn number_of(text: &str) -> Option<u32>
+    ensures { result ≡ number_of text.now }
+{
+    match text.parse::<u32>() {
+        Ok(number) => Some(number),
+        Err(_) => None,
+    }
+}
+
+/// The same of bytes, none where they aren't UTF-8.
+pub(crate) fn number(bytes: &[u8]) -> Option<u32>
+    ensures { result ≡ number bytes.now }
+{
+    match text_in(bytes) {
+        Some(text) => number_of(text),
+        None => None,
+    }
+}
+
+/// Whether two names of fields are the same, whatever the case of their letters.
+fn is_named(name: &[u8], wanted: &[u8]) -> bool
+    ensures { result ≡ str_eq_ignore_ascii_case name.now wanted.now }
+{
+    name.eq_ignore_ascii_case(wanted)
+}
+
+/// The value of the first of the answer's fields that has this name.
+fn field_in<'a>(bytes: &'a [u8], fields: &[HeaderSpan], wanted: &[u8]) -> Option<&'a [u8]>
+    requires { All (IsHeaderWithin (length bytes.now)) fields.now }
+    ensures { option_map (λ v. v.now) result ≡ field_in wanted.now (map (header_bytes bytes.now) fields.now) }
+{
+    let mut left = fields;
+    while let [field, rest @ ..] = left {
+        if is_named(field.name.of(bytes), wanted) {
+            return Some(field.value.of(bytes));
+        }
+        left = rest;
+    }
+    None
+}
+
+/// The number in a field of the answer.
+fn number_in(bytes: &[u8], fields: &[HeaderSpan], name: &[u8]) -> Option<u32>
+    requires { All (IsHeaderWithin (length bytes.now)) fields.now }
+    ensures { result ≡ number_in name.now (map (header_bytes bytes.now) fields.now) }
+{
+    match field_in(bytes, fields, name) {
+        Some(value) => number(value),
+        None => None,
+    }
+}
+
+/// Whether a number is this length.
+fn is_number(len: usize, number: Option<u32>) -> bool
+    ensures { result ≡ is_number len number }
+{
+    match number {
+        Some(number) => number as usize == len,
+        None => false,
+    }
+}
+
+/// Whether the answer's fields say that its body has this length, or say nothing of it.
+fn has_length(bytes: &[u8], fields: &[HeaderSpan], len: usize) -> bool
+    requires { All (IsHeaderWithin (length bytes.now)) fields.now }
+    ensures { result ≡ has_length len (map (header_bytes bytes.now) fields.now) }
+{
+    match field_in(bytes, fields, b"content-length") {
+        Some(value) => is_number(len, number(value)),
+        None => true,
+    }
+}
+
+/// What a head with these fields and a body answer.
+fn answer_of(
+    alloc: Global,
+    code: u16,
+    bytes: &[u8],
+    fields: &[HeaderSpan],
+    body: &[u8],
+) -> Result<Reply, AllocError>
+    requires { All (IsHeaderWithin (length bytes.now)) fields.now }
+    ensures { IfOk result (λ r. reply_value r
+        ≡ answer_of code (map (header_bytes bytes.now) fields.now) body.now) }
+{
+    Ok(Reply {
+        code,
+        body: Vec::from_slice(alloc, body)?,
+        front: number_in(bytes, fields, b"pfx-front"),
+        applied: number_in(bytes, fields, b"pfx-applied"),
+    })
+}
+
+/// The answer that the bytes are. `BadAnswer` where they are none.
+pub(crate) fn reply_in(alloc: Global, bytes: &[u8]) -> Result<Reply, AskFault>
+    ensures answer { IfOk result (λ r. IsAnswer bytes.now (reply_value r)) }
+    ensures none { result ≡ Err AskFault.BadAnswer → IsNoAnswer bytes.now }
+    ensures some { result ≡ Err AskFault.NoAnswer → ⊥ }
+{
+    let mut fields = [EMPTY_HEADER_SPAN; FIELDS];
+    let Ok(Status::Complete(head)) = parse_response(bytes, &mut fields) else {
+        return Err(AskFault::BadAnswer);
+    };
+    let body = &bytes[head.len..];
+    let fields = &fields[..head.headers];
+    if !has_length(bytes, fields, body.len()) {
+        return Err(AskFault::BadAnswer);
+    }
+    Ok(answer_of(alloc, head.code, bytes, fields, body)?)
+}

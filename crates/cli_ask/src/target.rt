@@ -1,0 +1,96 @@
+//! The targets of requests: a path, and the parameters behind it.
+
+ghost use Rattle.std.specs.Prelude.{◌≡◌, ◌==◌, ◌++◌, OnOk, IfOk, option_map, string_bytes};
+ghost use Rattle.std.specs.List.{list_any};
+ghost use Rattle.clap.specs.Words.{found_of, rows_of};
+ghost use Rattle.cli_ask.specs.Calls.{mark, with_parameter, with_given, with_position, target_in, path_with};
+
+use crate::arguments::value_of;
+use clap::ArgMatches;
+use percent_encoding::{AsciiSet, NON_ALPHANUMERIC, ascii_set, utf8_percent_encode};
+use std::alloc::{AllocError, Global};
+
+/// What is escaped in an argument at the end of a path: all but letters, digits and a dot.
+const BUT_DOT: AsciiSet = ascii_set!(NON_ALPHANUMERIC.remove(b'.'));
+
+/// Whether a target has a parameter.
+fn has_query(target: &[u8]) -> bool
+    ensures { result ≡ list_any (λ b. b == 63) target.now }
+{
+    target.iter().any(|b| *b == b'?')
+}
+
+/// What is before a parameter: `&` behind another one.
+fn mark(target: &str) -> &'static str
+    ensures { result.now ≡ mark target.now }
+{
+    if has_query(target.as_bytes()) {
+        "&"
+    } else {
+        "?"
+    }
+}
+
+/// Adds a parameter of the query.
+fn add_parameter(target: &mut String, name: &str, value: &str) -> Result<(), AllocError>
+    ensures { OnOk result (string_bytes target.new ≡ with_parameter name.now value.now (string_bytes target.old)) }
+{
+    let mark = mark(target.as_str());
+    target.push_str(mark)?;
+    target.push_str(name)?;
+    target.push_str("=")?;
+    utf8_percent_encode(value, NON_ALPHANUMERIC).append_to(target)
+}
+
+/// Adds a parameter, if it has a value.
+fn add_given(target: &mut String, name: &str, value: Option<&str>) -> Result<(), AllocError>
+    ensures { OnOk result (string_bytes target.new
+        ≡ with_given name.now (option_map (λ v. v.now) value.entry) (string_bytes target.old)) }
+{
+    match value {
+        Some(value) => add_parameter(target, name, value),
+        None => Ok(()),
+    }
+}
+
+/// Adds how many positions the node must have applied, if any.
+fn add_position(alloc: Global, target: &mut String, at: u32) -> Result<(), AllocError>
+    ensures { OnOk result (string_bytes target.new ≡ with_position at (string_bytes target.old)) }
+{
+    if at > 0 {
+        let number = at.to_string(alloc)?;
+        return add_parameter(target, "at", number.as_str());
+    }
+    Ok(())
+}
+
+/// A path with the anchor, the table and the position that the arguments name.
+pub(crate) fn target_in(
+    alloc: Global,
+    path: &str,
+    matches: &ArgMatches<'_>,
+    at: u32,
+) -> Result<String, AllocError>
+    ensures { IfOk result (λ t. string_bytes t ≡ target_in path.now (rows_of (found_of matches.now)) at) }
+{
+    let mut target = String::from_str(alloc, path)?;
+    add_given(&mut target, "a", value_of(matches, "path"))?;
+    add_given(&mut target, "t", value_of(matches, "table"))?;
+    add_position(alloc, &mut target, at)?;
+    Ok(target)
+}
+
+/// A path that ends in an argument, with the position that the arguments name.
+pub(crate) fn path_with(
+    alloc: Global,
+    path: &str,
+    word: &str,
+    at: u32,
+) -> Result<String, AllocError>
+    ensures { IfOk result (λ t. string_bytes t ≡ path_with path.now word.now at) }
+{
+    let mut target = String::from_str(alloc, path)?;
+    utf8_percent_encode(word, BUT_DOT).append_to(&mut target)?;
+    add_position(alloc, &mut target, at)?;
+    Ok(target)
+}
