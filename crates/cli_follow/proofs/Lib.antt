@@ -6,3 +6,4 @@ pub mod MembersRead
 pub mod Loads
 pub mod Runs
 pub mod Writes
+pub mod Endings

@@ -3,4 +3,5 @@ pub mod Stepping
 pub mod Members
 pub mod Exchanges
 pub mod Output
+pub mod Places
 pub mod inner

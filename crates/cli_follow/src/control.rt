@@ -1,7 +1,8 @@
 //! What a node answers at its control socket.
 
-ghost use Rattle.std.specs.Prelude.{List, [], ◌∷◌, ⊤};
+ghost use Rattle.std.specs.Prelude.{◌≡◌, List, [], ◌∷◌, ⊤, IfOk, string_bytes};
 ghost use Rattle.cli_follow.specs.Exchanges.{Exchange, Entries, Status, Adds, asked};
+ghost use Rattle.cli_follow.specs.Places.{entries_target};
 
 use cli_ask::{AskFault, Reply, read_at};
 use cli_io::{Shown, knock};
@@ -32,6 +33,13 @@ pub(crate) struct ControlSocket<'a> {
     pub(crate) path: &'a str,
 }
 
+/// The target of the entries from a position on.
+fn entries_target(alloc: Global, from: u32) -> Result<String, AllocError>
+    ensures { IfOk result (λ t. string_bytes t ≡ entries_target from) }
+{
+    format!(in alloc; "/v1/entries?from={from}")
+}
+
 /// An answer to a target.
 fn read(
     socket: ControlSocket<'_>,
@@ -49,7 +57,7 @@ impl Control for ControlSocket<'_> {
     ghost exchanged = { λ _ _. ⊤ };
 
     fn entries(&mut self, alloc: Global, from: u32) -> Result<Reply, AskFault> {
-        read(*self, alloc, format!(in alloc; "/v1/entries?from={from}"))
+        read(*self, alloc, entries_target(alloc, from))
     }
 
     fn status(&mut self, alloc: Global) -> Result<Reply, AskFault> {

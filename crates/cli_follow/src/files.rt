@@ -1,5 +1,7 @@
 //! rulesets for pfctl(8) in files, one for each path.
 
+ghost use Rattle.std.specs.Prelude.{◌≡◌, IfOk, string_bytes};
+
 use crate::followed_configuration::FollowedConfiguration;
 use crate::follower::say;
 use pf_config::Config;
@@ -90,7 +92,9 @@ fn write_new(rt: &HostRuntime, path: &str, text: &str) -> io::Result<()> {
 
 impl TextFiles {
     /// Before anything is written.
-    pub fn new(alloc: Global, folder: &str) -> Result<TextFiles, AllocError> {
+    pub fn new(alloc: Global, folder: &str) -> Result<TextFiles, AllocError>
+        ensures { IfOk result (λ f. string_bytes f.folder ≡ folder.now) }
+    {
         Ok(TextFiles {
             folder: String::from_str(alloc, folder)?,
             written: Vec::new(alloc),

@@ -10,7 +10,8 @@
 //! - [`members_are_read`]: the members that a node names are read as such.
 //!
 //! Within: `words` has the arguments as `clap` reads them, `running` the loop, `control` the control socket, `follower`
-//! what an answer leads to, `files` the rulesets for pfctl(8), `members` where a node's members listen.
+//! what an answer leads to, `places` where it is written, `files` the rulesets for pfctl(8), `members` where a node's
+//! members listen.
 //!
 //! # Why
 //!
@@ -45,6 +46,7 @@ mod follower;
 mod kernel;
 mod laws;
 mod members;
+mod places;
 mod running;
 mod words;
 

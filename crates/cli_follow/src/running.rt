@@ -1,22 +1,23 @@
 //! A run of `follow`.
 
-ghost use Rattle.std.specs.Prelude.{◌≡◌, ◌+◌, IfOk, IfErr, option_map};
+ghost use Rattle.std.specs.Prelude.{◌≡◌, ◌+◌, ℕ, Err, IfOk, IfErr, codes, option_map};
+ghost use Rattle.clap.specs.Words.{found_of, rows_of, one_text};
 ghost use Rattle.cli_follow.specs.Output.{AsksEntries, wanted, Went, Stopped, Ends};
 ghost use Rattle.cli_follow.specs.inner.Seen.{follower_of, wanted_of, due_in, stage_in, stage_if, Leads, Fails};
 ghost use Rattle.cli_follow.specs.Output as code;
+ghost use Rattle.cli_follow.specs.Places.{AreTurns, IsEnding, IsNoEnding, FollowedTo, FollowedBy};
 
 use crate::control::{Control, ControlSocket};
 use crate::files::TextFiles;
 use crate::follower::{Due, Follower, WriteFault, is_again};
+use crate::places::{Places, places_for};
 use crate::words::command;
 use clap::ArgMatches;
 use cli_ask::{AskFault, pause};
-use cli_io::{Shown, Status, misused};
-use cli_nft::{machine_in, read_file};
+use cli_io::{Status, misused};
 use std::alloc::{AllocError, Global};
 use std::convert::AsStr;
-use std::fs;
-use std::io::{self, Write};
+use std::io::Write;
 
 /// How long it waits between two asks, but for entries that weren't all, in milliseconds.
 const PAUSE: u64 = 50;
@@ -211,7 +212,9 @@ pub fn follow<C: Control, W: Write, E: Write>(
 }
 
 /// A refusal by its number, said on standard error, since what is written goes to nft(8).
-fn refused<E: Write>(alloc: Global, code: u8, errors: &mut E) -> Status {
+fn refused<E: Write>(alloc: Global, code: u8, errors: &mut E) -> Status
+    ensures { IsNoEnding result }
+{
     let Ok(line) = format!(in alloc; "refused {code}\n") else {
         return Status::Memory;
     };
@@ -222,7 +225,9 @@ fn refused<E: Write>(alloc: Global, code: u8, errors: &mut E) -> Status {
 }
 
 /// That the log at the control socket is another than the one that was followed, said on standard error.
-fn another<E: Write>(errors: &mut E) -> Status {
+fn another<E: Write>(errors: &mut E) -> Status
+    ensures { IsEnding (Err WriteFault.Another) result }
+{
     match errors.write_all(
         b"pfx: the log at the control socket is another than the one followed\n",
     ) {
@@ -232,7 +237,9 @@ fn another<E: Write>(errors: &mut E) -> Status {
 }
 
 /// Out of memory, said on standard error.
-fn memory<E: Write>(errors: &mut E) -> Status {
+fn memory<E: Write>(errors: &mut E) -> Status
+    ensures { IsEnding (Err WriteFault.Memory) result }
+{
     match errors.write_all(b"memory\n") {
         Ok(()) => Status::Memory,
         Err(_) => Status::Failed,
@@ -240,141 +247,80 @@ fn memory<E: Write>(errors: &mut E) -> Status {
 }
 
 /// That the output can't be written, said on standard error.
-fn closed<E: Write>(errors: &mut E) -> Status {
+fn closed<E: Write>(errors: &mut E) -> Status
+    ensures { IsEnding (Err WriteFault.Closed) result }
+{
     let _said = errors.write_all(b"pfx: the output is closed\n");
     Status::Failed
 }
 
-/// What is to be written where.
-#[derive(Drop)]
-struct Places {
-    /// The interfaces for which lines for nft(8) are wanted.
-    interfaces: Option<Vec<u8>>,
-    /// Whether those have the members' guard.
-    is_guarded: bool,
-    /// Rulesets for pfctl(8).
-    files: Option<TextFiles>,
-}
-
-/// The text of a file of interfaces; none where it lists none.
-fn interfaces_in(
+/// Follows the log to these places, and says how that ended on standard error.
+fn follow_to<C: Control, W: Write, E: Write>(
     rt: &HostRuntime,
     alloc: Global,
-    file: &str,
-) -> Result<Option<Vec<u8>>, AllocError> {
-    let Some(text) = read_file(rt, alloc, file)? else {
-        return Ok(None);
-    };
-    match machine_in(alloc, text.as_slice())? {
-        Some(_) => Ok(Some(text)),
-        None => Ok(None),
-    }
-}
-
-/// Why a file can't be opened, as the system says it; none where it can. What isn't a regular file isn't opened, since
-/// a pipe would be waited for.
-fn why_unread(rt: &HostRuntime, file: &str) -> io::Result<()> {
-    if fs::metadata(rt, file)?.is_file() {
-        let _opened = fs::open(rt, file)?;
-    }
-    Ok(())
-}
-
-/// Says why a file lists no interfaces.
-fn say_interfaces<E: Write>(rt: &HostRuntime, file: &str, errors: &mut E) {
-    let shown = Shown(file);
-    match why_unread(rt, file) {
-        Ok(()) => {
-            let _said = writeln!(
-                errors,
-                "pfx: interfaces {shown}: a word is no name, a name is there twice, or there are too many names"
-            );
-        }
-        Err(error) => {
-            let _said = writeln!(errors, "pfx: interfaces {shown}: {error}");
-        }
-    }
-}
-
-/// Where the words want it written. 40 where they want it nowhere, `--nft` and `--interfaces` aren't both there, or
-/// `--no-member-guard` is without them; 89 where the file lists no interfaces, which is said on standard error.
-fn places_for<E: Write>(
-    rt: &HostRuntime,
-    alloc: Global,
-    matches: &ArgMatches<'_>,
-    errors: &mut E,
-) -> Result<Result<Places, u8>, AllocError> {
-    let files = match matches.get_str("pf") {
-        Some(folder) => Some(TextFiles::new(alloc, folder)?),
-        None => None,
-    };
-    let is_guarded = !matches.get_flag("no-member-guard");
-    match (matches.get_flag("nft"), matches.get_str("interfaces")) {
-        (true, Some(file)) => match interfaces_in(rt, alloc, file)? {
-            Some(text) => Ok(Ok(Places {
-                interfaces: Some(text),
-                is_guarded,
-                files,
-            })),
-            None => {
-                say_interfaces(rt, file, errors);
-                Ok(Err(89))
-            }
-        },
-        (false, None) => {
-            if files.is_none() || !is_guarded {
-                return Ok(Err(40));
-            }
-            Ok(Ok(Places {
-                interfaces: None,
-                is_guarded: false,
-                files,
-            }))
-        }
-        _ => Ok(Err(40)),
-    }
-}
-
-/// What the matches ask for.
-fn followed<W: Write, E: Write>(
-    rt: &HostRuntime,
-    alloc: Global,
-    matches: &ArgMatches<'_>,
+    control: &mut C,
+    turns: u64,
+    places: Places,
     writer: &mut W,
     errors: &mut E,
-) -> Status {
-    let Some(path) = matches.get_str("control") else {
-        return Status::Usage;
-    };
-    let turns = matches.get_one::<u64>("turns").unwrap_or(u64::MAX);
+) -> Status
+    ensures { FollowedTo (C.exchanged control.old) (C.exchanged control.new) places turns result
+        (W.contents writer.old) (W.contents writer.new) }
+{
     let Places {
         interfaces,
         is_guarded,
         files,
-    } = match places_for(rt, alloc, matches, errors) {
-        Ok(Ok(places)) => places,
-        Ok(Err(code)) => return refused(alloc, code, errors),
-        Err(_) => return memory(errors),
-    };
+    } = places;
     if interfaces.is_some() && !is_guarded {
         let _said = errors.write_all(NO_GUARD);
     }
-    let mut control = ControlSocket { rt, path };
-    match follow(
-        rt,
-        alloc,
-        &mut control,
-        turns,
-        interfaces,
-        is_guarded,
-        files,
-        writer,
-        errors,
-    ) {
+    let ended = follow(
+        rt, alloc, control, turns, interfaces, is_guarded, files, writer, errors,
+    );
+    status_of(ended, errors)
+}
+
+/// How a run ends, said on standard error.
+fn status_of<E: Write>(ended: Result<(), WriteFault>, errors: &mut E) -> Status
+    ensures { IsEnding ended result }
+{
+    match ended {
         Ok(()) => Status::Done,
         Err(WriteFault::Closed) => closed(errors),
         Err(WriteFault::Another) => another(errors),
         Err(WriteFault::Memory) => memory(errors),
+    }
+}
+
+/// How many times entries are asked for.
+fn turns_in(matches: &ArgMatches<'_>) -> u64
+    ensures { AreTurns (one_text (found_of matches.now) (codes "turns")) result }
+{
+    match matches.get_one::<u64>("turns") {
+        Some(turns) => turns,
+        None => u64::MAX,
+    }
+}
+
+/// Follows the log at a control socket as the matches ask for.
+fn followed<C: Control, W: Write, E: Write>(
+    rt: &HostRuntime,
+    alloc: Global,
+    matches: &ArgMatches<'_>,
+    control: &mut C,
+    writer: &mut W,
+    errors: &mut E,
+) -> Status
+    ensures { (turns : ℕ) × (AreTurns (one_text (found_of matches.now) (codes "turns")) turns
+        × FollowedBy (C.exchanged control.old) (C.exchanged control.new) (rows_of (found_of matches.now)) turns result
+        (W.contents writer.old) (W.contents writer.new)) }
+{
+    let turns = turns_in(matches);
+    match places_for(rt, alloc, matches, errors) {
+        Ok(Ok(places)) => follow_to(rt, alloc, control, turns, places, writer, errors),
+        Ok(Err(code)) => refused(alloc, code, errors),
+        Err(_) => memory(errors),
     }
 }
 
@@ -396,7 +342,17 @@ pub fn run_follow<S: AsStr, W: Write, E: Write>(
         Err(error) => return misused(alloc, &error, writer),
     };
     match matches.subcommand_matches("follow") {
-        Some(inner) => followed(rt, alloc, inner, writer, errors),
+        Some(inner) => match inner.get_str("control") {
+            Some(path) => followed(
+                rt,
+                alloc,
+                inner,
+                &mut ControlSocket { rt, path },
+                writer,
+                errors,
+            ),
+            None => Status::Usage,
+        },
         None => Status::Usage,
     }
 }

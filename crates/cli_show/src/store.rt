@@ -6,7 +6,7 @@ ghost use Rattle.sqlite.specs.State.{HasCleanDisk};
 ghost use Rattle.px_store.specs.Adopting.{Began};
 ghost use Rattle.px_store.specs.Formats.{record_at};
 ghost use Rattle.px_store.specs.declared.formats.Format.TheVariants.{Three};
-ghost use Rattle.cli_show.specs.Stores.{ShowsStore};
+ghost use Rattle.cli_show.specs.Stores.{ShowsStore, closed_by, closed_of, closed_for};
 
 use crate::owner::owner_of;
 use crate::showing::show_record;
@@ -27,12 +27,21 @@ pub enum Closed {
     Refused(u8),
 }
 
-/// What a refusal to take a store gives.
-fn closed_of(fault: AdoptFault) -> Closed {
-    match fault.code() {
+/// What the number of a refusal gives; without one memory ran out.
+fn closed_by(code: Option<u8>) -> Closed
+    ensures { result ≡ closed_by code }
+{
+    match code {
         Some(code) => Closed::Refused(code),
         None => Closed::Memory,
     }
+}
+
+/// What a refusal to take a store gives.
+fn closed_of(refusal: AdoptFault) -> Closed
+    ensures { result ≡ closed_of refusal }
+{
+    closed_by(refusal.code())
 }
 
 /// Whose record it is, as the store has it.
@@ -65,12 +74,10 @@ fn adopted<S: Alter + Drop>(
 }
 
 /// What a fault of a record that doesn't open gives.
-fn closed_for(fault: NodeFault) -> Closed {
-    match fault {
-        NodeFault::Memory => Closed::Memory,
-        NodeFault::BadStore => Closed::Refused(72),
-        _ => Closed::Refused(70),
-    }
+fn closed_for(fault: NodeFault) -> Closed
+    ensures { result ≡ closed_for fault }
+{
+    closed_by(fault.code())
 }
 
 /// What is shown of the record in a store of format 3, and the record, which is as it was: of the configuration after

@@ -1,0 +1,36 @@
+use Rattle.clap.specs.Words.{found_of, rows_of}
+use Rattle.cli_follow.proofs.Endings.{to_places, refused_first, no_memory}
+use Rattle.cli_follow.proofs.running.followed.Goals as goal
+
+pub returns-in-Ok-Ok : goal.returns-in-Ok-Ok
+returns-in-Ok-Ok g c =
+    let wanted = rw c.in-Ok-Ok.field-0-is at c.in-Ok-Ok.ensures in (
+      c.turns_in-turns.result,
+      (
+        c.turns_in-turns.ensures,
+        to_places (g.C.Control.exchanged c.args.control.now) (g.C.Control.exchanged c.follow_to.new.control)
+            (rows_of (found_of c.args.matches.now)) c.in-Ok-Ok.places c.turns_in-turns.result c.follow_to.result (g.W.Write.contents c.args.writer.now) (g.W.Write.contents c.follow_to.new.writer)
+            wanted c.follow_to.ensures,
+      ),
+    )
+
+pub returns-in-Ok-Err : goal.returns-in-Ok-Err
+returns-in-Ok-Err g c =
+    let why = rw c.in-Ok-Err.field-0-is at c.in-Ok-Err.ensures in (
+      c.turns_in-turns.result,
+      (
+        c.turns_in-turns.ensures,
+        refused_first (g.C.Control.exchanged c.args.control.now)
+            (rows_of (found_of c.args.matches.now)) c.turns_in-turns.result c.in-Ok-Err.code c.refused.result (g.W.Write.contents c.args.writer.now) why c.refused.ensures,
+      ),
+    )
+
+pub returns-in-Err : goal.returns-in-Err
+returns-in-Err g c = (
+  c.turns_in-turns.result,
+  (
+    c.turns_in-turns.ensures,
+    no_memory (g.C.Control.exchanged c.args.control.now)
+        (rows_of (found_of c.args.matches.now)) c.turns_in-turns.result c.memory.result (g.W.Write.contents c.args.writer.now) c.memory.ensures,
+  ),
+)

@@ -1,0 +1,115 @@
+-- What is to be written where, and how a run ends.
+use Rattle.std.specs.Prelude.{◌≡◌, ◌⊎◌, ◌&&◌, ℕ, ◌^◌, ◌<◌, Bool, true, false, List, [], ◌++◌, Option, Some, None}
+use Rattle.std.specs.Prelude.{Result, Ok, Err, not, codes, decimal}
+use Rattle.std.specs.Prelude.{bytes_eq, is_some, option_map, string_bytes, if◌then◌else◌}
+use Rattle.std.specs.Io.KnownBytes.{Appends}
+use Rattle.std.specs.Str.Parse.{IsNumeral, digits_value, without_leading_plus}
+use Rattle.clap.specs.Words.{Row, Text, first_of}
+use Rattle.cli_io.specs.declared.status.Status.{Status}
+use Rattle.cli_io.specs.declared.status.Status.TheVariants as status
+use Rattle.cli_follow.specs.Exchanges.{Exchange, Adds}
+use Rattle.cli_follow.specs.Output.{Wanted, Ends, wanted}
+use Rattle.cli_follow.specs.declared.files.TextFiles.{TextFiles}
+use Rattle.cli_follow.specs.declared.follower.WriteFault.{WriteFault}
+use Rattle.cli_follow.specs.declared.follower.WriteFault.TheVariants as fault
+use Rattle.cli_follow.specs.declared.places.Places.{Places}
+
+-- the target under which a node answers its entries from a position on
+abbrev pub entries_target : (from : ℕ) → List ℕ
+entries_target from = codes "/v1/entries?from=" ++ decimal from
+
+-- ---- arguments
+
+-- whether an option without a value was given
+abbrev pub is_given : Option Text → Bool
+is_given None = false
+is_given (Some text) = bytes_eq text (codes "true")
+
+-- lines for nft(8) take --nft and --interfaces, and perhaps --no-member-guard; without them rulesets for pfctl(8) are
+-- written, or nothing would be
+abbrev pub go_together : (nft : Bool) → (interfaces pf : Option Text) → (no_guard : Bool) → Bool
+go_together true (Some file) pf no_guard = true
+go_together true None pf no_guard = false
+go_together false (Some file) pf no_guard = false
+go_together false None (Some folder) no_guard = not no_guard
+go_together false None None no_guard = false
+
+abbrev pub has_nft : List Row → Bool
+has_nft rows = is_given (first_of (codes "nft") rows)
+
+abbrev pub has_no_guard : List Row → Bool
+has_no_guard rows = is_given (first_of (codes "no-member-guard") rows)
+
+-- the arguments go together; without that 40 comes
+abbrev pub are_good : List Row → Bool
+are_good rows = go_together (has_nft rows) (first_of (codes "interfaces") rows) (first_of (codes "pf") rows)
+    (has_no_guard rows)
+
+-- ---- places
+
+-- the folder of rulesets for pfctl(8)
+abbrev pub folder_of : Option TextFiles → Option (List ℕ)
+folder_of files = option_map (λ f. string_bytes f.folder) files
+
+-- lines for nft(8) are written where these are asked for, with the guard unless it is declined; rulesets for pfctl(8)
+-- go into the folder that is named
+pub record IsWantedBy (rows : List Row) (p : Places) : Type 0 where
+  pub good : are_good rows ≡ true
+  pub lines : is_some p.interfaces ≡ has_nft rows
+  pub guard : p.is_guarded ≡ (has_nft rows && not (has_no_guard rows))
+  pub folder : folder_of p.files ≡ first_of (codes "pf") rows
+
+-- 40 comes where the arguments don't go together, 89 where a file of interfaces lists none
+abbrev pub IsRefusedIf : (good nft : Bool) → (code : ℕ) → Type 0
+IsRefusedIf true nft code = (code ≡ 89) × (nft ≡ true)
+IsRefusedIf false nft code = code ≡ 40
+
+abbrev pub IsRefusedWith : List Row → (code : ℕ) → Type 0
+IsRefusedWith rows code = IsRefusedIf (are_good rows) (has_nft rows) code
+
+-- the places, or the number of the refusal
+abbrev pub ArePlaces : List Row → Result Places ℕ → Type 0
+ArePlaces rows (Ok p) = IsWantedBy rows p
+ArePlaces rows (Err code) = IsRefusedWith rows code
+
+-- ---- ends
+
+-- how a run ends: 0 only where all requests were made; of what can't be written to standard error Failed
+abbrev pub IsEnding : Result Unit WriteFault → Status → Type 0
+IsEnding (Ok done) s = s ≡ status.Done
+IsEnding (Err fault.Closed) s = s ≡ status.Failed
+IsEnding (Err fault.Another) s = (s ≡ status.Refused) ⊎ (s ≡ status.Failed)
+IsEnding (Err fault.Memory) s = (s ≡ status.Memory) ⊎ (s ≡ status.Failed)
+
+-- a run that is refused or runs out of memory before anything is asked
+abbrev pub IsNoEnding : Status → Type 0
+IsNoEnding s = (s ≡ status.Refused) ⊎ ((s ≡ status.Memory) ⊎ (s ≡ status.Failed))
+
+-- how often entries are asked for: without end, where it isn't said
+abbrev pub AreTurns : Option Text → ℕ → Type 0
+AreTurns None n = n ≡ 18446744073709551615
+AreTurns (Some text) n = IsNumeral 10 (without_leading_plus text) →
+    digits_value 10 (without_leading_plus text) < 2 ^ 64 → n ≡ digits_value 10 (without_leading_plus text)
+
+-- what the places want
+abbrev pub wanted_at : Places → Wanted
+wanted_at p = wanted (option_map (λ v. v.items) p.interfaces) p.is_guarded
+
+-- the log is followed to these places, and the run ends as that does
+abbrev pub FollowedTo : (given now : List Exchange → Type 0) → Places → (turns : ℕ) → Status →
+    (before written : Option (List ℕ)) → Type 0
+FollowedTo given now p turns s before written =
+    (r : Result Unit WriteFault) × (Ends given now (wanted_at p) turns r before written × IsEnding r s)
+
+-- nothing is asked and nothing is written: the arguments or the file of interfaces are refused, or memory ran out
+abbrev pub NotFollowed : (given now : List Exchange → Type 0) → List Row → Status →
+    (before written : Option (List ℕ)) → Type 0
+NotFollowed given now rows s before written = Adds given now []
+    × (Appends before written [] × (IsNoEnding s × ((s ≡ status.Refused) → (code : ℕ) × IsRefusedWith rows code)))
+
+-- the log is followed to the places that the arguments name, or it isn't
+abbrev pub FollowedBy : (given now : List Exchange → Type 0) → List Row → (turns : ℕ) → Status →
+    (before written : Option (List ℕ)) → Type 0
+FollowedBy given now rows turns s before written =
+    ((p : Places) × (IsWantedBy rows p × FollowedTo given now p turns s before written))
+    ⊎ NotFollowed given now rows s before written

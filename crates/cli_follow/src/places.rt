@@ -1,0 +1,129 @@
+//! What is to be written where, by the arguments.
+
+ghost use Rattle.std.specs.Prelude.{◌≡◌, IfOk, option_map};
+ghost use Rattle.clap.specs.Words.{found_of, rows_of, first_of};
+ghost use Rattle.cli_follow.specs.Places.{is_given, folder_of, ArePlaces};
+
+use crate::files::TextFiles;
+use clap::ArgMatches;
+use cli_io::Shown;
+use cli_nft::{machine_in, read_file};
+use std::alloc::{AllocError, Global};
+use std::fs;
+use std::io::{self, Write};
+
+/// What is to be written where.
+#[derive(Drop)]
+pub(crate) struct Places {
+    /// The interfaces for which lines for nft(8) are wanted.
+    pub(crate) interfaces: Option<Vec<u8>>,
+    /// Whether those have the members' guard.
+    pub(crate) is_guarded: bool,
+    /// Rulesets for pfctl(8).
+    pub(crate) files: Option<TextFiles>,
+}
+
+/// The value of an option.
+fn value_of<'a>(matches: &ArgMatches<'a>, id: &str) -> Option<&'a str>
+    ensures { option_map (λ v. v.now) result ≡ first_of id.now (rows_of (found_of matches.now)) }
+{
+    matches.get_str(id)
+}
+
+/// Whether an option without a value was given.
+fn is_given(matches: &ArgMatches<'_>, id: &str) -> bool
+    ensures { result ≡ is_given (first_of id.now (rows_of (found_of matches.now))) }
+{
+    match value_of(matches, id) {
+        Some(value) => value == "true",
+        None => false,
+    }
+}
+
+/// The text of a file of interfaces; none where it lists none.
+fn interfaces_in(
+    rt: &HostRuntime,
+    alloc: Global,
+    file: &str,
+) -> Result<Option<Vec<u8>>, AllocError> {
+    let Some(text) = read_file(rt, alloc, file)? else {
+        return Ok(None);
+    };
+    match machine_in(alloc, text.as_slice())? {
+        Some(_) => Ok(Some(text)),
+        None => Ok(None),
+    }
+}
+
+/// Why a file can't be opened, as the system says it; none where it can. What isn't a regular file isn't opened, since
+/// a pipe would be waited for.
+fn why_unread(rt: &HostRuntime, file: &str) -> io::Result<()> {
+    if fs::metadata(rt, file)?.is_file() {
+        let _opened = fs::open(rt, file)?;
+    }
+    Ok(())
+}
+
+/// Says why a file lists no interfaces.
+fn say_interfaces<E: Write>(rt: &HostRuntime, file: &str, errors: &mut E) {
+    let shown = Shown(file);
+    match why_unread(rt, file) {
+        Ok(()) => {
+            let _said = writeln!(
+                errors,
+                "pfx: interfaces {shown}: a word is no name, a name is there twice, or there are too many names"
+            );
+        }
+        Err(error) => {
+            let _said = writeln!(errors, "pfx: interfaces {shown}: {error}");
+        }
+    }
+}
+
+/// The files in a folder, if one is named.
+fn files_in(alloc: Global, folder: Option<&str>) -> Result<Option<TextFiles>, AllocError>
+    ensures { IfOk result (λ files. folder_of files ≡ option_map (λ f. f.now) folder.entry) }
+{
+    match folder {
+        Some(folder) => Ok(Some(TextFiles::new(alloc, folder)?)),
+        None => Ok(None),
+    }
+}
+
+/// Where the arguments want it written. 40 where they want it nowhere, `--nft` and `--interfaces` aren't both there, or
+/// `--no-member-guard` is without them; 89 where the file lists no interfaces, which is said on standard error.
+pub(crate) fn places_for<E: Write>(
+    rt: &HostRuntime,
+    alloc: Global,
+    matches: &ArgMatches<'_>,
+    errors: &mut E,
+) -> Result<Result<Places, u8>, AllocError>
+    ensures { IfOk result (λ places. ArePlaces (rows_of (found_of matches.now)) places) }
+{
+    let files = files_in(alloc, value_of(matches, "pf"))?;
+    let is_guarded = !is_given(matches, "no-member-guard");
+    let Some(file) = value_of(matches, "interfaces") else {
+        if is_given(matches, "nft") || files.is_none() || !is_guarded {
+            return Ok(Err(40));
+        }
+        return Ok(Ok(Places {
+            interfaces: None,
+            is_guarded: false,
+            files,
+        }));
+    };
+    if !is_given(matches, "nft") {
+        return Ok(Err(40));
+    }
+    match interfaces_in(rt, alloc, file)? {
+        Some(text) => Ok(Ok(Places {
+            interfaces: Some(text),
+            is_guarded,
+            files,
+        })),
+        None => {
+            say_interfaces(rt, file, errors);
+            Ok(Err(89))
+        }
+    }
+}
