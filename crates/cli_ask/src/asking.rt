@@ -14,7 +14,7 @@ use std::alloc::Global;
 use std::io::Read;
 use std::net::Net;
 use std::os::unix::net::UnixStream;
-use std::time::Duration;
+use std::time::{Clock, Duration};
 
 /// How many requests follow each other at once: some two milliseconds, in which a cluster whose members are near has
 /// learned a command. A shorter pause isn't to be had, since the system counts it in ticks of its clock.
@@ -69,8 +69,8 @@ fn in_time(
 
 /// Asks again while that is to be done and time is left, if it may be asked again at all. Where the time is over behind
 /// an answer, that is the answer; in the midst of an ask that may be made again, the one before.
-pub(crate) fn ask_on<C: Control>(
-    rt: &HostRuntime,
+pub(crate) fn ask_on<RT: Net + Clock, C: Control>(
+    rt: &RT,
     alloc: Global,
     control: &mut C,
     call: &Call,
@@ -98,8 +98,8 @@ pub(crate) fn ask_on<C: Control>(
 }
 
 /// Behind a command that was accepted, asks what became of it.
-fn follow_up<C: Control>(
-    rt: &HostRuntime,
+fn follow_up<RT: Net + Clock, C: Control>(
+    rt: &RT,
     alloc: Global,
     control: &mut C,
     kind: Kind,
@@ -123,8 +123,8 @@ fn follow_up<C: Control>(
 /// in time. No command is asked twice that may have been accepted. With 0 seconds it is asked once, and the answer is
 /// waited for 10 seconds at most. Verdicts of many packets are asked for in as many requests as the node wants; they
 /// are of one position, or there is no answer.
-pub(crate) fn ask_at<C: Control>(
-    rt: &HostRuntime,
+pub(crate) fn ask_at<RT: Net + Clock, C: Control>(
+    rt: &RT,
     alloc: Global,
     control: &mut C,
     call: &Call,

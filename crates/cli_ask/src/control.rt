@@ -8,6 +8,8 @@ use crate::call::Call;
 use crate::exchange::{AskFault, Deadline, Reply, exchange};
 use crate::showing::shown;
 use std::alloc::Global;
+use std::net::Net;
+use std::time::Clock;
 
 /// Whoever answers as a node does at its control socket.
 pub(crate) trait Control {
@@ -22,8 +24,8 @@ pub(crate) trait Control {
 
 /// A control socket.
 #[derive(Clone, Copy)]
-pub(crate) struct ControlSocket<'a> {
-    pub(crate) rt: &'a HostRuntime,
+pub(crate) struct ControlSocket<'a, RT> {
+    pub(crate) rt: &'a RT,
     pub(crate) path: &'a str,
 }
 
@@ -40,7 +42,7 @@ fn printable(alloc: Global, reply: Reply) -> Result<Reply, AskFault> {
     }
 }
 
-impl Control for ControlSocket<'_> {
+impl<RT: Net + Clock> Control for ControlSocket<'_, RT> {
     // no contract can say what a socket gives
     ghost exchanged = { λ _ _. ⊤ };
 

@@ -22,8 +22,10 @@ use clap::ArgMatches;
 use cli_io::{InputFault, Status, UNREADABLE, misused, out_of_memory, read_all};
 use std::alloc::{AllocError, Global};
 use std::convert::AsStr;
-use std::fs;
+use std::fs::{self, Files};
 use std::io::{Read, Write};
+use std::net::Net;
+use std::time::Clock;
 
 /// The number that an option has.
 fn number_at(matches: &ArgMatches<'_>, id: &str) -> Option<u32>
@@ -43,7 +45,7 @@ fn unread(fault: InputFault, outcome: Outcome) -> Outcome
 }
 
 /// The text of a file. One that can't be read is 90.
-fn text_of_file(rt: &HostRuntime, alloc: Global, path: &str) -> Result<Vec<u8>, Outcome>
+fn text_of_file<F: Files>(rt: &F, alloc: Global, path: &str) -> Result<Vec<u8>, Outcome>
     ensures { IfErr result (λ outcome. (outcome ≡ Memory) ⊎ (outcome ≡ unreadable)) }
 {
     let Ok(mut file) = fs::open(rt, path) else {
@@ -56,8 +58,8 @@ fn text_of_file(rt: &HostRuntime, alloc: Global, path: &str) -> Result<Vec<u8>, 
 }
 
 /// The text that a name stands for: of the input for `-`, else of a file.
-fn text_named<R: Read>(
-    rt: &HostRuntime,
+fn text_named<F: Files, R: Read>(
+    rt: &F,
     alloc: Global,
     name: &str,
     reader: &mut R,
@@ -75,8 +77,8 @@ fn text_named<R: Read>(
 }
 
 /// The text that an option names; none without it.
-fn text_for<R: Read>(
-    rt: &HostRuntime,
+fn text_for<F: Files, R: Read>(
+    rt: &F,
     alloc: Global,
     named: Option<&str>,
     reader: &mut R,
@@ -92,13 +94,13 @@ fn text_for<R: Read>(
 }
 
 /// What an answer gives. Of a command's it is said how many positions are left, once the log nears its end.
-fn replied(rt: &HostRuntime, kind: Kind, answer: Result<Reply, AskFault>) -> Outcome
+fn replied<E: Write>(kind: Kind, answer: Result<Reply, AskFault>, errors: &mut E) -> Outcome
     ensures { Replied kind (answer_value answer) result }
 {
     match answer {
         Ok(reply) => {
             if is_command(kind) {
-                tell_left(rt, reply.front);
+                tell_left(reply.front, errors);
             }
             Outcome::Answered(kind, reply)
         }
@@ -109,12 +111,13 @@ fn replied(rt: &HostRuntime, kind: Kind, answer: Result<Reply, AskFault>) -> Out
 }
 
 /// Makes the request that the arguments spell with this text.
-fn ask_with<C: Control>(
-    rt: &HostRuntime,
+fn ask_with<RT: Net + Clock, C: Control, E: Write>(
+    rt: &RT,
     alloc: Global,
     matches: &ArgMatches<'_>,
     control: &mut C,
     text: &[u8],
+    errors: &mut E,
 ) -> Outcome
     ensures { AsksWith (C.exchanged control.old) (C.exchanged control.new) (rows_of (found_of matches.now)) text.now
         result }
@@ -132,16 +135,17 @@ fn ask_with<C: Control>(
     }
     let seconds = number_at(matches, "wait").unwrap_or(0);
     let answer = ask_at(rt, alloc, control, &call, seconds);
-    replied(rt, call.kind, answer)
+    replied(call.kind, answer, errors)
 }
 
 /// What the arguments give at a control socket.
-fn outcome_of<C: Control, R: Read>(
-    rt: &HostRuntime,
+fn outcome_of<RT: Files + Net + Clock, C: Control, R: Read, E: Write>(
+    rt: &RT,
     alloc: Global,
     matches: &ArgMatches<'_>,
     control: &mut C,
     reader: &mut R,
+    errors: &mut E,
 ) -> Outcome
     ensures { Asks (C.exchanged control.old) (C.exchanged control.new) (rows_of (found_of matches.now))
         (R.remaining reader.old) result }
@@ -150,7 +154,7 @@ fn outcome_of<C: Control, R: Read>(
         return refused(40);
     }
     match text_for(rt, alloc, value_of(matches, "file"), reader) {
-        Ok(text) => ask_with(rt, alloc, matches, control, text.as_slice()),
+        Ok(text) => ask_with(rt, alloc, matches, control, text.as_slice(), errors),
         Err(outcome) => outcome,
     }
 }
@@ -181,13 +185,15 @@ fn checked_script(
 }
 
 /// Asks the changes of a script.
-fn run_script<R: Read, W: Write>(
-    rt: &HostRuntime,
+fn run_script<RT: Files + Net + Clock, R: Read, W: Write, E: Write>(
+    rt: &RT,
     alloc: Global,
     matches: &ArgMatches<'_>,
     file: &str,
     reader: &mut R,
     writer: &mut W,
+    errors: &mut E,
+    is_terminal: bool,
 ) -> Status {
     let Some(control) = matches.get_str("control") else {
         return write_outcome(alloc, refused(40), writer);
@@ -203,6 +209,7 @@ fn run_script<R: Read, W: Write>(
         script: script.as_slice(),
         from: u64::from(matches.get_one::<u32>("from").unwrap_or(1)),
         seconds: matches.get_one::<u32>("wait").unwrap_or(WAIT).max(1),
+        is_terminal,
     };
     match checked_script(alloc, matches, &request) {
         Ok(None) => ask_script(
@@ -211,6 +218,7 @@ fn run_script<R: Read, W: Write>(
             &mut ControlSocket { rt, path: control },
             &request,
             writer,
+            errors,
         ),
         Ok(Some(refused)) => write_outcome(alloc, Outcome::Refused(refused), writer),
         Err(_) => out_of_memory(writer),
@@ -224,13 +232,16 @@ fn run_script<R: Read, W: Write>(
 /// case. 85 where nobody answers at the socket, 86 where the answer is cut short or none.
 ///
 /// The status is 1 where a change was refused or its outcome isn't known in time, where not all addresses of `-T test`
-/// match, and of every refusal.
-pub fn run_control_ask<S: AsStr, R: Read, W: Write>(
-    rt: &HostRuntime,
+/// match, and of every refusal. For people stands on `errors` how many positions are left once few are, and, where that
+/// is a terminal, at which line a script is.
+pub fn run_control_ask<RT: Files + Net + Clock, S: AsStr, R: Read, W: Write, E: Write>(
+    rt: &RT,
     alloc: Global,
     words: &[S],
     reader: &mut R,
     writer: &mut W,
+    errors: &mut E,
+    is_terminal: bool,
 ) -> Status {
     let Ok(command) = command(alloc) else {
         return out_of_memory(writer);
@@ -242,10 +253,17 @@ pub fn run_control_ask<S: AsStr, R: Read, W: Write>(
     match matches.subcommand_matches("ask") {
         Some(inner) => {
             if let Some(file) = inner.get_str("script") {
-                return run_script(rt, alloc, inner, file, reader, writer);
+                return run_script(rt, alloc, inner, file, reader, writer, errors, is_terminal);
             }
             let outcome = match inner.get_str("control") {
-                Some(path) => outcome_of(rt, alloc, inner, &mut ControlSocket { rt, path }, reader),
+                Some(path) => outcome_of(
+                    rt,
+                    alloc,
+                    inner,
+                    &mut ControlSocket { rt, path },
+                    reader,
+                    errors,
+                ),
                 None => refused(40),
             };
             write_outcome(alloc, outcome, writer)

@@ -13,6 +13,8 @@ use crate::telling::{tell_left, tell_line};
 use cli_io::{Status, out_of_memory};
 use std::alloc::{AllocError, Global};
 use std::io::Write;
+use std::net::Net;
+use std::time::Clock;
 
 /// What comes of a change that was made.
 const MADE: &[u8] = b"ok";
@@ -25,6 +27,8 @@ pub(crate) struct ScriptRequest<'a> {
     pub(crate) from: u64,
     /// For how many seconds it is waited for what comes of a change.
     pub(crate) seconds: u32,
+    /// Whether people read on standard error how far it is.
+    pub(crate) is_terminal: bool,
 }
 
 /// How a change went.
@@ -49,12 +53,13 @@ fn went_by(alloc: Global, reply: Reply) -> Result<Went, AllocError>
 }
 
 /// Asks one change, and waits for what comes of it.
-fn make<C: Control>(
-    rt: &HostRuntime,
+fn make<RT: Net + Clock, C: Control, E: Write>(
+    rt: &RT,
     alloc: Global,
     control: &mut C,
     seconds: u32,
     change: &Change<'_>,
+    errors: &mut E,
 ) -> Result<Went, AskFault>
     ensures { Makes (C.exchanged control.old) (C.exchanged control.new)
         (call_for (map (λ w. w.now) change.now.words.items) change.now.text.items) (seconds == 0) (went_value result) }
@@ -64,7 +69,7 @@ fn make<C: Control>(
     };
     match ask_at(rt, alloc, control, &call, seconds) {
         Ok(reply) => {
-            tell_left(rt, reply.front);
+            tell_left(reply.front, errors);
             Ok(went_by(alloc, reply)?)
         }
         Err(fault) => Err(fault),
@@ -83,15 +88,16 @@ fn write_end<W: Write>(alloc: Global, said: &[u8], line: u64, writer: &mut W) ->
 }
 
 /// Asks one change and writes what came of it; none where it was made, else how the script ends.
-fn ask_one<C: Control, W: Write>(
-    rt: &HostRuntime,
+fn ask_one<RT: Net + Clock, C: Control, W: Write, E: Write>(
+    rt: &RT,
     alloc: Global,
     control: &mut C,
     seconds: u32,
     change: &Change<'_>,
     writer: &mut W,
+    errors: &mut E,
 ) -> Option<Status> {
-    match make(rt, alloc, control, seconds, change) {
+    match make(rt, alloc, control, seconds, change, errors) {
         Ok(Went::Made(said)) => match writer.write_all(said.as_slice()) {
             Ok(()) => None,
             Err(_) => Some(Status::Failed),
@@ -105,12 +111,13 @@ fn ask_one<C: Control, W: Write>(
 
 /// Asks the script's changes, each once what came of the one before it is known, and writes a line of each. It ends at
 /// the first that isn't made, or of which nobody knows, with the number of its line.
-pub(crate) fn ask_script<C: Control, W: Write>(
-    rt: &HostRuntime,
+pub(crate) fn ask_script<RT: Net + Clock, C: Control, W: Write, E: Write>(
+    rt: &RT,
     alloc: Global,
     control: &mut C,
     request: &ScriptRequest<'_>,
     writer: &mut W,
+    errors: &mut E,
 ) -> Status {
     let mut left = Left {
         bytes: request.script,
@@ -124,8 +131,18 @@ pub(crate) fn ask_script<C: Control, W: Write>(
             Err(ScriptFault::Memory) => return out_of_memory(writer),
         };
         if change.line >= request.from {
-            tell_line(rt, change.line);
-            if let Some(status) = ask_one(rt, alloc, control, request.seconds, &change, writer) {
+            if request.is_terminal {
+                tell_line(change.line, errors);
+            }
+            if let Some(status) = ask_one(
+                rt,
+                alloc,
+                control,
+                request.seconds,
+                &change,
+                writer,
+                errors,
+            ) {
                 return status;
             }
         }

@@ -8,6 +8,8 @@ use crate::call::Call;
 use crate::control::Control;
 use crate::exchange::{AskFault, Deadline, Reply};
 use std::alloc::Global;
+use std::net::Net;
+use std::time::Clock;
 
 /// How many times verdicts are asked for that a node doesn't answer at once, until all are of one position.
 const BEGINNINGS: u32 = 3;
@@ -33,8 +35,8 @@ fn behind_lines(text: &[u8], count: usize) -> &[u8] {
 
 /// Asks for the verdicts behind those that an answer has, as many at a time as the node answers at once; none where it
 /// has applied another position meanwhile, so that they would be verdicts of several configurations.
-fn ask_verdicts<C: Control>(
-    rt: &HostRuntime,
+fn ask_verdicts<RT: Net + Clock, C: Control>(
+    rt: &RT,
     alloc: Global,
     control: &mut C,
     call: &Call,
@@ -61,8 +63,8 @@ fn ask_verdicts<C: Control>(
 }
 
 /// The verdicts of one position: they are asked for anew where the node has applied another one meanwhile.
-pub(crate) fn verdicts<C: Control>(
-    rt: &HostRuntime,
+pub(crate) fn verdicts<RT: Net + Clock, C: Control>(
+    rt: &RT,
     alloc: Global,
     control: &mut C,
     call: &Call,

@@ -17,7 +17,10 @@ use cli_ask::{AskFault, pause};
 use cli_io::{Status, misused};
 use std::alloc::{AllocError, Global};
 use std::convert::AsStr;
+use std::fs::Files;
 use std::io::Write;
+use std::net::Net;
+use std::time::Clock;
 
 /// How long it waits between two asks, but for entries that weren't all, in milliseconds.
 const PAUSE: u64 = 50;
@@ -73,8 +76,8 @@ fn ask<C: Control>(
 }
 
 /// Writes rulesets for pfctl(8), where they are wanted; with `is_late` those alone that couldn't be written.
-fn write_texts<E: Write>(
-    rt: &HostRuntime,
+fn write_texts<RT: Files, E: Write>(
+    rt: &RT,
     alloc: Global,
     is_late: bool,
     follower: &Follower,
@@ -93,8 +96,8 @@ fn write_texts<E: Write>(
 }
 
 /// Asks once, after the given number of asks, and writes what is to be written.
-fn turn<C: Control, W: Write, E: Write>(
-    rt: &HostRuntime,
+fn turn<RT: Files, C: Control, W: Write, E: Write>(
+    rt: &RT,
     alloc: Global,
     control: &mut C,
     asks: u64,
@@ -146,8 +149,8 @@ fn is_another(due: Due) -> bool
 }
 
 /// Says once that there is no answer, and waits before entries are asked for again, but for some that weren't all.
-fn rest<C: Control, E: Write>(
-    rt: &HostRuntime,
+fn rest<RT: Net, C: Control, E: Write>(
+    rt: &RT,
     control: &C,
     errors: &mut E,
     due: Due,
@@ -169,8 +172,8 @@ fn rest<C: Control, E: Write>(
 /// Follows a node's log until the output is closed, or entries were asked for so often, or another log is there: what
 /// nft(8) is to load goes to the writer, for the interfaces that a file lists, if there is one, with the members' guard
 /// or without; rulesets for pfctl(8) go into files, where they are wanted. Refusals go to `errors`.
-pub fn follow<C: Control, W: Write, E: Write>(
-    rt: &HostRuntime,
+pub fn follow<RT: Files + Net, C: Control, W: Write, E: Write>(
+    rt: &RT,
     alloc: Global,
     control: &mut C,
     turns: u64,
@@ -255,8 +258,8 @@ fn closed<E: Write>(errors: &mut E) -> Status
 }
 
 /// Follows the log to these places, and says how that ended on standard error.
-fn follow_to<C: Control, W: Write, E: Write>(
-    rt: &HostRuntime,
+fn follow_to<RT: Files + Net, C: Control, W: Write, E: Write>(
+    rt: &RT,
     alloc: Global,
     control: &mut C,
     turns: u64,
@@ -304,8 +307,8 @@ fn turns_in(matches: &ArgMatches<'_>) -> u64
 }
 
 /// Follows the log at a control socket as the matches ask for.
-fn followed<C: Control, W: Write, E: Write>(
-    rt: &HostRuntime,
+fn followed<RT: Files + Net, C: Control, W: Write, E: Write>(
+    rt: &RT,
     alloc: Global,
     matches: &ArgMatches<'_>,
     control: &mut C,
@@ -327,8 +330,8 @@ fn followed<C: Control, W: Write, E: Write>(
 /// What the subcommand `follow` asks for, the program's name first: the rules of a running node's configuration, whole,
 /// once it has applied a command and each time that what it applies changes them; for nft(8) to the writer, for
 /// pfctl(8) into files. Refusals go to `errors`.
-pub fn run_follow<S: AsStr, W: Write, E: Write>(
-    rt: &HostRuntime,
+pub fn run_follow<RT: Files + Net + Clock, S: AsStr, W: Write, E: Write>(
+    rt: &RT,
     alloc: Global,
     words: &[S],
     writer: &mut W,

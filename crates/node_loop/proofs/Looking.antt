@@ -41,3 +41,10 @@ looks_then n k a b c (ts, is, g) (us, more, h) =
 -- turns, and then some more
 pub makes_then : (turns k : ℕ) (a b c : List TimerEvent → Type 0) → MakesTurns turns a b → LooksTimes k b c → MakesTurns turns a c
 makes_then turns k a b c (n, few, l) more = (n + k, omega (arith, few), looks_then n k a b c l more)
+
+-- it ended, and one round more
+pub ends_then : (n : ℕ) (a b c : List TimerEvent → Type 0) →
+    (more : List TimerEvent) × (looks_in more ≡ n) × Adds a b (TimerEvent.Ends ∷ more) → LooksTimes 1 b c →
+    (more : List TimerEvent) × (looks_in more ≡ n + 1) × Adds a c (TimerEvent.Ends ∷ more)
+ends_then n a b c (ts, is, g) (us, one, h) =
+    let all = looks_append ts us in (ts ++ us, omega (arith, all, is, one), adds_then a b c (TimerEvent.Ends ∷ ts) us g h)

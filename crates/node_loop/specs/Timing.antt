@@ -1,6 +1,6 @@
 -- What a node's timer is given in a round: the time, how the node is, and what was seen of others, all as the datagrams
 -- that were taken left them. So one that is nobody's changes nothing of it.
-use Rattle.std.specs.Prelude.{◌≡◌, ◌≤◌, ℕ, suc, ◌*◌, ◌==◌, ◌&&◌, Bool, true, false, not, List, [], ◌∷◌, ◌++◌}
+use Rattle.std.specs.Prelude.{◌≡◌, ◌⊎◌, ◌≤◌, ℕ, suc, ◌*◌, ◌==◌, ◌&&◌, Bool, true, false, not, List, [], ◌∷◌, ◌++◌}
 use Rattle.std.specs.Prelude.{is_some, length, nat_lt}
 use Rattle.px_model.specs.Step.{front}
 use Rattle.px_records.specs.declared.records.Records.{Ghosts}
@@ -79,3 +79,8 @@ LooksTimes n before after = (more : List TimerEvent) × (looks_in more ≡ n) ×
 -- 65.
 abbrev pub MakesTurns : (turns : ℕ) → (before after : List TimerEvent → Type 0) → Type 0
 MakesTurns turns before after = (n : ℕ) × (turns ≤ 65 * n) × LooksTimes n before after
+
+-- The node accepts no more commands, and then rounds are made until none waits to be proposed, or 30 at least.
+abbrev pub WorksOff : (waiting : ℕ) → (before after : List TimerEvent → Type 0) → Type 0
+WorksOff waiting before after =
+    (more : List TimerEvent) × Adds before after (TimerEvent.Ends ∷ more) × ((waiting ≡ 0) ⊎ (30 ≤ looks_in more))

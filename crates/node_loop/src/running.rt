@@ -1,13 +1,13 @@
 //! A node that runs.
 
-ghost use Rattle.std.specs.Prelude.{◌≡◌, ◌≤◌, ◌+◌, ℕ, Bool, List, IfOk, OnOk};
+ghost use Rattle.std.specs.Prelude.{◌≡◌, ◌≤◌, ◌+◌, ℕ, Bool, List, length, IfOk, OnOk};
 ghost use Rattle.px_replica.specs.Faults.{fault_of};
 ghost use Rattle.px_transport.specs.Wires.{Adds, Moves, WireEvent};
 ghost use Rattle.node_loop.specs.Again.{HandsAgain};
 ghost use Rattle.node_loop.specs.Resends.{kept_of, requests_of};
-ghost use Rattle.pf_node.specs.Nodes.{applied_of, replica_of};
+ghost use Rattle.pf_node.specs.Nodes.{applied_of, replica_of, state_in};
 ghost use Rattle.node_loop.specs.Progress.{looked, seen_in};
-ghost use Rattle.node_loop.specs.Timing.{IsShort, LooksTimes, SawThenLooked, looks, view_of};
+ghost use Rattle.node_loop.specs.Timing.{IsShort, LooksTimes, SawThenLooked, WorksOff, looks, view_of};
 ghost use Rattle.node_loop.specs.Turns.{Served, TickedIf, TookThenTicked, standing};
 
 use crate::pacing::microseconds;
@@ -244,7 +244,8 @@ pub fn finish<R: Records, W: Wire, T: Timer, C: Clock>(
     ensures served { Moves (W.traffic wire.old) (W.traffic wire.new)
         (λ es es'. Served (standing node.old es room.old) (standing node.new es' room.new) (fault_of result)) }
     ensures grows { applied_of node.old ≤ applied_of node.new }
-    ensures looks { OnOk result ((n : ℕ) × LooksTimes n (T.timer_events timer.old) (T.timer_events timer.new)) }
+    ensures worked { OnOk result (WorksOff (length (state_in node.new).volatile.waiting)
+        (T.timer_events timer.old) (T.timer_events timer.new)) }
     ensures same { W.identity wire.new ≡ W.identity wire.old }
 {
     timer.end();

@@ -1,5 +1,6 @@
 -- What a wire over UDP was made with.
 use Rattle.std.specs.Prelude.{◌≡◌, ◌⊎◌, ℕ, List, Option, Some}
+use Rattle.std.specs.declared.net.socket_addr.SocketAddr.{SocketAddr}
 use Rattle.px_transport.specs.Wires.{one_more}
 use Rattle.node_udp.specs.declared.address.Address.{Address}
 use Rattle.node_udp.specs.declared.udp.UdpWire.{UdpWire}
@@ -15,6 +16,10 @@ peers_of w = w.peers.items
 -- a member, or 255 for who is none
 abbrev pub me_of : {S C : Type 0} → UdpWire S C → ℕ
 me_of w = w.me
+
+-- where the last datagram came from of which it gave any byte
+abbrev pub last_of : {S C : Type 0} → UdpWire S C → Option SocketAddr
+last_of w = w.last
 
 -- how many datagrams were dropped whose source is no member's address, up to 2^64 - 1
 abbrev pub strangers_of : {S C : Type 0} → UdpWire S C → ℕ

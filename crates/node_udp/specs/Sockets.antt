@@ -1,5 +1,5 @@
 -- What goes over a socket, and over a wire that has one.
-use Rattle.std.specs.Prelude.{◌≡◌, ◌≢◌, ◌⊎◌, ℕ, List, [], ◌∷◌, Some, None, Result, Ok, Err, slice_get, take}
+use Rattle.std.specs.Prelude.{◌≡◌, ◌≢◌, ◌⊎◌, ℕ, List, [], ◌∷◌, Option, Some, None, Result, Ok, Err, slice_get, take}
 use Rattle.std.specs.List.{AllByRecursion}
 use Rattle.std.specs.declared.net.socket_addr.SocketAddr.{SocketAddr}
 use Rattle.std.specs.declared.net.ip_addr.IpAddr.{IpAddr}
@@ -11,7 +11,7 @@ use Rattle.pf_addr.specs.declared.addr.Addr.TheVariants.{V4, V6}
 use Rattle.px_transport.specs.Wires.{WireEvent, Gave, Handed}
 use Rattle.node_udp.specs.declared.address.Address.{Address}
 use Rattle.node_udp.specs.declared.udp.UdpWire.{UdpWire}
-use Rattle.node_udp.specs.Members.{peers_of, me_of}
+use Rattle.node_udp.specs.Members.{peers_of, me_of, last_of}
 
 -- ---- a socket
 
@@ -80,6 +80,22 @@ IsSound peers me (Hears from came given) = (given ≡ came) ⊎ (given ≡ [])
 IsSound peers me (Sends to bytes there) = GoesTo peers me to there
 IsSound peers me (Loses to bytes) = HasNoAddress peers me to
 
+-- where the last datagram came from of which any byte was given: as before, if these give none
+abbrev pub heard_last : (was : Option SocketAddr) → List Passage → Option SocketAddr
+heard_last was [] = was
+heard_last was (Hears from came [] ∷ xs) = heard_last was xs
+heard_last was (Hears from came (b ∷ given) ∷ xs) = heard_last (Some from) xs
+heard_last was (Sends to bytes there ∷ xs) = heard_last was xs
+heard_last was (Loses to bytes ∷ xs) = heard_last was xs
+
+-- what a member hands over for a client goes to where the last datagram came from of which any byte was given, unless
+-- there was none
+abbrev pub AnswersLast : (was : Option SocketAddr) → List Passage → Type 0
+AnswersLast was [] = Unit {0}
+AnswersLast was (Hears from came given ∷ xs) = AnswersLast (heard_last was (Hears from came given ∷ [])) xs
+AnswersLast was (Sends to bytes there ∷ xs) = (to ≡ 255 → was ≡ Some there) × AnswersLast was xs
+AnswersLast was (Loses to bytes ∷ xs) = (to ≡ 255 → was ≡ None) × AnswersLast was xs
+
 -- this went over the wire, where that is what went over its socket
 pub record WentOver {S C : Type 0} (below : List SocketEvent → Type 0) (w : UdpWire S C) (es : List WireEvent) :
     Type 0 where
@@ -87,9 +103,12 @@ pub record WentOver {S C : Type 0} (below : List SocketEvent → Type 0) (w : Ud
   pub below_is : below (below_in passages)
   pub above_is : es ≡ above_in passages
   pub sound : AllByRecursion (IsSound (peers_of w) (me_of w)) passages
+  pub last_is : last_of w ≡ heard_last None passages
+  pub answers : me_of w ≢ 255 → AnswersLast None passages
 
 -- the wire stays the same member's, and nothing went over its socket
 pub record IsStill {S C : Type 0} (old new : List SocketEvent → Type 0) (w w' : UdpWire S C) : Type 0 where
   pub quiet : (es : List SocketEvent) → old es → new es
   pub peers_is : peers_of w' ≡ peers_of w
   pub me_is : me_of w' ≡ me_of w
+  pub last_is : last_of w' ≡ last_of w

@@ -7,7 +7,7 @@ ghost use Rattle.pf_rules.specs.Words.{number_of};
 ghost use Rattle.node_udp.specs.Addresses.{address_of, four_of, six_of, four_in, six_in, joined};
 ghost use Rattle.node_udp.specs.Addresses.{is_no_colon, is_no_bracket, shown_address};
 ghost use Rattle.node_udp.specs.Sockets.{IsSocketOf};
-ghost use Rattle.node_udp.specs.inner.Heard.{ip_at, address_at};
+ghost use Rattle.node_udp.specs.inner.Heard.{any_port, ip_at, address_at};
 
 use pf_addr::{Addr, parse_bytes};
 use pf_rules::parse_decimal;
@@ -153,13 +153,15 @@ impl Address {
         SocketAddr::new(ip, self.port)
     }
 
-    /// Any free port of this machine, for datagrams to this address.
-    pub(crate) fn any_port(self) -> SocketAddr {
-        let ip = match self.ip {
-            Addr::V4(_) => IpAddr::V4(Ipv4Addr::UNSPECIFIED),
-            Addr::V6(_) => IpAddr::V6(Ipv6Addr::UNSPECIFIED),
+    /// Any free port of this machine, for datagrams to an address of this kind.
+    pub(crate) fn any_port(ip: Addr) -> Address
+        ensures { result ≡ any_port ip }
+    {
+        let ip = match ip {
+            Addr::V4(_) => Addr::V4(0),
+            Addr::V6(_) => Addr::V6(0),
         };
-        SocketAddr::new(ip, 0)
+        Address { ip, port: 0 }
     }
 
     /// What a socket says of where a datagram came from.

@@ -3,23 +3,25 @@
 ghost use Rattle.std.specs.Prelude.{◌≡◌, ◌⊎◌, ◌<◌, ◌≤◌, ◌==◌, Some, None, Err, IfOk, IfSome, OnErr, IsTrue};
 ghost use Rattle.std.specs.Prelude.{[], ◌∷◌, ◌≢◌, map, length, option_map, take, true, false};
 ghost use Rattle.std.specs.List.{list_any};
+ghost use Rattle.pf_entry.specs.declared.limits.TheConstants.{CLIENT};
 ghost use Rattle.px_transport.specs.Identities.{plain};
 ghost use Rattle.px_transport.specs.Wires.{Adds, IsQuiet, gives, one_more};
 ghost use Rattle.node_udp.specs.declared.udp.BindFault.TheVariants.{Memory};
 ghost use Rattle.node_udp.specs.Addresses.{AreFound};
-ghost use Rattle.node_udp.specs.Members.{socket_of, peers_of, me_of, strangers_of, Drops};
+ghost use Rattle.node_udp.specs.Members.{socket_of, peers_of, me_of, last_of, strangers_of, Drops};
 ghost use Rattle.node_udp.specs.Sockets.{GoesTo, HasNoAddress, IsStill, Went, WentOver};
-ghost use Rattle.node_udp.specs.inner.Heard.{address_at};
+ghost use Rattle.node_udp.specs.inner.Heard.{address_at, last_after, own_of};
 
 use crate::address::Address;
 use crate::host::find;
 use crate::socket::Socket;
+use pf_addr::Addr;
 use pf_entry::CLIENT;
 use px_transport::Wire;
 use px_wire::Head;
 use std::alloc::{AllocError, AllocFailed, Global};
 use std::io::ErrorKind;
-use std::net::{IpAddr, Ipv4Addr, Net, SocketAddr, UdpSocket};
+use std::net::{Net, SocketAddr, UdpSocket};
 use std::os::fd::{AsRawFd, RawFd};
 use std::time::{Clock, Duration, Instant};
 use thiserror::Error;
@@ -63,6 +65,8 @@ impl<T: Drop> From<AllocFailed<T>> for BindFault {
 /// A datagram that comes from elsewhere than a member's address is given as an empty one, which is nobody's, and is
 /// counted, unless it has a head ([`Head::read`]) whose sender is 255, a client. With [`UdpWire::hear_members`] its
 /// address alone decides, and no byte of it is looked at.
+///
+/// What a member sends to 255, a client, goes to where the last datagram came from of which any byte was given.
 pub struct UdpWire<S, C> {
     socket: S,
     clock: C,
@@ -73,7 +77,7 @@ pub struct UdpWire<S, C> {
     left: Duration,
     /// When a member received the last datagram of this wait.
     since: Option<Instant>,
-    /// Where the datagram given last came from.
+    /// Where the last datagram came from of which any byte was given.
     last: Option<SocketAddr>,
     /// How long the socket waits, where it does.
     timeout: Duration,
@@ -119,16 +123,15 @@ fn addresses<R: Net>(rt: &R, alloc: Global, texts: &[&str]) -> Result<Vec<Addres
 }
 
 /// Where a member listens, or a client: at any free port, with addresses of the kind that the first is of.
-fn own_address(peers: &[Address], me: u8) -> Option<SocketAddr> {
+fn own_address(peers: &[Address], me: u8) -> Option<Address>
+    ensures { result ≡ own_of peers.now me }
+{
     if me != CLIENT {
-        return match peers.get(usize::from(me)) {
-            Some(address) => Some(address.socket()),
-            None => None,
-        };
+        return peers.get(usize::from(me)).copied();
     }
     match peers.first() {
-        Some(address) => Some(address.any_port()),
-        None => Some(SocketAddr::new(IpAddr::V4(Ipv4Addr::UNSPECIFIED), 0)),
+        Some(address) => Some(Address::any_port(address.ip)),
+        None => Some(Address::any_port(Addr::V4(0))),
     }
 }
 
@@ -181,7 +184,7 @@ impl<R: Net + Clock + Copy> UdpWire<UdpSocket, R> {
         let Some(own) = own_address(peers.as_slice(), me) else {
             return Err(BindFault::NoSocket);
         };
-        let Ok(socket) = UdpSocket::bind(rt, own) else {
+        let Ok(socket) = UdpSocket::bind(rt, own.socket()) else {
             return Err(BindFault::NoSocket);
         };
         UdpWire::over(socket, *rt, peers, me, wait_ms)
@@ -336,14 +339,17 @@ impl<S: Socket, C> UdpWire<S, C> {
         ensures stranger { list_any (λ a. ⟦<Address as PartialEq>⟧.eq a (address_at from)) (peers_of self.old) ≡ false →
             self.old.hears_asks ≡ false →
             (result ≡ 0) × (strangers_of self.new ≡ one_more (strangers_of self.old)) }
-        ensures still { IsStill (S.traffic (socket_of self.old)) (S.traffic (socket_of self.new)) self.old self.new }
+        ensures heard { IsStill (S.traffic (socket_of self.old)) (S.traffic (socket_of self.new))
+            (record self.old { last = last_after from result (last_of self.old) }) self.new }
         ensures whole { (result ≡ length datagram.now) ⊎ (result ≡ 0) }
         ensures failures { self.new.failures ≡ self.old.failures }
         ensures fits { result ≤ length datagram.now }
         ensures dropped { Drops (strangers_of self.old) (Some result) (strangers_of self.new) }
     {
         if self.is_heard(from, datagram) {
-            self.last = Some(from);
+            if !datagram.is_empty() {
+                self.last = Some(from);
+            }
             return datagram.len();
         }
         self.strangers = self.strangers.saturating_add(1);
@@ -405,6 +411,7 @@ impl<S: Socket, C: Clock> UdpWire<S, C> {
     fn address(&self, to: u8) -> Option<SocketAddr>
         ensures there { IfSome result (λ there. GoesTo (peers_of self.now) (me_of self.now) to there) }
         ensures none { result ≡ None → HasNoAddress (peers_of self.now) (me_of self.now) to }
+        ensures client { me_of self.now ≢ CLIENT → to ≡ CLIENT → result ≡ last_of self.now }
     {
         if self.me != CLIENT && to == CLIENT {
             return self.last;
@@ -425,6 +432,7 @@ impl<S: Socket, C: Clock> UdpWire<S, C> {
         ensures went { Adds (S.traffic (socket_of self.old)) (S.traffic (socket_of self.new)) (Went to bytes.now ∷ []) }
         ensures rest { (peers_of self.new ≡ peers_of self.old) × (me_of self.new ≡ me_of self.old) ×
             (self.new.failures ≡ self.old.failures) }
+        ensures last { last_of self.new ≡ last_of self.old }
     {
         match self.socket.send(bytes, to) {
             Ok(n) => n == bytes.len(),

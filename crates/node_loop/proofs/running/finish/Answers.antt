@@ -1,8 +1,8 @@
 -- one round more, and a wait
-use Rattle.std.proofs.Common.{◌∙◌, ◌+◌, arith, refl}
+use Rattle.std.proofs.Common.{◌∙◌, [], arith, refl}
 use Rattle.node_loop.specs.Turns.{standing}
 use Rattle.node_loop.proofs.Chains.{served_none, same_all}
-use Rattle.node_loop.proofs.Looking.{looks_not, looks_then}
+use Rattle.node_loop.proofs.Looking.{ends_then}
 use Rattle.node_loop.proofs.Given.{over_then, over_same}
 use Rattle.node_loop.proofs.running.finish.Goals as goal
 
@@ -10,7 +10,8 @@ pub loop-round-init : goal.loop-round-init
 loop-round-init g c = record {
   served = λ es t. (es, t, served_none _ _ (same_all _));
   grows = omega arith;
-  looks = (0, looks_not (g.T.Timer.timer_events c.args.timer.now) (g.T.Timer.timer_events c.end.new.self) _ refl c.end.ensures.timer_events);
+  looks = ([], refl, c.end.ensures.timer_events);
+  left = omega arith;
   same = refl;
 }
 
@@ -32,10 +33,8 @@ loop-round-preserved g c = record {
       (λ es. standing c.round.new.node es c.round.new.room) (λ es. standing c.round.new.node es c.round.new.room)
       c.wait.ensures.quiet (λ es. same_all (standing c.round.new.node es c.round.new.room))));
   grows = omega (arith, c.loop-round.invariant.grows, c.round.ensures.grows);
-  looks = let r = c.loop-round.invariant.looks in (
-    r.0 + 1,
-    looks_then r.0 1 (g.T.Timer.timer_events c.args.timer.now) (g.T.Timer.timer_events c.loop-round.timer) (g.T.Timer.timer_events c.round.new.timer) r.1
-        c.in-Ok.ensures.looks,
-  );
+  looks = ends_then c.loop-round._round (g.T.Timer.timer_events c.args.timer.now) (g.T.Timer.timer_events c.loop-round.timer)
+      (g.T.Timer.timer_events c.round.new.timer) c.loop-round.invariant.looks c.in-Ok.ensures.looks;
+  left = omega (arith, c.loop-round.invariant.left, c.in-Ok.ensures.wait, c.max.ensures, c.saturating_sub-left.ensures);
   same = c.wait.ensures.same ∙ (c.round.ensures.same ∙ c.loop-round.invariant.same);
 }

@@ -1,8 +1,8 @@
 -- turns led here from the start
-use Rattle.std.proofs.Common.{◌≡◌, ◌≤◌, ℕ, None}
-use Rattle.px_transport.specs.Wires.{Moves}
+use Rattle.std.proofs.Common.{◌≡◌, ◌≤◌, ◌+◌, ◌*◌, List, ◌∷◌, None}
+use Rattle.px_transport.specs.Wires.{Adds, Moves}
 use Rattle.pf_node.specs.Nodes.{applied_of}
-use Rattle.node_loop.specs.Timing.{LooksTimes}
+use Rattle.node_loop.specs.Timing.{TimerEvent, looks_in}
 use Rattle.node_loop.specs.Turns.{Served, standing}
 use Rattle.node_loop.proofs.running.finish.Given as goal
 
@@ -11,6 +11,8 @@ invariant-loop-round g l = record {
   served : Moves (g.W.Wire.traffic l.fn.wire) (g.W.Wire.traffic l.wire)
       (λ es es'. Served (standing l.fn.node es l.fn.room) (standing l.node es' l.room) None);
   grows : applied_of l.fn.node ≤ applied_of l.node;
-  looks : (n : ℕ) × LooksTimes n (g.T.Timer.timer_events l.fn.timer) (g.T.Timer.timer_events l.timer);
+  looks : (more : List TimerEvent) × (looks_in more ≡ l._round) ×
+      Adds (g.T.Timer.timer_events l.fn.timer) (g.T.Timer.timer_events l.timer) (TimerEvent.Ends ∷ more);
+  left : 3000 ≤ l.left + 100 * l._round;
   same : g.W.Wire.identity l.wire ≡ g.W.Wire.identity l.fn.wire;
 }

@@ -1,7 +1,7 @@
 -- what came is given, or an empty datagram, or nothing came
-use Rattle.std.proofs.Common.{refl, take}
+use Rattle.std.proofs.Common.{refl}
 use Rattle.px_transport.proofs.Traffic.{quiet_by}
-use Rattle.node_udp.proofs.Passing.{still_then, over_none, over_hears, whole_or_none}
+use Rattle.node_udp.proofs.Passing.{still_then, over_none, over_hears}
 use Rattle.node_udp.proofs.udp.UdpWireWire.poll.Goals as goal
 
 pub returns-then-not-set_blocking-clause-gave : goal.returns-then-not-set_blocking-clause-gave
@@ -11,12 +11,12 @@ returns-then-not-set_blocking-clause-gave g c =
 
 pub returns-in-Ok-clause-gave : goal.returns-in-Ok-clause-gave
 returns-in-Ok-clause-gave g c =
-    let bytes = c.receive.new.into in
+    let heard = record c.set_blocking.new.self { socket = c.receive.new.self } in
     over_hears (g.S.Socket.traffic c.args.self.now.socket) (g.S.Socket.traffic c.set_blocking.new.self.socket) (g.S.Socket.traffic c.receive.new.self)
-    (g.S.Socket.traffic c.admit.new.self.socket) c.args.self.now c.set_blocking.new.self
-    (record c.set_blocking.new.self { socket = c.receive.new.self }) c.admit.new.self c.in-Ok.from
-    (take c.in-Ok.n bytes) (take c.admit.result bytes) c.set_blocking.ensures.still c.in-Ok.ensures.came refl refl c.admit.ensures.still
-    (whole_or_none c.admit.result c.in-Ok.n bytes (take c.in-Ok.n bytes) refl c.admit.ensures.whole c.in-Ok.ensures.fits)
+    (g.S.Socket.traffic c.receive.new.self) (g.S.Socket.traffic c.admit.new.self.socket) c.args.self.now c.set_blocking.new.self heard heard
+    c.admit.new.self c.in-Ok.from c.in-Ok.n c.admit.result c.receive.new.into c.set_blocking.ensures.still c.in-Ok.ensures.came
+    (record { quiet = λ es h. h; peers_is = refl; me_is = refl; last_is = refl })
+    (record { quiet = λ es h. h; peers_is = refl; me_is = refl; last_is = refl }) c.admit.ensures.heard c.admit.ensures.whole c.in-Ok.ensures.fits
 
 pub returns-in-Err-clause-gave : goal.returns-in-Err-clause-gave
 returns-in-Err-clause-gave g c =
@@ -30,4 +30,5 @@ returns-in-Err-clause-gave g c =
       quiet = quiet_by (g.S.Socket.traffic c.set_blocking.new.self.socket) (g.S.Socket.traffic c.receive.new.self) c.in-Err.ensures.came;
       peers_is = refl;
       me_is = refl;
+      last_is = refl;
     }) c.met.ensures.still))
