@@ -1,12 +1,12 @@
 -- Requests one after the other.
 use Rattle.std.proofs.Common.{◌≡◌, ◌∙◌, ℕ, Bool, true, false, List, [], ◌∷◌, ◌++◌, map, Option, Some, None, Result, Ok, Err, refl, sym, ap, subst, append_assoc, append-nil, inl, inr}
-use Rattle.std.specs.Prelude.{◌&&◌, ◌⊎◌, is_ok}
+use Rattle.std.specs.Prelude.{◌⊎◌, is_ok}
 use Rattle.std.specs.List.{list_all}
 use Rattle.std.proofs.lemmas.Bool.{and_from, and_parts}
 use Rattle.cli_ask.specs.Calls.{Request}
 use Rattle.cli_ask.specs.Replies.{Answer}
-use Rattle.cli_ask.specs.Asking.{Answered, Exchange, Adds, asked, answer_value, is_open, ends_answered, in_time, OrMemory, IsSeries, IsAsked, Follows, IsFollowedBy}
-use Rattle.cli_ask.specs.Asking.{AreParts, IsAskedAt, AskedOn, FollowedUp, AskedParts, AskedAt, number_after, outcome_call, outcome_of}
+use Rattle.cli_ask.specs.Asking.{Answered, Exchange, Adds, asked, answer_value, is_open, ends_answered, in_time, OrMemory, IsSeries, IsAsked, IsFollowedBy}
+use Rattle.cli_ask.specs.Asking.{AreParts, IsAskedAt, AskedOn, FollowedUp, AskedParts, AskedAt, outcome_call, outcome_of}
 use Rattle.cli_ask.specs.declared.call.Kind.{Kind}
 use Rattle.cli_ask.specs.declared.call.Kind.TheVariants as kind
 use Rattle.cli_ask.specs.declared.exchange.AskFault.{AskFault}

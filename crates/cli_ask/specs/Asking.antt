@@ -1,7 +1,7 @@
 -- What is asked at a control socket, and how often.
-use Rattle.std.specs.Prelude.{◌≡◌, ◌⊎◌, ◌+◌, ℕ, Bool, true, false, ◌&&◌, List, [], ◌∷◌, ◌++◌, length, map, take, drop}
+use Rattle.std.specs.Prelude.{◌≡◌, ◌⊎◌, ◌+◌, ℕ, Bool, true, false, ◌&&◌, List, [], ◌∷◌, ◌++◌, map, take, drop}
 use Rattle.std.specs.Prelude.{min, not, Option, Some, None}
-use Rattle.std.specs.Prelude.{Result, Ok, Err, bytes_eq, codes, decimal, option_and_then, if◌then◌else◌}
+use Rattle.std.specs.Prelude.{Result, Ok, Err, bytes_eq, codes, decimal, if◌then◌else◌}
 use Rattle.std.specs.List.{list_all}
 use Rattle.cli_ask.specs.Answers.{begins, behind_first, line_len}
 use Rattle.cli_ask.specs.Calls.{Request, get}

@@ -4,7 +4,6 @@ use Rattle.std.specs.Prelude.{if◌then◌else◌}
 use Rattle.cli_ask.specs.Answers.{begins, outcome_behind}
 use Rattle.cli_ask.specs.Asking.{Answered, Exchange, Adds, AskedAt}
 use Rattle.cli_ask.specs.Calls.{Request, change_call}
-use Rattle.cli_ask.specs.Replies.{Answer}
 use Rattle.cli_ask.specs.declared.exchange.AskFault.{AskFault}
 use Rattle.cli_ask.specs.declared.exchange.AskFault.TheVariants as fault
 use Rattle.cli_ask.specs.declared.scripting.Went.{Went}

@@ -41,8 +41,8 @@ fn is_given(matches: &ArgMatches<'_>, id: &str) -> bool
 }
 
 /// The text of a file of interfaces; none where it lists none.
-fn interfaces_in<F: Files>(
-    rt: &F,
+fn interfaces_in<RT: Files>(
+    rt: &RT,
     alloc: Global,
     file: &str,
 ) -> Result<Option<Vec<u8>>, AllocError> {
@@ -57,7 +57,7 @@ fn interfaces_in<F: Files>(
 
 /// Why a file can't be opened, as the system says it; none where it can. What isn't a regular file isn't opened, since
 /// a pipe would be waited for.
-fn why_unread<F: Files>(rt: &F, file: &str) -> io::Result<()> {
+fn why_unread<RT: Files>(rt: &RT, file: &str) -> io::Result<()> {
     if fs::metadata(rt, file)?.is_file() {
         let _opened = fs::open(rt, file)?;
     }
@@ -65,7 +65,7 @@ fn why_unread<F: Files>(rt: &F, file: &str) -> io::Result<()> {
 }
 
 /// Says why a file lists no interfaces.
-fn say_interfaces<F: Files, E: Write>(rt: &F, file: &str, errors: &mut E) {
+fn say_interfaces<RT: Files, E: Write>(rt: &RT, file: &str, errors: &mut E) {
     let shown = Shown(file);
     match why_unread(rt, file) {
         Ok(()) => {
@@ -92,8 +92,8 @@ fn files_in(alloc: Global, folder: Option<&str>) -> Result<Option<TextFiles>, Al
 
 /// Where the arguments want it written. 40 where they want it nowhere, `--nft` and `--interfaces` aren't both there, or
 /// `--no-member-guard` is without them; 89 where the file lists no interfaces, which is said on standard error.
-pub(crate) fn places_for<F: Files, E: Write>(
-    rt: &F,
+pub(crate) fn places_for<RT: Files, E: Write>(
+    rt: &RT,
     alloc: Global,
     matches: &ArgMatches<'_>,
     errors: &mut E,

@@ -307,7 +307,7 @@ fn turns_in(matches: &ArgMatches<'_>) -> u64
 }
 
 /// Follows the log at a control socket as the matches ask for.
-fn followed<RT: Files + Net + Clock, C: Control, W: Write, E: Write>(
+fn followed<RT: Files + Net, C: Control, W: Write, E: Write>(
     rt: &RT,
     alloc: Global,
     matches: &ArgMatches<'_>,
