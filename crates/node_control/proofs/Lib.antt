@@ -1,5 +1,7 @@
 pub mod Asking
 mod Asked
 mod AtSockets
+mod Fields
 mod Rounds
 mod Routing
+mod Rows

@@ -1,22 +1,27 @@
 -- A run that is made of rounds.
-use Rattle.std.proofs.Common.{◌≡◌, ℕ, Bool, true, false, List, [], Option, None, Result, Ok, Err, refl, sym, subst, ap, inl, inr}
+use Rattle.std.proofs.Common.{◌≡◌, ◌≤◌, ◌*◌, ℕ, Bool, true, false, List, [], ◌∷◌, Option, Some, None, Result, Ok, Err, refl, sym, subst, ap, inl, inr, arith}
 use Rattle.std.specs.Prelude.{IfOk}
 use Rattle.px_model.specs.Step.{front}
 use Rattle.px_records.specs.declared.records.Records.{Ghosts}
 use Rattle.px_replica.specs.Faults.{fault_of}
 use Rattle.px_replica.specs.declared.fault.NodeFault.{NodeFault}
 use Rattle.px_transport.specs.Wires.{WireEvent, Moves}
+use Rattle.px_transport.proofs.Traffic.{adds_then}
 use Rattle.pf_node.specs.Nodes.{replica_of, learned_by, applied_of}
 use Rattle.pf_node.specs.declared.state.Node.{Node}
 use Rattle.node_loop.specs.Hosting.{Hosted}
 use Rattle.node_loop.specs.Resends.{kept_of, requests_of}
+use Rattle.node_loop.specs.Timing.{TimerEvent, MakesTurns, WorksOff, looks_in}
 use Rattle.node_loop.specs.Turns.{Stand, Served, standing}
 use Rattle.node_loop.specs.declared.room.Room.{Room}
 use Rattle.node_loop.proofs.Chains.{same_is, served_none, served_then}
 use Rattle.node_loop.proofs.Hosting.{hosted_then, hosted_served}
+use Rattle.node_loop.proofs.Looking.{makes_then}
 use Rattle.node_loop.specs.Lives.{Buffers, new_buffers, stands, Tells, HostTells, Serves, Hosts, OnFront}
 use Rattle.node_loop.specs.declared.ended.Ended.{Ended}
-use Rattle.node_control.specs.inner.Runs.{IsSocketless, ended_as}
+use Rattle.node_control.specs.declared.control.ControlSocket.{ControlSocket}
+use Rattle.node_control.specs.inner.Ending.{is_ending}
+use Rattle.node_control.specs.inner.Runs.{Finishes, IsSocketless, MakesRounds, ended_as}
 use Rattle.node_requests.specs.declared.handler.RequestHandler.{RequestHandler}
 
 -- nothing was asked, and nothing went over the wire
@@ -114,6 +119,28 @@ some_control (Ok d) e is none = cc
 some_control (Err f) e is none = cc
 
 -- ---- how it ends
+
+-- whoever ends a run asked for that
+pub ending_stops : (b : Bool) (control : Option ControlSocket) → is_ending b control ≡ true → b ≡ true
+ending_stops true control e = refl
+ending_stops false None e = e
+ending_stops false (Some control) e = e
+
+-- all rounds, and the last ones
+pub made_all : (b : Bool) (turns waiting : ℕ) (o m n : List TimerEvent → Type 0) → MakesRounds b turns o m →
+    WorksOff waiting m n → b ≡ false → MakesTurns turns o n
+made_all b turns waiting o m n (k, few, looks) (more, adds, worked) none =
+    makes_then turns (looks_in more) o m n (k, few none, looks) (TimerEvent.Ends ∷ more, refl, adds)
+
+pub finished : (b : Bool) (turns waiting : ℕ) (o m n : List TimerEvent → Type 0) → MakesRounds b turns o m →
+    WorksOff waiting m n → Finishes b turns waiting o n
+finished b turns waiting o m n (k, few, (ts, is, first)) (more, adds, worked) = (
+  ts,
+  more,
+  adds_then o m n ts (TimerEvent.Ends ∷ more) first adds,
+  λ none. let f : turns ≤ 65 * k = few none in omega (arith, f, is),
+  worked,
+)
 
 pub host_tells : (n k : ℕ) (r : Result Bool NodeFault) (ended : Ended) → ended ≡ ended_as n k r → HostTells n k (fault_of r) ended
 host_tells n k (Ok false) ended is = inl (inl is)

@@ -4,3 +4,7 @@ pub mod Handling
 pub mod Looping
 pub mod Runs
 pub mod Watching
+pub mod Rows
+pub mod Answering
+pub mod Ending
+pub mod Serving

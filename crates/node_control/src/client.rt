@@ -1,6 +1,9 @@
 //! A client: a connection over which requests come.
 
-ghost use Rattle.node_control.specs.inner.Handling.{Handles};
+ghost use Rattle.std.specs.Prelude.{◌≡◌, IfSome};
+ghost use Rattle.http_server.specs.Exchange.{Calls};
+ghost use Rattle.node_control.specs.inner.Ending.{has_more};
+ghost use Rattle.node_control.specs.inner.Serving.{calls_of, HasServed};
 
 use crate::stream::Stream;
 use http_server::{Config, Connection, Reason, Refusal, Service, State};
@@ -84,7 +87,9 @@ impl Client {
     }
 
     /// Whether anything is to be sent.
-    pub(crate) fn has_more(&self) -> bool {
+    pub(crate) fn has_more(&self) -> bool
+        ensures { result ≡ has_more self.now }
+    {
         self.connection.wants_write()
     }
 
@@ -101,7 +106,9 @@ impl Client {
     }
 
     /// Reads once, if anything has come: whether bytes were moved, and none where the client is let go.
-    fn read(&mut self) -> Option<bool> {
+    fn read(&mut self) -> Option<bool>
+        ensures { calls_of self.new ≡ calls_of self.old }
+    {
         if !self.connection.wants_read() {
             return Some(false);
         }
@@ -118,7 +125,10 @@ impl Client {
     }
 
     /// Writes once, if anything is to be sent, as `read`.
-    fn write(&mut self) -> Option<bool> {
+    fn write(&mut self) -> Option<bool>
+        ensures calls { calls_of self.new ≡ calls_of self.old }
+        ensures served { HasServed self.old → HasServed self.new }
+    {
         if !self.connection.wants_write() {
             return Some(false);
         }
@@ -164,7 +174,8 @@ impl Client {
     /// Has the service answer what came, one request at most, and writes once: whether bytes were moved, and none where
     /// the client is let go.
     pub(crate) fn answer<S: Service>(&mut self, service: &mut S, now: u64) -> Option<bool>
-        ensures { Handles S.answers service.old service.new }
+        ensures calls { Calls S.answers service.old service.new (calls_of self.old) (calls_of self.new) }
+        ensures served { IfSome result (λ _. HasServed self.new) }
     {
         let has_read = self.read()?;
         if has_read && self.began.is_none() {

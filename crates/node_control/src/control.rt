@@ -1,8 +1,10 @@
 //! The control socket: a Unix socket, for figures alone a TCP port too, and the clients of both.
 
 ghost use Rattle.std.specs.Prelude.{◌≡◌, true};
+ghost use Rattle.std.specs.List.{list_any};
 ghost use Rattle.node_loop.specs.Hosting.{AsksUpTo};
 ghost use Rattle.node_control.specs.declared.control.TheConstants.{CHANGES};
+ghost use Rattle.node_control.specs.inner.Ending.{has_more, has_more_to_send};
 ghost use Rattle.node_control.specs.inner.Runs.{AsksWithin, ServesFigures};
 
 use crate::client::{Client, Look};
@@ -196,7 +198,9 @@ impl Entrance {
     }
 
     /// Whether anything is to be sent to a client.
-    fn has_more(&self) -> bool {
+    fn has_more(&self) -> bool
+        ensures { result ≡ list_any has_more self.now.clients.items }
+    {
         self.clients.iter().any(|client| client.has_more())
     }
 
@@ -401,7 +405,9 @@ impl ControlSocket {
     }
 
     /// Whether anything is to be sent to an operator.
-    pub fn has_more(&self) -> bool {
+    pub fn has_more(&self) -> bool
+        ensures { result ≡ has_more_to_send self.now }
+    {
         self.operators.has_more()
     }
 

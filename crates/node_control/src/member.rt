@@ -1,6 +1,6 @@
 //! A member's run, with a control socket or without one.
 
-ghost use Rattle.std.specs.Prelude.{◌≡◌, ◌<◌, None, Ok, IfErr};
+ghost use Rattle.std.specs.Prelude.{◌≡◌, ◌<◌, [], None, Ok, IfErr, option_map, unwrap_or};
 ghost use Rattle.px_model.specs.Step.{front};
 ghost use Rattle.pf_node.specs.Nodes.{learned_by, applied_of};
 ghost use Rattle.px_transport.specs.Wires.{Moves};
@@ -79,7 +79,9 @@ fn close_at<RT: Files>(rt: &RT, control: Option<ControlSocket>, place: Option<Co
 }
 
 /// Where the members listen, as clients are answered.
-fn members_at<'a>(place: Option<ControlPlace<'a>>) -> &'a str {
+fn members_at<'a>(place: Option<ControlPlace<'a>>) -> &'a str
+    ensures { result.now ≡ unwrap_or (option_map (λ p. p.members.now) place.entry) [] }
+{
     match place {
         Some(place) => place.members,
         None => "",

@@ -1,8 +1,9 @@
 //! What is seen of a node as it runs.
 
-ghost use Rattle.std.specs.Prelude.{◌≡◌, ◌==◌, ◌||◌, not, IfOk, string_bytes};
+ghost use Rattle.std.specs.Prelude.{◌≡◌, ◌==◌, ◌||◌, not, if◌then◌else◌, map, length, IfOk, string_bytes};
 ghost use Rattle.node_control.specs.inner.Watching.{proposed_by, proposed_after, proposed_then};
 ghost use Rattle.node_control.specs.inner.Watching.{is_proposed, stood_since, seconds_since};
+ghost use Rattle.node_control.specs.inner.Rows.{is_due, sampled, reported, sent_more, heard_from, rows_after, first_rows};
 
 use crate::hearing::Hearing;
 use node_loop::{Progress, RoundCounts};
@@ -138,25 +139,27 @@ fn seconds_since(since: Option<u64>, now: u64) -> u64
 }
 
 /// Keeps what members have shown by now.
-fn sample(rows: &mut Vec<Row>) {
-    for i in 0..rows.len() {
-        if let Some(row) = rows.get_mut(i) {
-            row.sample();
-        }
+fn sample(rows: &mut Vec<Row>)
+    ensures { rows.new.items ≡ map sampled rows.old.items }
+{
+    for row in rows.iter_mut() {
+        row.sample();
     }
 }
 
 /// Counts what was handed over for each other member.
-fn count_sent(rows: &mut Vec<Row>, counts: &RoundCounts) {
-    for i in 0..rows.len() {
-        if let Some(row) = rows.get_mut(i) {
-            row.count_sent(counts);
-        }
+fn count_sent(rows: &mut Vec<Row>, counts: &RoundCounts)
+    ensures { rows.new.items ≡ map (sent_more counts.now.sent) rows.old.items }
+{
+    for row in rows.iter_mut() {
+        row.count_sent(counts);
     }
 }
 
 /// A row for each member but this one.
-fn first_rows(alloc: Global, m: Membership) -> Result<Vec<Row>, AllocError> {
+fn first_rows(alloc: Global, m: Membership) -> Result<Vec<Row>, AllocError>
+    ensures { IfOk result (λ rows. rows.items ≡ first_rows m.me m.members) }
+{
     let mut rows = Vec::new(alloc);
     for node in 0..m.members() {
         if node != m.me() {
@@ -175,7 +178,9 @@ fn first_rows(alloc: Global, m: Membership) -> Result<Vec<Row>, AllocError> {
 
 impl Row {
     /// What is reported of the member, at this time.
-    fn peer_counters(&self, now: u64) -> PeerCounters {
+    fn peer_counters(&self, now: u64) -> PeerCounters
+        ensures { result ≡ reported now self.now }
+    {
         let [_, _, shown] = self.earlier;
         PeerCounters {
             node: self.node,
@@ -190,16 +195,32 @@ impl Row {
     }
 
     /// Counts what was handed over for it.
-    fn count_sent(&mut self, counts: &RoundCounts) {
+    fn count_sent(&mut self, counts: &RoundCounts)
+        ensures { self.new ≡ sent_more counts.now.sent self.old }
+    {
         if let Some(sent) = counts.sent.get(usize::from(self.node)) {
             self.datagrams_out = self.datagrams_out.saturating_add(u64::from(*sent));
         }
     }
 
     /// Keeps what the member has shown by now.
-    fn sample(&mut self) {
+    #[tactic(auto, unfolding(crate::specs::inner::Rows::sampled))]
+    fn sample(&mut self)
+        ensures { self.new ≡ sampled self.old }
+    {
         let [last, before, _] = self.earlier;
         self.earlier = [self.shown, last, before];
+    }
+
+    /// Counts a datagram of a member, with the position that it shows, if it is this one's.
+    fn count_from(&mut self, from: u8, shown: u32, now: u64)
+        ensures { self.new ≡ heard_from from shown now self.old }
+    {
+        if self.node == from {
+            self.heard = Some(now);
+            self.datagrams_in = self.datagrams_in.saturating_add(1);
+            self.shown = self.shown.max(shown);
+        }
     }
 }
 
@@ -233,7 +254,9 @@ impl Observer {
 
     /// What is counted as a node starts: a row for each other member, and nothing that came. The members listen there.
     pub fn first_counters(&self, alloc: Global, members: &str) -> Result<Counters, AllocError>
-        ensures { IfOk result (λ t. (t.stood ≡ 0) × (string_bytes t.members ≡ members.now)) }
+        ensures stood { IfOk result (λ t. t.stood ≡ 0) }
+        ensures members { IfOk result (λ t. string_bytes t.members ≡ members.now) }
+        ensures peers { IfOk result (λ t. t.peers.items ≡ map (reported 0) self.entry.now.rows.items) }
     {
         let mut peers = Vec::new(alloc);
         for row in &self.rows {
@@ -260,7 +283,16 @@ impl Observer {
 
     /// A round begins, at this time in microseconds since the start, of a node with this front, at which commands wait
     /// or don't.
-    pub(crate) fn begin(&mut self, now: u64, front: u32, is_waiting: bool) {
+    pub(crate) fn begin(&mut self, now: u64, front: u32, is_waiting: bool)
+        ensures now { self.new.now ≡ now }
+        ensures front { self.new.front ≡ front }
+        ensures since { self.new.since ≡ stood_since (not (front == self.old.front))
+            (is_waiting || is_proposed front now self.old.proposed) self.old.since now }
+        ensures proposed { self.new.proposed ≡ self.old.proposed }
+        ensures sampled { self.new.sampled ≡ (if is_due self.old.sampled now then now else self.old.sampled) }
+        ensures rows { self.new.rows.items ≡
+            (if is_due self.old.sampled now then map sampled self.old.rows.items else self.old.rows.items) }
+    {
         self.now = now;
         if now >= self.sampled.saturating_add(SAMPLED) {
             self.sampled = now;
@@ -274,6 +306,8 @@ impl Observer {
         ensures front { self.new.front ≡ front }
         ensures since { self.new.since ≡ stood_since (not (front == self.old.front))
             (is_waiting || is_proposed front self.old.now self.old.proposed) self.old.since self.old.now }
+        ensures rest { (self.new.now ≡ self.old.now) × (self.new.proposed ≡ self.old.proposed) ×
+            (self.new.sampled ≡ self.old.sampled) × (self.new.rows ≡ self.old.rows) }
     {
         let has_moved = front != self.front;
         if has_moved {
@@ -286,9 +320,12 @@ impl Observer {
     }
 
     /// Tells what was counted of the other members.
-    fn tell_peers(&self, peers: &mut Vec<PeerCounters>) {
-        for i in 0..self.rows.len() {
-            if let (Some(peer), Some(row)) = (peers.get_mut(i), self.rows.get(i)) {
+    fn tell_peers(&self, peers: &mut Vec<PeerCounters>)
+        ensures { length peers.old.items ≡ length self.entry.now.rows.items →
+            peers.new.items ≡ map (reported self.entry.now.now) self.entry.now.rows.items }
+    {
+        for (i, peer) in peers.iter_mut().enumerate() {
+            if let Some(row) = self.rows.get(i) {
                 *peer = row.peer_counters(self.now);
             }
         }
@@ -300,6 +337,8 @@ impl Observer {
         ensures stood { counters.new.stood ≡ seconds_since self.entry.now.since self.entry.now.now }
         ensures outrun { counters.new.outrun ≡ self.entry.now.outrun }
         ensures large { counters.new.large ≡ self.entry.now.large }
+        ensures peers { length counters.old.peers.items ≡ length self.entry.now.rows.items →
+            counters.new.peers.items ≡ map (reported self.entry.now.now) self.entry.now.rows.items }
     {
         counters.up = self.now / 1_000_000;
         counters.stood = seconds_since(self.since, self.now);
@@ -315,32 +354,22 @@ impl Observer {
         self.tell_peers(&mut counters.peers);
     }
 
-    /// The place of a member's row.
-    fn row_of(&self, node: u8) -> Option<usize> {
-        self.rows.iter().position(|row| row.node == node)
-    }
-
     /// Counts a datagram of a member, with the position that it shows.
     fn count_from(&mut self, from: u8, shown: u32)
         ensures round { (self.new.front ≡ self.old.front) × (self.new.now ≡ self.old.now) }
         ensures proposed { self.new.proposed ≡ self.old.proposed }
+        ensures rows { self.new.rows.items ≡ map (heard_from from shown self.old.now) self.old.rows.items }
     {
-        let Some(place) = self.row_of(from) else {
-            return;
-        };
-        let now = self.now;
-        let Some(row) = self.rows.get_mut(place) else {
-            return;
-        };
-        row.heard = Some(now);
-        row.datagrams_in = row.datagrams_in.saturating_add(1);
-        row.shown = row.shown.max(shown);
+        for row in self.rows.iter_mut() {
+            row.count_from(from, shown, self.now);
+        }
     }
 
     /// Notes what a member's message says of proposals: another's, or that this one's was refused by a higher round.
     fn note(&mut self, head: &Head)
         ensures round { (self.new.front ≡ self.old.front) × (self.new.now ≡ self.old.now) }
         ensures proposed { self.new.proposed ≡ proposed_by self.old.front self.old.now head.now self.old.proposed }
+        ensures rows { self.new.rows ≡ self.old.rows }
     {
         if head.from == head.to {
             return;
@@ -355,6 +384,7 @@ impl Observer {
     fn count_round(&mut self, datagrams: usize, counts: &RoundCounts)
         ensures round { (self.new.front ≡ self.old.front) × (self.new.now ≡ self.old.now) }
         ensures proposed { self.new.proposed ≡ self.old.proposed }
+        ensures rows { self.new.rows ≡ self.old.rows }
     {
         self.came = counts.came;
         self.unsent = self.unsent.saturating_add(u64::from(counts.unsent));
@@ -372,6 +402,8 @@ impl Observer {
     /// Counts what went over the wire in a round, in which the node took the messages with these heads.
     pub(crate) fn count(&mut self, heads: &[Head], counts: &RoundCounts)
         ensures proposed { self.new.proposed ≡ proposed_after self.old.front self.old.now heads.now self.old.proposed }
+        ensures rows { self.new.rows.items ≡
+            rows_after self.old.now heads.now (map (sent_more counts.now.sent) self.old.rows.items) }
     {
         self.count_round(heads.len(), counts);
         count_sent(&mut self.rows, counts);

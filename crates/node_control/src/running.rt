@@ -1,12 +1,14 @@
 //! The loop of a node, with a control socket or without one.
 
-ghost use Rattle.std.specs.Prelude.{◌≡◌, ◌≤◌, None, true, false, IfOk, OnOk};
+ghost use Rattle.std.specs.Prelude.{◌≡◌, ◌≤◌, None, true, false, length, IfOk, OnOk};
+ghost use Rattle.pf_node.specs.Nodes.{state_in};
 ghost use Rattle.px_replica.specs.Faults.{fault_of};
 ghost use Rattle.px_transport.specs.Wires.{IsQuiet, Moves};
 ghost use Rattle.node_loop.specs.Hosting.{AsksUpTo, Hosted};
 ghost use Rattle.node_loop.specs.Timing.{LooksTimes, MakesTurns};
 ghost use Rattle.node_loop.specs.Turns.{Served, standing};
-ghost use Rattle.node_control.specs.inner.Runs.{AsksAfterTurns};
+ghost use Rattle.node_control.specs.inner.Ending.{is_ending};
+ghost use Rattle.node_control.specs.inner.Runs.{AsksAfterTurns, Finishes, MakesRounds};
 
 use crate::control::ControlSocket;
 use crate::observer::Observer;
@@ -93,8 +95,7 @@ fn pass<R: Records, W: Wire, T: Timer, RT: Clock + Eprint>(
 
 /// Whether an operator asked for the end and has the answer.
 fn is_ending<R: Records>(service: &HttpService<R>, control: &Option<ControlSocket>) -> bool
-    ensures stopping { result ≡ true → service.now.handler.is_stopping ≡ true }
-    ensures none { control.now ≡ None → result ≡ false }
+    ensures { result ≡ is_ending service.now.handler.is_stopping control.now }
 {
     match control {
         Some(control) => service.handler.is_stopping && !control.has_more(),
@@ -121,9 +122,10 @@ fn passes<R: Records, W: Wire, T: Timer, RT: Clock + Eprint>(
     ensures turns { control.old ≡ None → Moves (W.traffic wire.old) (W.traffic wire.new)
         (λ es es'. Served (standing service.old.handler.node es room.old)
         (standing service.new.handler.node es' room.new) (fault_of result)) × (control.new ≡ None) }
-    ensures made { IfOk result (λ is_stopped. is_stopped ≡ false →
-        MakesTurns turns (T.timer_events timer.old) (T.timer_events timer.new)) }
-    ensures stopped { IfOk result (λ is_stopped. is_stopped ≡ true → service.new.handler.is_stopping ≡ true) }
+    ensures made { IfOk result (λ is_stopped.
+        MakesRounds is_stopped turns (T.timer_events timer.old) (T.timer_events timer.new)) }
+    ensures stopped { IfOk result (λ is_stopped. is_stopped ≡ true →
+        is_ending service.new.handler.is_stopping control.new ≡ true) }
     ensures none { control.old ≡ None → IfOk result (λ is_stopped. is_stopped ≡ false) }
     ensures same { W.identity wire.new ≡ W.identity wire.old }
 {
@@ -171,6 +173,9 @@ pub(crate) fn pass_on<R: Records, W: Wire, T: Timer, RT: Clock + Eprint>(
         (standing service.new.handler.node es' room.new) (fault_of result)) }
     ensures made { IfOk result (λ is_stopped. is_stopped ≡ false →
         MakesTurns turns (T.timer_events timer.old) (T.timer_events timer.new)) }
+    ensures finished { IfOk result (λ is_stopped.
+        Finishes is_stopped turns (length (state_in service.new.handler.node).volatile.waiting)
+        (T.timer_events timer.old) (T.timer_events timer.new)) }
     ensures stopped { IfOk result (λ is_stopped. is_stopped ≡ true → service.new.handler.is_stopping ≡ true) }
     ensures none { control.old ≡ None → IfOk result (λ is_stopped. is_stopped ≡ false) }
     ensures same { W.identity wire.new ≡ W.identity wire.old }

@@ -1,10 +1,13 @@
 //! Requests as the request handler has them, and its answers as HTTP has them.
 
-ghost use Rattle.std.specs.Prelude.{◌≡◌, ◌==◌, ◌||◌, [], suc, true, false, IfOk, OnErr, OnOk, string_bytes, unwrap_or};
+ghost use Rattle.std.specs.Prelude.{◌≡◌, ◌⊎◌, ◌==◌, ◌||◌, [], ◌∷◌, ◌++◌, suc, true, false, decimal};
+ghost use Rattle.std.specs.Prelude.{IfOk, OnErr, OnOk, string_bytes, unwrap_or};
+ghost use Rattle.http.specs.Token.{lowercase};
 ghost use Rattle.http.specs.Uri.{uri_query};
-ghost use Rattle.http_server.specs.Response.{IsBlank};
+ghost use Rattle.http_server.specs.Response.{IsBlank, fields_of};
 ghost use Rattle.node_requests.specs.Answers.{answer_value};
 ghost use Rattle.node_requests.specs.Routing.{routed_value};
+ghost use Rattle.node_control.specs.inner.Answering.{standing_fields, answer_fields, content_type};
 ghost use Rattle.node_control.specs.inner.Asking.{accepts_json, asked_for, is_of_figures};
 ghost use Rattle.node_control.specs.inner.Handling.{Says, IsAnswered, IsTurnedAway, IsPassedOn, HandledAs, IsHandled};
 ghost use Rattle.node_control.specs.inner.Handling.{is_served, is_urgent, is_change, is_read};
@@ -41,7 +44,9 @@ pub(crate) struct HttpService<R: Records> {
 const TEXT: &str = "text/plain; charset=utf-8";
 
 /// The kind of text that a request is answered with.
-fn content_type(request: &Request) -> &'static str {
+fn content_type(request: &Request) -> &'static str
+    ensures { result.now ≡ content_type request.now }
+{
     match request {
         Request::Read { at: _, read } => match read {
             Read::Metrics => "text/plain; version=0.0.4",
@@ -97,6 +102,8 @@ fn add_text(
     name: &[u8],
     text: &str,
 ) -> Result<(), AllocError>
+    ensures fields { OnOk result
+        (fields_of response.new ≡ fields_of response.old ++ (lowercase name.now, text.now) ∷ []) }
     ensures status { OnOk result (response.new.status ≡ response.old.status) }
     ensures body { OnOk result (response.new.body.items ≡ response.old.body.items) }
 {
@@ -116,6 +123,8 @@ fn add_number(
     name: &[u8],
     number: u64,
 ) -> Result<(), AllocError>
+    ensures fields { OnOk result
+        (fields_of response.new ≡ fields_of response.old ++ (lowercase name.now, decimal number) ∷ []) }
     ensures status { OnOk result (response.new.status ≡ response.old.status) }
     ensures body { OnOk result (response.new.body.items ≡ response.old.body.items) }
 {
@@ -180,6 +189,8 @@ impl<R: Records> HttpService<R> {
 
     /// Says which node answers, and after how many positions.
     fn add_standing(&self, response: &mut Response) -> Result<(), AllocError>
+        ensures fields { OnOk result
+            (fields_of response.new ≡ fields_of response.old ++ standing_fields self.now.handler.node) }
         ensures status { OnOk result (response.new.status ≡ response.old.status) }
         ensures body { OnOk result (response.new.body.items ≡ response.old.body.items) }
     {
@@ -188,11 +199,14 @@ impl<R: Records> HttpService<R> {
         let applied = u64::from(node.applied());
         add_number(self.alloc, response, b"pfx-node", u64::from(me))?;
         add_number(self.alloc, response, b"pfx-applied", applied)?;
-        add_number(self.alloc, response, b"pfx-front", u64::from(node.front()))
+        add_number(self.alloc, response, b"pfx-front", u64::from(node.front()))?;
+        Ok(())
     }
 
     /// Adds the fields of an answer.
     fn add_fields(&self, code: u16, kind: &str, response: &mut Response) -> Result<(), AllocError>
+        ensures fields { OnOk result
+            (fields_of response.new ≡ fields_of response.old ++ answer_fields self.now.handler.node code kind.now) }
         ensures status { OnOk result (response.new.status ≡ response.old.status) }
         ensures body { OnOk result (response.new.body.items ≡ response.old.body.items) }
     {
@@ -207,6 +221,8 @@ impl<R: Records> HttpService<R> {
     /// Fills a response with an answer.
     fn fill(&self, answer: &Answer, kind: &str, response: &mut Response) -> Result<(), AllocError>
         requires { IsBlank response.old }
+        ensures fields { OnOk result
+            (fields_of response.new ≡ answer_fields self.now.handler.node answer.now.code kind.now) }
         ensures status { OnOk result (response.new.status ≡ answer.now.code) }
         ensures body { OnOk result (response.new.body.items ≡ string_bytes answer.now.body) }
     {
@@ -221,7 +237,9 @@ impl<R: Records> HttpService<R> {
     /// Writes an answer; if memory runs out it is 503 alone, since what was asked may be done.
     fn write(&self, answer: &Answer, kind: &str, response: &mut Response)
         requires { IsBlank response.old }
-        ensures { Says response.new (answer_value answer.now) }
+        ensures says { Says response.new (answer_value answer.now) }
+        ensures fields { (fields_of response.new ≡ answer_fields self.now.handler.node answer.now.code kind.now)
+            ⊎ (fields_of response.new ≡ []) }
     {
         if self.fill(answer, kind, response).is_err() {
             response.clear();

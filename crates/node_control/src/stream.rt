@@ -1,5 +1,8 @@
 //! Sockets in the file system, and sockets of TCP.
 
+ghost use Rattle.std.specs.Prelude.{◌≡◌};
+ghost use Rattle.http_server.specs.Connection.{config_of, history};
+
 use http_server::Connection;
 use std::io;
 use std::net::{TcpListener, TcpStream};
@@ -42,7 +45,9 @@ impl Stream {
     }
 
     /// Reads once into the connection.
-    pub(crate) fn read_into(&self, connection: &mut Connection) -> io::Result<usize> {
+    pub(crate) fn read_into(&self, connection: &mut Connection) -> io::Result<usize>
+        ensures { (history connection.new).calls ≡ (history connection.old).calls }
+    {
         match self {
             Stream::Local(stream) => {
                 let mut from = stream;
@@ -56,7 +61,11 @@ impl Stream {
     }
 
     /// Writes once out of the connection.
-    pub(crate) fn write_from(&self, connection: &mut Connection) -> io::Result<usize> {
+    pub(crate) fn write_from(&self, connection: &mut Connection) -> io::Result<usize>
+        ensures calls { (history connection.new).calls ≡ (history connection.old).calls }
+        ensures received { (history connection.new).received ≡ (history connection.old).received }
+        ensures config { config_of connection.new ≡ config_of connection.old }
+    {
         match self {
             Stream::Local(stream) => {
                 let mut to = stream;

@@ -2,7 +2,6 @@
 use Rattle.std.specs.Prelude.{◌≡◌, ◌⊎◌, ◌&&◌, ◌||◌, ◌==◌, ℕ, suc, Bool, true, false, not, List, [], ◌∷◌, ◌++◌, codes}
 use Rattle.std.specs.Prelude.{if◌then◌else◌}
 use Rattle.http.specs.declared.request.Request as http
-use Rattle.http_server.specs.Exchange.{Call, Chain}
 use Rattle.http_server.specs.declared.response.Response.{Response}
 use Rattle.px_records.specs.declared.records.Records.{Ghosts}
 use Rattle.node_requests.specs.declared.handler.RequestHandler.{RequestHandler}
@@ -115,7 +114,3 @@ is_served c q = not c.is_scraped || is_of_figures (path_of q)
 -- what a request asks for is handled, and nothing else
 abbrev pub IsHandled : {R : Type 0} {G : Ghosts R} → (c d : HttpService R G) → http.Request (List ℕ) → Response → Type 0
 IsHandled c d q r = HandledIf (is_served c q) c d (asked_for q) r
-
--- a service handled requests, one after another
-abbrev pub Handles : {S : Type 0} → (S → http.Request (List ℕ) → Response → S → Type 0) → (old new : S) → Type 0
-Handles answers old new = (calls : List Call) × Chain answers old calls new

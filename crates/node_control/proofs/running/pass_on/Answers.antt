@@ -1,7 +1,6 @@
 -- all rounds, and the last ones
 use Rattle.node_loop.specs.Turns.{standing}
-use Rattle.node_loop.proofs.Looking.{makes_then}
-use Rattle.node_control.proofs.Rounds.{hosted_over, over_then, served_over}
+use Rattle.node_control.proofs.Rounds.{ending_stops, finished, hosted_over, made_all, over_then, served_over}
 use Rattle.node_control.proofs.running.pass_on.Goals as goal
 
 pub returns-in-Ok-finish-clause-hosted : goal.returns-in-Ok-finish-clause-hosted
@@ -38,5 +37,12 @@ pub returns-in-Err-clause-turns : goal.returns-in-Err-clause-turns
 returns-in-Err-clause-turns g c none = (c.in-Err.ensures.turns none).0
 
 pub returns-in-Ok-finish-clause-made : goal.returns-in-Ok-finish-clause-made
-returns-in-Ok-finish-clause-made g c = λ none. makes_then c.args.turns _ (g.T.Timer.timer_events c.args.timer.now) (g.T.Timer.timer_events c.passes.new.timer)
-    (g.T.Timer.timer_events c.finish.new.timer) (c.in-Ok.ensures.made none) c.in-Ok-finish.ensures.looks.1
+returns-in-Ok-finish-clause-made g c = λ none. made_all c.in-Ok.is_stopped c.args.turns _ (g.T.Timer.timer_events c.args.timer.now)
+    (g.T.Timer.timer_events c.passes.new.timer) (g.T.Timer.timer_events c.finish.new.timer) c.in-Ok.ensures.made c.in-Ok-finish.ensures.worked none
+
+pub returns-in-Ok-finish-clause-finished : goal.returns-in-Ok-finish-clause-finished
+returns-in-Ok-finish-clause-finished g c = finished c.in-Ok.is_stopped c.args.turns _ (g.T.Timer.timer_events c.args.timer.now)
+    (g.T.Timer.timer_events c.passes.new.timer) (g.T.Timer.timer_events c.finish.new.timer) c.in-Ok.ensures.made c.in-Ok-finish.ensures.worked
+
+pub returns-in-Ok-finish-clause-stopped : goal.returns-in-Ok-finish-clause-stopped
+returns-in-Ok-finish-clause-stopped g c = λ stopped. ending_stops _ _ (c.in-Ok.ensures.stopped stopped)
