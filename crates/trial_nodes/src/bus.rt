@@ -1,6 +1,6 @@
 //! Members that hear each other's messages when they are delivered, one by one.
 use crate::member::Member;
-use crate::shown::Shown;
+use crate::shown::push_message;
 use px_core::Sends;
 use px_model::{Entry, Event, Message};
 use std::alloc::Global;
@@ -67,8 +67,8 @@ impl Bus {
 
     /// The message of this place goes to every member. Whether there was memory for it.
     fn send_all(&mut self, sender: u8, place: usize) -> bool {
-        for to in 0..self.members.len() {
-            if self.sent.push((sender, to as u8, place)).is_err() {
+        for to in 0..u8::try_from(self.members.len()).unwrap_or(0) {
+            if self.sent.push((sender, to, place)).is_err() {
                 return false;
             }
         }
@@ -130,10 +130,10 @@ impl Bus {
         let Some(message) = self.messages.get(*place) else {
             return false;
         };
-        match format!(in self.alloc; "{sender}>{to} {}", Shown(message)) {
-            Ok(line) => line.as_str() == wanted,
-            Err(_) => false,
-        }
+        let mut line = String::new(self.alloc);
+        write!(line, "{sender}>{to} ").is_ok()
+            && push_message(&mut line, message).is_ok()
+            && line.as_str() == wanted
     }
 
     /// Who asked the entry that the member has learned at the position, and its number and length. None where there is
