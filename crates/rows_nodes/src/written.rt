@@ -5,7 +5,7 @@ use std::alloc::Global;
 use std::io;
 
 /// How often a call is made again before it is given up.
-const TRIES: u8 = 20;
+const TRIES: u32 = 20;
 
 /// What a datagram's message is written as.
 enum Written {
@@ -55,23 +55,34 @@ fn datagram(alloc: Global, line: &str) -> Option<(Membership, Vec<u8>)> {
     Some((reader, bytes_of(alloc, digits, more)?))
 }
 
-/// Writes what the line's datagram is written as; where memory runs out, it is written again.
+/// The length of what is written for the message of these bytes, and how often memory ran out before: it is written
+/// again then. None where other bytes are written.
+fn length_of(alloc: Global, reader: &Membership, bytes: &[u8]) -> Option<(usize, u32)> {
+    for refused in 0..TRIES {
+        match write_once(alloc, reader, bytes) {
+            Written::Same(length) => return Some((length, refused)),
+            Written::Refused => {}
+            Written::Other | Written::Unread => return None,
+        }
+    }
+    None
+}
+
+/// Writes that a datagram of this length is written as it was read, and how often memory ran out before.
+fn write_same(rt: &HostRuntime, length: usize, refused: u32) -> io::Result<()> {
+    if refused > 0 {
+        println!(rt; "memory: receive 0 tick 0 ask 0 encode {refused} late 0")?;
+    }
+    println!(rt; "{length} bytes as they were read")
+}
+
+/// Writes what the line's datagram is written as.
 pub fn write_again(rt: &HostRuntime, line: &str) -> io::Result<()> {
     let Some((reader, bytes)) = datagram(rt.alloc(), line) else {
         return println!(rt; "nothing");
     };
-    let mut refused = 0u32;
-    for _ in 0..TRIES {
-        match write_once(rt.alloc(), &reader, bytes.as_slice()) {
-            Written::Same(length) => {
-                if refused > 0 {
-                    println!(rt; "memory: receive 0 tick 0 ask 0 encode {refused} late 0")?;
-                }
-                return println!(rt; "{length} bytes as they were read");
-            }
-            Written::Refused => refused = refused.saturating_add(1),
-            Written::Other | Written::Unread => return println!(rt; "wrong"),
-        }
+    match length_of(rt.alloc(), &reader, bytes.as_slice()) {
+        Some((length, refused)) => write_same(rt, length, refused),
+        None => println!(rt; "wrong"),
     }
-    println!(rt; "wrong")
 }
