@@ -42,18 +42,6 @@ pub(crate) fn ask<R: Records>(alloc: Global, node: &mut Node<R>) -> Result<(), N
     Ok(())
 }
 
-/// A node that is closed where it is dropped: that of a closed node's parts needs no proof here.
-struct Member<R: Records + Drop> {
-    node: Node<R>,
-}
-
-impl<R: Records + Drop> Drop for Member<R> {
-    fn drop(self) {
-        let Member { node } = self;
-        drop(node.close());
-    }
-}
-
 /// A member of the three with its record, else why not, and the record.
 pub(crate) fn opened<R: Records>(
     alloc: Global,
@@ -82,9 +70,9 @@ fn send(sent: &mut Vec<Datagram>, out: Vec<Datagram>) -> Result<(), NodeFault> {
 }
 
 /// The message of this number comes to its addressee; what that sends is appended.
-fn deliver<R: Records + Drop>(
+fn deliver<R: Records>(
     alloc: Global,
-    nodes: &mut Vec<Member<R>>,
+    nodes: &mut Vec<Node<R>>,
     sent: &mut Vec<Datagram>,
     number: usize,
 ) -> Result<(), NodeFault> {
@@ -96,18 +84,18 @@ fn deliver<R: Records + Drop>(
     if to >= nodes.len() {
         return Err(NodeFault::Failed);
     }
-    nodes[to].node.receive(datagram.bytes.as_slice(), &mut out)?;
+    nodes[to].receive(datagram.bytes.as_slice(), &mut out)?;
     send(sent, out)
 }
 
 /// The command is asked of the first node, its clock ticks, and every message is delivered.
-fn finish<R: Records + Drop>(alloc: Global, nodes: &mut Vec<Member<R>>) -> Result<(), NodeFault> {
+fn finish<R: Records>(alloc: Global, nodes: &mut Vec<Node<R>>) -> Result<(), NodeFault> {
     if nodes.is_empty() {
         return Err(NodeFault::Failed);
     }
-    ask(alloc, &mut nodes[0].node)?;
+    ask(alloc, &mut nodes[0])?;
     let mut sent = Vec::new(alloc);
-    nodes[0].node.tick(&mut sent)?;
+    nodes[0].tick(&mut sent)?;
     for number in 0..MESSAGES {
         deliver(alloc, nodes, &mut sent, number)?;
     }
@@ -137,11 +125,11 @@ fn record<S: Alter + Drop>(alloc: Global, conn: Connection<S>, node: u8) -> Opti
 }
 
 /// The member of the three with this record joins the nodes.
-fn join<R: Records + Drop>(alloc: Global, nodes: &mut Vec<Member<R>>, me: u8, records: R) -> bool
+fn join<R: Records + Drop>(alloc: Global, nodes: &mut Vec<Node<R>>, me: u8, records: R) -> bool
     requires { R.members records ≡ 3 }
 {
     match opened(alloc, me, records) {
-        Ok(node) => nodes.push(Member { node }).is_ok(),
+        Ok(node) => nodes.push(node).is_ok(),
         Err((_, records)) => {
             drop(records);
             false
@@ -152,7 +140,7 @@ fn join<R: Records + Drop>(alloc: Global, nodes: &mut Vec<Member<R>>, me: u8, re
 /// The member with this store joins the nodes.
 fn begin<S: Alter + Drop>(
     alloc: Global,
-    nodes: &mut Vec<Member<SqlRecords<S>>>,
+    nodes: &mut Vec<Node<SqlRecords<S>>>,
     me: u8,
     conn: Connection<S>,
 ) -> bool {
@@ -177,7 +165,7 @@ fn stopped<S: Alter + Drop>(alloc: Global, records: SqlRecords<S>) -> (bool, Con
 /// The first member stops so, and joins the nodes with the store that is left.
 fn begin_again<S: Alter + Drop>(
     alloc: Global,
-    nodes: &mut Vec<Member<SqlRecords<S>>>,
+    nodes: &mut Vec<Node<SqlRecords<S>>>,
     conn: Connection<S>,
 ) -> bool {
     match record(alloc, conn, 0) {
@@ -219,14 +207,14 @@ fn say_node<R: Records>(alloc: Global, node: &Node<R>, out: &mut String) -> bool
 }
 
 /// Reports what each node shows.
-fn say_all<R: Records + Drop>(alloc: Global, nodes: &[Member<R>], out: &mut String) -> bool {
+fn say_all<R: Records>(alloc: Global, nodes: &[Node<R>], out: &mut String) -> bool {
     let mut is_first = true;
-    for member in nodes {
+    for node in nodes {
         if !is_first && !say(out, "; ") {
             return false;
         }
         is_first = false;
-        if !say_node(alloc, &member.node, out) {
+        if !say_node(alloc, node, out) {
             return false;
         }
     }
