@@ -17,13 +17,15 @@ use clap::ArgMatches;
 use cli_io::{InputFault, Status, UNREADABLE, misused, out_of_memory, read_all};
 use std::alloc::{AllocError, Global};
 use std::convert::AsStr;
-use std::fs;
+use std::fs::{self, Files};
 use std::io::{Read, Write};
+use std::net::Net;
+use std::time::Clock;
 
 /// The text that an option names: of the input for `-`, else of a file; none without it. A file that can't be read is
 /// 90.
-fn text_for<R: Read>(
-    rt: &HostRuntime,
+fn text_for<F: Files, R: Read>(
+    rt: &F,
     alloc: Global,
     named: Option<&str>,
     reader: &mut R,
@@ -71,11 +73,12 @@ fn checked(
 }
 
 /// What the words give.
-fn outcome_of<R: Read>(
-    rt: &HostRuntime,
+fn outcome_of<RT: Files + Net + Clock, R: Read, E: Write>(
+    rt: &RT,
     alloc: Global,
     matches: &ArgMatches<'_>,
     reader: &mut R,
+    errors: &mut E,
 ) -> Outcome {
     let Some(control) = matches.get_str("control") else {
         return refused(40);
@@ -102,7 +105,7 @@ fn outcome_of<R: Read>(
     match ask_at(rt, alloc, control, &call, seconds) {
         Ok(reply) => {
             if call.kind == Kind::Change || call.kind == Kind::Sync {
-                tell_left(rt, reply.front);
+                tell_left(reply.front, errors);
             }
             Outcome::Answered(call.kind, reply)
         }
@@ -138,13 +141,15 @@ fn checked_script(
 }
 
 /// Asks the changes of a script.
-fn run_script<R: Read, W: Write>(
-    rt: &HostRuntime,
+fn run_script<RT: Files + Net + Clock, R: Read, W: Write, E: Write>(
+    rt: &RT,
     alloc: Global,
     matches: &ArgMatches<'_>,
     file: &str,
     reader: &mut R,
     writer: &mut W,
+    errors: &mut E,
+    is_terminal: bool,
 ) -> Status {
     let Some(control) = matches.get_str("control") else {
         return write_outcome(alloc, refused(40), writer);
@@ -161,9 +166,10 @@ fn run_script<R: Read, W: Write>(
         script: script.as_slice(),
         from: u64::from(matches.get_one::<u32>("from").unwrap_or(1)),
         seconds: matches.get_one::<u32>("wait").unwrap_or(WAIT).max(1),
+        is_terminal,
     };
     match checked_script(alloc, matches, &request) {
-        Ok(None) => ask_script(rt, alloc, &request, writer),
+        Ok(None) => ask_script(rt, alloc, &request, writer, errors),
         Ok(Some(refused)) => write_outcome(alloc, Outcome::Refused(refused), writer),
         Err(_) => out_of_memory(writer),
     }
@@ -176,13 +182,16 @@ fn run_script<R: Read, W: Write>(
 /// case. 85 where nobody answers at the socket, 86 where the answer is cut short or none.
 ///
 /// The status is 1 where a change was refused or its outcome isn't known in time, where not all addresses of `-T test`
-/// match, and of every refusal.
-pub fn run_control_ask<S: AsStr, R: Read, W: Write>(
-    rt: &HostRuntime,
+/// match, and of every refusal. For people stands on `errors` how many positions are left once few are, and, where that
+/// is a terminal, at which line a script is.
+pub fn run_control_ask<RT: Files + Net + Clock, S: AsStr, R: Read, W: Write, E: Write>(
+    rt: &RT,
     alloc: Global,
     words: &[S],
     reader: &mut R,
     writer: &mut W,
+    errors: &mut E,
+    is_terminal: bool,
 ) -> Status {
     let Ok(command) = command(alloc) else {
         return out_of_memory(writer);
@@ -194,9 +203,9 @@ pub fn run_control_ask<S: AsStr, R: Read, W: Write>(
     match matches.subcommand_matches("ask") {
         Some(inner) => {
             if let Some(file) = inner.get_str("script") {
-                return run_script(rt, alloc, inner, file, reader, writer);
+                return run_script(rt, alloc, inner, file, reader, writer, errors, is_terminal);
             }
-            let outcome = outcome_of(rt, alloc, inner, reader);
+            let outcome = outcome_of(rt, alloc, inner, reader, errors);
             write_outcome(alloc, outcome, writer)
         }
         None => Status::Usage,

@@ -8,6 +8,8 @@ use crate::telling::{tell_left, tell_line};
 use cli_io::{Status, out_of_memory};
 use std::alloc::{AllocError, Global};
 use std::io::Write;
+use std::net::Net;
+use std::time::Clock;
 
 /// What comes of a change that was made.
 const MADE: &[u8] = b"ok";
@@ -21,6 +23,8 @@ pub(crate) struct ScriptRequest<'a> {
     pub(crate) from: u64,
     /// For how many seconds it is waited for what comes of a change.
     pub(crate) seconds: u32,
+    /// Whether people read on standard error how far it is.
+    pub(crate) is_terminal: bool,
 }
 
 /// How a change went.
@@ -32,17 +36,18 @@ enum Went {
 }
 
 /// Asks one change, and waits for what comes of it.
-fn make(
-    rt: &HostRuntime,
+fn make<RT: Net + Clock, E: Write>(
+    rt: &RT,
     alloc: Global,
     request: &ScriptRequest<'_>,
     change: &Change<'_>,
+    errors: &mut E,
 ) -> Result<Went, AskFault> {
     let Some(call) = change.call(alloc)? else {
         return Ok(Went::Stopped(Vec::from_slice(alloc, b"refused 40\n")?));
     };
     let reply = ask_at(rt, alloc, request.control, &call, request.seconds)?;
-    tell_left(rt, reply.front);
+    tell_left(reply.front, errors);
     let outcome = outcome_behind(reply.body.as_slice());
     if outcome.starts_with(MADE) {
         return Ok(Went::Made(Vec::from_slice(alloc, outcome)?));
@@ -62,14 +67,15 @@ fn write_end<W: Write>(alloc: Global, said: &[u8], line: u64, writer: &mut W) ->
 }
 
 /// Asks one change and writes what came of it; none where it was made, else how the script ends.
-fn ask_one<W: Write>(
-    rt: &HostRuntime,
+fn ask_one<RT: Net + Clock, W: Write, E: Write>(
+    rt: &RT,
     alloc: Global,
     request: &ScriptRequest<'_>,
     change: &Change<'_>,
     writer: &mut W,
+    errors: &mut E,
 ) -> Option<Status> {
-    match make(rt, alloc, request, change) {
+    match make(rt, alloc, request, change, errors) {
         Ok(Went::Made(said)) => match writer.write_all(said.as_slice()) {
             Ok(()) => None,
             Err(_) => Some(Status::Failed),
@@ -83,11 +89,12 @@ fn ask_one<W: Write>(
 
 /// Asks the script's changes, each once what came of the one before it is known, and writes a line of each. It ends at
 /// the first that isn't made, or of which nobody knows, with the number of its line.
-pub(crate) fn ask_script<W: Write>(
-    rt: &HostRuntime,
+pub(crate) fn ask_script<RT: Net + Clock, W: Write, E: Write>(
+    rt: &RT,
     alloc: Global,
     request: &ScriptRequest<'_>,
     writer: &mut W,
+    errors: &mut E,
 ) -> Status {
     let mut left = Left {
         bytes: request.script,
@@ -101,8 +108,10 @@ pub(crate) fn ask_script<W: Write>(
             Err(ScriptFault::Memory) => return out_of_memory(writer),
         };
         if change.line >= request.from {
-            tell_line(rt, change.line);
-            if let Some(status) = ask_one(rt, alloc, request, &change, writer) {
+            if request.is_terminal {
+                tell_line(change.line, errors);
+            }
+            if let Some(status) = ask_one(rt, alloc, request, &change, writer, errors) {
                 return status;
             }
         }

@@ -7,6 +7,8 @@ use cli_ask::{AskFault, Reply, read_at};
 use cli_io::{Shown, knock};
 use std::alloc::{AllocError, Global};
 use std::io::Write;
+use std::net::Net;
+use std::time::Clock;
 
 /// Whoever answers as a node does at its control socket.
 pub trait Control {
@@ -27,14 +29,14 @@ pub trait Control {
 
 /// A control socket.
 #[derive(Clone, Copy)]
-pub(crate) struct ControlSocket<'a> {
-    pub(crate) rt: &'a HostRuntime,
+pub(crate) struct ControlSocket<'a, RT> {
+    pub(crate) rt: &'a RT,
     pub(crate) path: &'a str,
 }
 
 /// An answer to a target.
-fn read(
-    socket: ControlSocket<'_>,
+fn read<RT: Net + Clock>(
+    socket: &ControlSocket<'_, RT>,
     alloc: Global,
     target: Result<String, AllocError>,
 ) -> Result<Reply, AskFault> {
@@ -44,16 +46,16 @@ fn read(
     }
 }
 
-impl Control for ControlSocket<'_> {
+impl<RT: Net + Clock> Control for ControlSocket<'_, RT> {
     // no contract can say what a socket gives
     ghost exchanged = { λ _ _. ⊤ };
 
     fn entries(&mut self, alloc: Global, from: u32) -> Result<Reply, AskFault> {
-        read(*self, alloc, format!(in alloc; "/v1/entries?from={from}"))
+        read(self, alloc, format!(in alloc; "/v1/entries?from={from}"))
     }
 
     fn status(&mut self, alloc: Global) -> Result<Reply, AskFault> {
-        read(*self, alloc, String::from_str(alloc, "/v1/status"))
+        read(self, alloc, String::from_str(alloc, "/v1/status"))
     }
 
     fn tell<E: Write>(&self, errors: &mut E) {

@@ -6,7 +6,7 @@ use pf_config::Config;
 use pf_dump::{PathText, texts};
 use pf_rules::Name;
 use std::alloc::{AllocError, Global};
-use std::fs::{self, OpenOptions};
+use std::fs::{self, Files, OpenOptions};
 use std::io::{self, Write};
 
 /// A file and its text.
@@ -79,7 +79,7 @@ fn is_written(files: &[TextFile], name: &str, text: &str) -> bool {
 
 /// Writes a file that isn't there: what is under this path is taken away first, a link too, whose target stays as it
 /// is.
-fn write_new(rt: &HostRuntime, path: &str, text: &str) -> io::Result<()> {
+fn write_new<F: Files>(rt: &F, path: &str, text: &str) -> io::Result<()> {
     let _gone = fs::remove_file(rt, path);
     let mut file = OpenOptions::new()
         .write(true)
@@ -99,9 +99,9 @@ impl TextFiles {
     }
 
     /// Writes a file beside its place and renames it, and answers whether that was possible.
-    fn put(
+    fn put<F: Files>(
         &self,
-        rt: &HostRuntime,
+        rt: &F,
         alloc: Global,
         name: &str,
         text: &str,
@@ -116,9 +116,9 @@ impl TextFiles {
     }
 
     /// Writes a file unless it is there, and answers whether it does now.
-    fn stands(
+    fn stands<F: Files>(
         &self,
-        rt: &HostRuntime,
+        rt: &F,
         alloc: Global,
         name: &str,
         text: &str,
@@ -131,9 +131,9 @@ impl TextFiles {
 
     /// Writes those files that aren't written so yet, empty ones for paths that are gone, and answers whether all could
     /// be.
-    fn put_all(
+    fn put_all<F: Files>(
         &mut self,
-        rt: &HostRuntime,
+        rt: &F,
         alloc: Global,
         mut files: Vec<TextFile>,
     ) -> Result<bool, AllocError> {
@@ -159,9 +159,9 @@ impl TextFiles {
 
     /// Writes the files of what was followed. That one couldn't be written is said once until it could be. Where
     /// rulesets don't give the configuration that is said, and the files stay as they are.
-    pub(crate) fn write<E: Write>(
+    pub(crate) fn write<F: Files, E: Write>(
         &mut self,
-        rt: &HostRuntime,
+        rt: &F,
         alloc: Global,
         followed: &FollowedConfiguration,
         errors: &mut E,

@@ -15,8 +15,10 @@ use cli_io::{Shown, Status, misused};
 use cli_nft::{machine_in, read_file};
 use std::alloc::{AllocError, Global};
 use std::convert::AsStr;
-use std::fs;
+use std::fs::{self, Files};
 use std::io::{self, Write};
+use std::net::Net;
+use std::time::Clock;
 
 /// How long it waits between two asks, but for entries that weren't all, in milliseconds.
 const PAUSE: u64 = 50;
@@ -72,8 +74,8 @@ fn ask<C: Control>(
 }
 
 /// Writes rulesets for pfctl(8), where they are wanted; with `is_late` those alone that couldn't be written.
-fn write_texts<E: Write>(
-    rt: &HostRuntime,
+fn write_texts<RT: Files, E: Write>(
+    rt: &RT,
     alloc: Global,
     is_late: bool,
     follower: &Follower,
@@ -92,8 +94,8 @@ fn write_texts<E: Write>(
 }
 
 /// Asks once, after the given number of asks, and writes what is to be written.
-fn turn<C: Control, W: Write, E: Write>(
-    rt: &HostRuntime,
+fn turn<RT: Files, C: Control, W: Write, E: Write>(
+    rt: &RT,
     alloc: Global,
     control: &mut C,
     asks: u64,
@@ -145,8 +147,8 @@ fn is_another(due: Due) -> bool
 }
 
 /// Says once that there is no answer, and waits before entries are asked for again, but for some that weren't all.
-fn rest<C: Control, E: Write>(
-    rt: &HostRuntime,
+fn rest<RT: Net, C: Control, E: Write>(
+    rt: &RT,
     control: &C,
     errors: &mut E,
     due: Due,
@@ -168,8 +170,8 @@ fn rest<C: Control, E: Write>(
 /// Follows a node's log until the output is closed, or entries were asked for so often, or another log is there: what
 /// nft(8) is to load goes to the writer, for the interfaces that a file lists, if there is one, with the members' guard
 /// or without; rulesets for pfctl(8) go into files, where they are wanted. Refusals go to `errors`.
-pub fn follow<C: Control, W: Write, E: Write>(
-    rt: &HostRuntime,
+pub fn follow<RT: Files + Net, C: Control, W: Write, E: Write>(
+    rt: &RT,
     alloc: Global,
     control: &mut C,
     turns: u64,
@@ -257,8 +259,8 @@ struct Places {
 }
 
 /// The text of a file of interfaces; none where it lists none.
-fn interfaces_in(
-    rt: &HostRuntime,
+fn interfaces_in<RT: Files>(
+    rt: &RT,
     alloc: Global,
     file: &str,
 ) -> Result<Option<Vec<u8>>, AllocError> {
@@ -273,7 +275,7 @@ fn interfaces_in(
 
 /// Why a file can't be opened, as the system says it; none where it can. What isn't a regular file isn't opened, since
 /// a pipe would be waited for.
-fn why_unread(rt: &HostRuntime, file: &str) -> io::Result<()> {
+fn why_unread<RT: Files>(rt: &RT, file: &str) -> io::Result<()> {
     if fs::metadata(rt, file)?.is_file() {
         let _opened = fs::open(rt, file)?;
     }
@@ -281,7 +283,7 @@ fn why_unread(rt: &HostRuntime, file: &str) -> io::Result<()> {
 }
 
 /// Says why a file lists no interfaces.
-fn say_interfaces<E: Write>(rt: &HostRuntime, file: &str, errors: &mut E) {
+fn say_interfaces<RT: Files, E: Write>(rt: &RT, file: &str, errors: &mut E) {
     let shown = Shown(file);
     match why_unread(rt, file) {
         Ok(()) => {
@@ -298,8 +300,8 @@ fn say_interfaces<E: Write>(rt: &HostRuntime, file: &str, errors: &mut E) {
 
 /// Where the words want it written. 40 where they want it nowhere, `--nft` and `--interfaces` aren't both there, or
 /// `--no-member-guard` is without them; 89 where the file lists no interfaces, which is said on standard error.
-fn places_for<E: Write>(
-    rt: &HostRuntime,
+fn places_for<RT: Files, E: Write>(
+    rt: &RT,
     alloc: Global,
     matches: &ArgMatches<'_>,
     errors: &mut E,
@@ -336,8 +338,8 @@ fn places_for<E: Write>(
 }
 
 /// What the matches ask for.
-fn followed<W: Write, E: Write>(
-    rt: &HostRuntime,
+fn followed<RT: Files + Net + Clock, W: Write, E: Write>(
+    rt: &RT,
     alloc: Global,
     matches: &ArgMatches<'_>,
     writer: &mut W,
@@ -381,8 +383,8 @@ fn followed<W: Write, E: Write>(
 /// What the subcommand `follow` asks for, the program's name first: the rules of a running node's configuration, whole,
 /// once it has applied a command and each time that what it applies changes them; for nft(8) to the writer, for
 /// pfctl(8) into files. Refusals go to `errors`.
-pub fn run_follow<S: AsStr, W: Write, E: Write>(
-    rt: &HostRuntime,
+pub fn run_follow<RT: Files + Net + Clock, S: AsStr, W: Write, E: Write>(
+    rt: &RT,
     alloc: Global,
     words: &[S],
     writer: &mut W,

@@ -14,7 +14,7 @@ use cli_io::{InputFault, Status, misused, out_of_memory, read_all, values_in, wr
 use nft_rules::Member;
 use std::alloc::{AllocError, Global};
 use std::convert::AsStr;
-use std::fs;
+use std::fs::{self, Files};
 use std::io::{Read, Write};
 
 /// Whether one of these words is `--nft`.
@@ -85,8 +85,8 @@ fn lent(members: &Option<Vec<Member>>) -> Option<&[Member]>
 }
 
 /// The text of a file, none where it can't be read or is longer than an input may be.
-pub fn read_file(
-    rt: &HostRuntime,
+pub fn read_file<F: Files>(
+    rt: &F,
     alloc: Global,
     path: &str,
 ) -> Result<Option<Vec<u8>>, AllocError> {

@@ -5,7 +5,6 @@ ghost use Rattle.std.specs.Coded.{Coded-set, coded_option};
 ghost use Rattle.px_model.specs.Step.{front};
 ghost use Rattle.px_replica.specs.Replicas.{learned_by};
 ghost use Rattle.pf_node.specs.Applied.{after};
-ghost use Rattle.pf_node.specs.Nodes.{records_of};
 ghost use Rattle.pf_node.specs.inner.Outcomes.{outcomes_below};
 ghost use Rattle.pf_node.specs.inner.Requests.{AreWithin, AreBounds};
 
@@ -34,6 +33,8 @@ pub struct Node<R: Records> {
 }
 
 impl<R: Records> Node<R> {
+    ghost use Rattle.pf_node.specs.Nodes.{records_of};
+
     /// Gives the record back. Takes no memory.
     pub fn close(self) -> R
         ensures { result ≡ records_of self }

@@ -73,13 +73,14 @@ pub(crate) fn lacks_control(arguments: &[&str]) -> bool {
 }
 
 /// Writes the help of `ask`: of the control socket's form, then of the one over UDP.
-fn help_ask<R: Read, W: Write>(
+fn help_ask<R: Read, W: Write, E: Write>(
     rt: &HostRuntime,
     arguments: &[&str],
     reader: &mut R,
     writer: &mut W,
+    errors: &mut E,
 ) -> Status {
-    let status = run_control_ask(rt, rt.alloc(), arguments, reader, writer);
+    let status = run_control_ask(rt, rt.alloc(), arguments, reader, writer, errors, false);
     if status != Status::Usage {
         return status;
     }
@@ -110,9 +111,17 @@ fn run_plain<R: Read, W: Write, E: Write>(
     match subcommand_of(arguments) {
         "--version" | "-V" => tell_version(writer),
         "ask" if asks_help(arguments) && !has_control(arguments) => {
-            help_ask(rt, arguments, reader, writer)
+            help_ask(rt, arguments, reader, writer, errors)
         }
-        "ask" if has_control(arguments) => run_control_ask(rt, alloc, arguments, reader, writer),
+        "ask" if has_control(arguments) => run_control_ask(
+            rt,
+            alloc,
+            arguments,
+            reader,
+            writer,
+            errors,
+            is_terminal,
+        ),
         "node" | "ask" | "key" => run_net(rt, alloc, arguments, reader, writer),
         "show" => run_show(rt, alloc, arguments, writer),
         "follow" => run_follow(rt, alloc, arguments, writer, errors),

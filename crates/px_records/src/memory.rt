@@ -67,6 +67,13 @@ impl MemoryRecords {
             end: 0,
         }
     }
+
+    /// How many members the group has.
+    pub fn members(&self) -> u8
+        ensures { result ≡ ⟦<MemoryRecords as Records>⟧.members self.now }
+    {
+        self.members
+    }
 }
 
 fn shared(entry: &Entry) -> Result<Entry, StoreFault>

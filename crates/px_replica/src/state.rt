@@ -2,7 +2,6 @@
 
 ghost use Rattle.std.specs.Prelude.{◌≡◌, false};
 ghost use Rattle.px_replica.specs.Members.{log_of, group_of};
-ghost use Rattle.px_replica.specs.Replicas.{records_of};
 ghost use Rattle.px_replica.specs.inner.Props.{agree_prop};
 
 use crate::member::Member;
@@ -28,6 +27,8 @@ pub struct Replica<R: Records> {
 }
 
 impl<R: Records> Replica<R> {
+    ghost use Rattle.px_replica.specs.Replicas.{records_of};
+
     /// Gives the record back. Takes no memory.
     pub fn close(self) -> R
         ensures { result ≡ records_of self }

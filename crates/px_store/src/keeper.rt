@@ -1,7 +1,6 @@
 //! The keeper and what stays true of it.
 ghost use Rattle.sqlite.specs.Held.{state};
 ghost use Rattle.std.specs.Prelude.{◌≡◌};
-ghost use Rattle.px_store.specs.View.{connection_of};
 ghost use Rattle.px_store.specs.inner.Ready.{IsReady, IsReady-prop, AreBounded, AreBounded-prop};
 ghost use Rattle.px_store.specs.inner.Ready.{AreAhead, AreAhead-prop, IsOwned, IsOwned-prop};
 
@@ -30,6 +29,8 @@ pub struct SqlRecords<S: Alter> {
 }
 
 impl<S: Alter> SqlRecords<S> {
+    ghost use Rattle.px_store.specs.View.{connection_of};
+
     /// Gives the connection back, to be closed or taken again. It takes no memory, and may be called after a failure.
     pub fn release(self) -> Connection<S>
         ensures { result ≡ connection_of self }

@@ -61,13 +61,13 @@ fn print_written(rt: &HostRuntime, is_guarded: bool) -> io::Result<()> {
 }
 
 /// The answer with the node's standing.
-fn reply_of(answer: Answer, front: u32, applied: u32) -> Reply {
-    Reply {
+fn reply_of(alloc: Global, answer: &Answer, front: u32, applied: u32) -> Result<Reply, AllocError> {
+    Ok(Reply {
         code: answer.code,
-        body: answer.body.into_bytes(),
+        body: Vec::from_slice(alloc, answer.body.as_bytes())?,
         front: Some(front),
         applied: Some(applied),
-    }
+    })
 }
 
 impl FollowedNode<'_> {
@@ -91,7 +91,7 @@ impl FollowedNode<'_> {
     fn read(&mut self, alloc: Global, line: &str) -> io::Result<Reply> {
         let answer = answered(alloc, &mut self.handler, line, "")?;
         let (front, applied) = (self.handler.node.front(), self.handler.node.applied());
-        Ok(reply_of(answer, front, applied))
+        Ok(reply_of(alloc, &answer, front, applied)?)
     }
 
     /// What was written is printed, the next change is made, and the entries are read.

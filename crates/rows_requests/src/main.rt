@@ -10,16 +10,28 @@
 //! body has changes, a line each, with `|` for a newline. At each ask what was written so far is printed: the rulesets,
 //! and how many lines `lines` has; then the next change is made, and answered. A row `== FOLLOW GUARDED` has no
 //! rulesets, but lines with the members' guard, which are printed in the end.
+//!
+//! A row `== RUN WORDS` runs `ask` or `follow` with these words, in which `~` stands for a blank, and the body as the
+//! input, at the control socket of another node, which runs for a few turns for each connection. Of each request the
+//! first line is printed, and the head of the answer without its date and length; then a line `-- STATUS`, and what the
+//! program wrote. In a row `== LATE WORDS` the node's clock ticks at the end of its turns alone. `== SOCKET` prints the
+//! mode of that control socket, and `== FILE NAME` a file.
 #![tactic(auto)]
 
+mod asking;
 mod following;
 mod node;
+mod operator;
+mod serving;
 
+use crate::asking::run;
 use crate::following::follow_node;
 use crate::node::{answered, opened, settle};
+use crate::operator::Operator;
+use crate::serving::Member;
 use node_requests::RequestHandler;
 use px_records::MemoryRecords;
-use std::io;
+use std::{fs, io};
 
 /// Prints the answer to a request.
 fn respond(
@@ -39,11 +51,28 @@ fn main(rt: HostRuntime) -> io::Result<()> {
         return println!(rt; "memory");
     };
     let mut handler = RequestHandler::new(alloc, node);
+    let operator = Operator::new(&rt, Member::new(alloc));
     for row in input.split("\n== ").skip(1) {
         let (line, body) = match row.split_once('\n') {
             Some((line, body)) => (line, body),
             None => (row, ""),
         };
+        if let Some((how, words)) = line.split_once(' ') {
+            if how == "RUN" || how == "LATE" {
+                println!(rt; "== {line}")?;
+                operator.set_late(how == "LATE");
+                run(&rt, &operator, words, body)?;
+                continue;
+            }
+        }
+        if let Some(name) = line.strip_prefix("FILE ") {
+            print!(rt; "== {line}\n{}", fs::read_to_string(&rt, name)?)?;
+            continue;
+        }
+        if line == "SOCKET" {
+            println!(rt; "== {line}\n{:o}", operator.mode())?;
+            continue;
+        }
         if line == "FOLLOW" || line == "FOLLOW GUARDED" {
             println!(rt; "== {line}")?;
             follow_node(&rt, body, line != "FOLLOW")?;
