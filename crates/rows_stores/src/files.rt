@@ -6,7 +6,7 @@ use crate::store::{work, work_once};
 use sqlite::{Connection, Files, Unknown};
 use std::fs;
 
-/// The log of such a store is copied into the database when it has so many pages, as SQLite does it.
+/// The number of pages at which the log of such a store is copied into the database, as SQLite does it.
 const PAGES: usize = 1000;
 
 /// The database file of this name and its log.

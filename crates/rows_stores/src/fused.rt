@@ -47,7 +47,7 @@ pub(crate) const NEVER: Stop = Stop {
     loses: false,
 };
 
-/// The log of files in memory is copied into the database when it has so many pages.
+/// The number of pages at which the log in memory is copied into the database.
 const PAGES: usize = 8;
 
 /// The store in the files, else the files. The log is copied into the database when it has that many pages.
@@ -85,7 +85,7 @@ fn work_in(
     }
 }
 
-/// A file that holds the bytes and stops after that many calls. `is_whole` becomes false where memory is wanting.
+/// A file that holds the bytes and stops after that many calls. `is_whole` becomes false where memory is out.
 fn file(alloc: Global, bytes: &[u8], calls: u64, is_whole: &mut bool) -> Either {
     let mut memory = Memory::new(alloc);
     let is_held = memory.write_at(0, bytes).is_ok() && memory.sync().is_ok();
@@ -101,7 +101,7 @@ fn is_spent(file: &mut Either) -> bool {
     file.len().is_err()
 }
 
-/// What a file in memory holds after its stop. `is_whole` becomes false where memory is wanting.
+/// What a file in memory holds after its stop. `is_whole` becomes false where memory is out.
 fn left(alloc: Global, file: &mut Either, loses: bool, is_whole: &mut bool) -> Vec<u8> {
     let mut bytes = Vec::new(alloc);
     if let Place::Fused(file) = file {
