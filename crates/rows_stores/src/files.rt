@@ -3,11 +3,9 @@ use crate::fused::opened;
 use crate::place::{Either, Place, Store};
 use crate::said::say;
 use crate::store::{work, work_once};
-use sqlite::{Connection, Files, Unknown};
+use sqlite::{Connection, Files, Options, Unknown};
 use std::fs;
-
-/// The number of pages at which the log of such a store is copied into the database, as SQLite does it.
-const PAGES: usize = 1000;
+use std::hash::{BuildHasher, RandomState};
 
 /// The database file of this name and its log.
 fn pair(rt: &HostRuntime, file: &str) -> Option<Files<Either>> {
@@ -20,10 +18,12 @@ fn pair(rt: &HostRuntime, file: &str) -> Option<Files<Either>> {
     }
 }
 
-/// The store in the file.
+/// The store in the file, opened as SQLite does it.
 fn connected(rt: &HostRuntime, file: &str) -> Option<Connection<Store>> {
+    let keys = RandomState::new(rt).ok()?;
+    let options = Options::new(keys.hash_one(&0u8));
     match pair(rt, file) {
-        Some(files) => opened(rt.alloc(), files, PAGES).ok(),
+        Some(files) => opened(rt.alloc(), files, options).ok(),
         None => None,
     }
 }

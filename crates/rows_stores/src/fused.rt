@@ -47,26 +47,31 @@ pub(crate) const NEVER: Stop = Stop {
     loses: false,
 };
 
-/// The number of pages at which the log in memory is copied into the database.
-const PAGES: usize = 8;
-
-/// The store in the files, else the files. The log is copied into the database when it has that many pages.
+/// The store in the files, else the files.
 pub(crate) fn opened(
     alloc: Global,
     files: Files<Either>,
-    pages: usize,
+    options: Options,
 ) -> Result<Connection<Store>, Files<Either>> {
     if !files.log.may_be_used() || !files.db.may_be_used() {
         return Err(files);
     }
-    let options = Options {
-        checkpoint_frames: pages,
-        ..Options::new(1)
-    };
     match Connection::open_files(alloc, files, options) {
         Ok(conn) => Ok(conn),
         Err((_, left)) => Err(left.into_files()),
     }
+}
+
+/// The store in files in memory, else the files. The log is copied into the database when it has eight pages.
+fn opened_in_memory(
+    alloc: Global,
+    files: Files<Either>,
+) -> Result<Connection<Store>, Files<Either>> {
+    let options = Options {
+        checkpoint_frames: 8,
+        ..Options::new(1)
+    };
+    opened(alloc, files, options)
 }
 
 /// Does the tasks with the store in the files, and gives them back.
@@ -76,7 +81,7 @@ fn work_in(
     tasks: &str,
     out: &mut String,
 ) -> (bool, Files<Either>) {
-    match opened(alloc, files, PAGES) {
+    match opened_in_memory(alloc, files) {
         Ok(conn) => {
             let (is_written, conn) = work(alloc, conn, tasks, out);
             (is_written, conn.into_store().close())
@@ -148,7 +153,7 @@ fn empty(alloc: Global) -> Option<Connection<Store>> {
     let mut is_whole = true;
     let log = file(alloc, &[], NEVER.log, &mut is_whole);
     let db = file(alloc, &[], NEVER.db, &mut is_whole);
-    opened(alloc, Files { log, db }, PAGES).ok()
+    opened_in_memory(alloc, Files { log, db }).ok()
 }
 
 /// Does the run of three nodes over this store, the second member's and an empty one.
