@@ -25,8 +25,8 @@ returns-in-Ok-step g c =
       }));
     }
 
-pub returns-in-Err-step : goal.returns-in-Err-step
-returns-in-Err-step g c =
+pub returns : goal.returns
+returns g c =
     let m = membership_of c.args.self.now in
     let h = heard m c.group.result c.in-Ok.sender c.in-Ok.message c.args.bytes.now c.group.ensures.group c.in-Ok.ensures.found c.in-Ok.ensures.fits in
     let e = c.in-Err-step.ensures in
