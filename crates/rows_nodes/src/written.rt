@@ -1,5 +1,6 @@
 //! A datagram that is read and written again.
 
+use crate::row::reader_of;
 use px_wire::{Membership, decode, encode};
 use std::alloc::Global;
 use std::io;
@@ -13,7 +14,7 @@ enum Written {
     Same(usize),
     /// As others.
     Other,
-    /// Memory was wanting.
+    /// Memory was out.
     Refused,
     /// It has no message.
     Unread,
@@ -46,13 +47,13 @@ fn bytes_of(alloc: Global, digits: &str, more: usize) -> Option<Vec<u8>> {
 
 /// The reader and the bytes of a line behind its first word.
 fn datagram(alloc: Global, line: &str) -> Option<(Membership, Vec<u8>)> {
-    let mut words = line.split(' ');
-    let _form = words.next()?;
-    let _name = words.next()?;
-    let reader = Membership::new(7, 3, words.next()?.parse::<u8>().ok()?)?;
-    let digits = words.next()?;
-    let more = words.next()?.parse::<usize>().ok()?;
-    Some((reader, bytes_of(alloc, digits, more)?))
+    let (_form, rest) = line.split_once(' ')?;
+    let (_name, rest) = rest.split_once(' ')?;
+    let (me, rest) = rest.split_once(' ')?;
+    let (digits, more) = rest.split_once(' ')?;
+    let reader = reader_of(me)?;
+    let bytes = bytes_of(alloc, digits, more.parse::<usize>().ok()?)?;
+    Some((reader, bytes))
 }
 
 /// The length of what is written for the message of these bytes, and how often memory ran out before: it is written
