@@ -119,6 +119,16 @@ fn is_asked<W: Wire>(parties: &mut [Member], client: &mut W, room: &mut Room) ->
     is_sent && client.recv(&mut answer) == Some(29) && answer == ASKED
 }
 
+/// Whether a load that the client asks is applied by each.
+fn applies<W: Wire>(
+    parties: &mut [Member],
+    client: &mut W,
+    room: &mut Room,
+    alloc: Global,
+) -> bool {
+    is_asked(parties, client, room) && apply(parties, room, 1) && all_block(alloc, parties)
+}
+
 /// The members' addresses.
 static MEMBERS: [&str; 3] = ["127.0.0.1:39481", "127.0.0.1:39482", "127.0.0.1:39483"];
 
@@ -129,8 +139,7 @@ fn loopback(rt: HostRuntime) {
     let mut room = room(alloc).expect(&rt, "memory");
     let mut parties = Vec::new(alloc);
     assert!(rt; all_join(&rt, &mut parties, &MEMBERS, u64::MAX, 10));
-    assert!(rt; is_asked(&mut parties, &mut client, &mut room));
-    assert!(rt; apply(&mut parties, &mut room, 1) && all_block(alloc, &parties));
+    assert!(rt; applies(&mut parties, &mut client, &mut room, alloc));
 }
 
 /// Whether the node is asked that the main ruleset's table `t` hold the address alone.

@@ -117,11 +117,16 @@ fn an_accept_isnt_answered_once_the_next_position_is_voted_for(rt: HostRuntime) 
     assert!(rt; answers(rt.alloc(), &mut resender, &ACCEPT, false));
 }
 
-/// The short datagram alone.
-const SHORT: [Sent; 1] = [(2, 30)];
+/// A time in microseconds, and what is handed over again then.
+type Row = (u64, &'static [Sent]);
 
-/// A large one, and the short one.
-const BOTH: [Sent; 2] = [(1, 13_100), (2, 30)];
+/// A large accept request is handed over again beside a short one each 200 ms.
+static BOUNDED: [Row; 4] = [
+    (1_199_999, &[(2, 30)]),
+    (1_200_000, &[(1, 13_100), (2, 30)]),
+    (1_399_999, &[(2, 30)]),
+    (1_400_000, &[(1, 13_100), (2, 30)]),
+];
 
 /// A large accept request for member 1 at one second, and a short one for member 2.
 fn send_both(resender: &mut Resender) {
@@ -134,11 +139,9 @@ fn send_both(resender: &mut Resender) {
 
 #[test]
 fn a_large_datagram_is_sent_again_at_a_bounded_rate(rt: HostRuntime) {
-    let alloc = rt.alloc();
-    let mut resender = Resender::new(alloc, 3, 0);
+    let mut resender = Resender::new(rt.alloc(), 3, 0);
     send_both(&mut resender);
-    assert!(rt; repeats(alloc, &mut resender, 1_199_999, 5, &SHORT));
-    assert!(rt; repeats(alloc, &mut resender, 1_200_000, 5, &BOTH));
-    assert!(rt; repeats(alloc, &mut resender, 1_399_999, 5, &SHORT));
-    assert!(rt; repeats(alloc, &mut resender, 1_400_000, 5, &BOTH));
+    for (now, wanted) in &BOUNDED {
+        assert!(rt; repeats(rt.alloc(), &mut resender, *now, 5, wanted));
+    }
 }

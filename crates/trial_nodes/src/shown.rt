@@ -13,10 +13,7 @@ fn push_entry(out: &mut String, entry: &Entry) -> Result<(), AllocError> {
 }
 
 /// What was accepted, if anything was.
-fn push_accepted(
-    out: &mut String,
-    accepted: &Option<Proposal<Entry>>,
-) -> Result<(), AllocError> {
+fn push_accepted(out: &mut String, accepted: &Option<Proposal<Entry>>) -> Result<(), AllocError> {
     match accepted {
         None => out.push_str(" none"),
         Some(proposal) => {
@@ -27,12 +24,7 @@ fn push_accepted(
 }
 
 /// A kind of message, its ballot and its position.
-fn push_head(
-    out: &mut String,
-    kind: &str,
-    ballot: u64,
-    position: u32,
-) -> Result<(), AllocError> {
+fn push_head(out: &mut String, kind: &str, ballot: u64, position: u32) -> Result<(), AllocError> {
     out.push_str(kind)?;
     push_ballot(out, ballot)?;
     write!(out, " p{position}")

@@ -6,7 +6,6 @@ use pf_node::Node;
 use px_records::MemoryRecords;
 use px_transport::MemoryWire;
 use std::alloc::Global;
-use std::panic::Expect;
 
 /// An Ask of a flush of main's tables, with the token 1, for member 0 of 3 of cluster 7.
 const ASK: [u8; 29] = [
@@ -25,10 +24,18 @@ fn dropped(alloc: Global, node: &mut Node<MemoryRecords>, hears_asks: bool) -> O
     }
 }
 
+/// How many commands wait at a new node then, and how many datagrams were dropped.
+fn waits(alloc: Global, hears_asks: bool) -> Option<(usize, u32)> {
+    let mut node = member(alloc, 3, 0)?;
+    match dropped(alloc, &mut node, hears_asks) {
+        Some(count) => Some((node.waiting(), count)),
+        None => None,
+    }
+}
+
 #[test]
 fn an_ask_is_heard_or_dropped(rt: HostRuntime) {
-    let mut hearing = member(rt.alloc(), 3, 0).expect(&rt, "a member");
-    let mut other = member(rt.alloc(), 3, 0).expect(&rt, "a member");
-    assert!(rt; dropped(rt.alloc(), &mut hearing, true) == Some(0) && hearing.waiting() == 1);
-    assert!(rt; dropped(rt.alloc(), &mut other, false) == Some(1) && other.waiting() == 0);
+    assert!(rt;
+        waits(rt.alloc(), true) == Some((1, 0)) && waits(rt.alloc(), false) == Some((0, 1))
+    );
 }

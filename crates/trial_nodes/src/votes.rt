@@ -56,6 +56,19 @@ fn has_votes(wire: &MemoryWire, to: u8, (from, end): (u32, u32)) -> bool {
     position == end
 }
 
+/// Whether these are sent again to the member at this time, where it lacks this position and those after it.
+fn is_sent(
+    alloc: Global,
+    resender: &mut Resender,
+    now: u64,
+    to: u8,
+    from: u32,
+    wanted: (u32, u32),
+) -> bool {
+    let wire = again(alloc, resender, now, to, from);
+    has_votes(&wire, to, wanted)
+}
+
 /// A time in milliseconds, the position from which on member 1 lacks votes then, and the positions from one to before
 /// another whose votes it is sent.
 type Row = (u64, u32, (u32, u32));
@@ -64,7 +77,7 @@ type Row = (u64, u32, (u32, u32));
 fn are_sent(alloc: Global, resender: &mut Resender, rows: &[Row]) -> bool {
     for row in rows {
         let (now, lacks, wanted) = *row;
-        if !has_votes(&again(alloc, resender, now, 1, lacks), 1, wanted) {
+        if !is_sent(alloc, resender, now, 1, lacks, wanted) {
             return false;
         }
     }
@@ -86,20 +99,17 @@ fn vote_for_both(resender: &mut Resender, end: u32) {
     }
 }
 
-/// Whether the wire was handed nothing.
-fn is_empty(wire: &MemoryWire) -> bool {
-    wire.sent().is_some_and(|sent| sent.is_empty())
-}
-
 #[test]
 fn a_member_that_lacks_votes_is_sent_its_own_again(rt: HostRuntime) {
     let alloc = rt.alloc();
     let mut it = Resender::new(alloc, 3, 0);
     vote_for_both(&mut it, 8);
-    assert!(rt; has_votes(&again(alloc, &mut it, 0, 1, 6), 1, (6, 8)));
-    assert!(rt; has_votes(&again(alloc, &mut it, 0, 2, 7), 2, (7, 8)));
-    assert!(rt; is_empty(&again(alloc, &mut it, 0, 0, 6)));
-    assert!(rt; is_empty(&again(alloc, &mut it, 0, 15, 6)));
+    assert!(rt;
+        is_sent(alloc, &mut it, 0, 1, 6, (6, 8))
+            && is_sent(alloc, &mut it, 0, 2, 7, (7, 8))
+            && is_sent(alloc, &mut it, 0, 0, 6, (6, 6))
+            && is_sent(alloc, &mut it, 0, 15, 6, (6, 6))
+    );
 }
 
 /// Whether the wire was handed 63 votes for member 1.
@@ -167,7 +177,7 @@ fn a_vote_of_another_ballot_lets_the_older_go(rt: HostRuntime) {
     let mut it = Resender::new(alloc, 3, 0);
     vote_for_both(&mut it, 7);
     vote(&mut it, 1, 2, 6, 27);
-    assert!(rt; has_votes(&again(alloc, &mut it, 0, 2, 5), 2, (5, 6)));
+    assert!(rt; is_sent(alloc, &mut it, 0, 2, 5, (5, 6)));
     assert!(rt; has_both_rounds(&again(alloc, &mut it, 0, 1, 5)));
 }
 
