@@ -16,7 +16,7 @@ fn write_run(rt: &HostRuntime, first: usize, last: usize, answer: Answer) -> io:
 }
 
 /// Answers in order, of which equal ones are written as one run.
-#[derive(Drop)]
+#[derive(Clone, Copy)]
 struct Runs {
     first: usize,
     last: usize,
@@ -57,18 +57,23 @@ impl Runs {
     }
 }
 
-/// Writes what is answered to each proper front, by its length.
-pub fn each_front(rt: &HostRuntime, row: &Row) -> io::Result<()> {
-    let mut reader = Reader::new(rt.alloc(), row.reader);
+/// Writes what the reader answers to each proper front, by its length.
+fn write_fronts(rt: &HostRuntime, bytes: &[u8], reader: &mut Reader) -> io::Result<()> {
     let mut runs = Runs::new();
     print!(rt; "fronts:")?;
-    for length in 0..row.bytes.len() {
-        if let Some(front) = row.bytes.get(..length) {
+    for length in 0..bytes.len() {
+        if let Some(front) = bytes.get(..length) {
             let answer = reader.answer(front)?;
             runs.push(rt, length, answer)?;
         }
     }
     runs.end(rt)
+}
+
+/// Writes what is answered to each proper front, by its length.
+pub fn each_front(rt: &HostRuntime, row: &Row) -> io::Result<()> {
+    let mut reader = Reader::new(rt.alloc(), row.reader);
+    write_fronts(rt, &row.bytes, &mut reader)
 }
 
 /// Sets a byte, if there is one.
@@ -78,22 +83,37 @@ fn set(bytes: &mut [u8], at: usize, value: u8) {
     }
 }
 
+/// Writes what the reader answers for this byte, set to each value.
+fn write_byte(
+    rt: &HostRuntime,
+    bytes: &mut [u8],
+    at: usize,
+    reader: &mut Reader,
+) -> io::Result<()> {
+    let Some(own) = bytes.get(at).copied() else {
+        return Ok(());
+    };
+    let mut runs = Runs::new();
+    print!(rt; "byte {at}:")?;
+    for value in 0..=255u8 {
+        set(bytes, at, value);
+        let answer = reader.answer(bytes)?;
+        runs.push(rt, usize::from(value), answer)?;
+    }
+    set(bytes, at, own);
+    runs.end(rt)
+}
+
+/// Writes what the reader answers for each byte, set to each value.
+fn write_bytes(rt: &HostRuntime, bytes: &mut [u8], reader: &mut Reader) -> io::Result<()> {
+    for at in 0..bytes.len() {
+        write_byte(rt, bytes, at, reader)?;
+    }
+    Ok(())
+}
+
 /// Writes what is answered for each byte, set to each value.
 pub fn each_byte(rt: &HostRuntime, row: &mut Row) -> io::Result<()> {
     let mut reader = Reader::new(rt.alloc(), row.reader);
-    for at in 0..row.bytes.len() {
-        let Some(own) = row.bytes.get(at).copied() else {
-            return Ok(());
-        };
-        let mut runs = Runs::new();
-        print!(rt; "byte {at}:")?;
-        for value in 0..=255u8 {
-            set(&mut row.bytes, at, value);
-            let answer = reader.answer(&row.bytes)?;
-            runs.push(rt, usize::from(value), answer)?;
-        }
-        set(&mut row.bytes, at, own);
-        runs.end(rt)?;
-    }
-    Ok(())
+    write_bytes(rt, &mut row.bytes, &mut reader)
 }

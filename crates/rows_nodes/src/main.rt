@@ -53,15 +53,13 @@ use px_records::When;
 use std::alloc::Global;
 use std::io;
 
-/// Three members with empty records in memory, of which the first one's `k`-th commit fails; none with 0.
-fn begun(alloc: Global, k: u64, when: When, is_once: bool) -> Option<Run<Kept>> {
-    Run::new(
-        alloc,
-        record(alloc, k, when),
-        record(alloc, 0, when),
-        record(alloc, 0, when),
-        is_once,
-    )
+/// Three members with empty records in memory join the run; of the first one's the `k`-th commit fails, none with 0.
+/// Whether there was memory for them.
+fn begin(alloc: Global, run: &mut Run<Kept>, k: u64, when: When) -> bool {
+    run.make_room()
+        && run.join(0, record(alloc, k, when))
+        && run.join(1, record(alloc, 0, when))
+        && run.join(2, record(alloc, 0, when))
 }
 
 /// How many of the line's first that many steps were done, until one is refused. None where one can't be made.
@@ -77,11 +75,12 @@ fn follow(run: &mut Run<Kept>, line: &str, most: usize) -> Option<u32> {
 }
 
 /// Writes what the members of a run show, and what they leave.
-fn write_members(rt: &HostRuntime, run: Run<Kept>) -> io::Result<()> {
-    let (members, sent) = run.end();
-    write_sent(rt, &sent)?;
-    for member in members {
-        write_member(rt, member)?;
+fn write_members(rt: &HostRuntime, run: &mut Run<Kept>) -> io::Result<()> {
+    write_sent(rt, &run.sent)?;
+    for _ in 0..3 {
+        if let Some(node) = run.leave() {
+            write_member(rt, node)?;
+        }
     }
     Ok(())
 }
@@ -92,31 +91,43 @@ fn write_done(rt: &HostRuntime, run: &Run<Kept>, steps: u32) -> io::Result<()> {
     println!(rt; "{steps} steps")
 }
 
-/// Writes what a line's run gives.
-fn write_run(rt: &HostRuntime, line: &str, is_once: bool) -> io::Result<()> {
-    let Some(mut run) = begun(rt.alloc(), 0, When::Before, is_once) else {
-        return println!(rt; "nothing");
+/// Writes what a run gives that follows the line.
+fn write_followed(rt: &HostRuntime, run: &mut Run<Kept>, line: &str) -> io::Result<()> {
+    let steps = if begin(rt.alloc(), run, 0, When::Before) {
+        follow(run, line, usize::MAX)
+    } else {
+        None
     };
-    match follow(&mut run, line, usize::MAX) {
+    match steps {
         Some(steps) => {
-            let written = write_done(rt, &run, steps);
-            write_members(rt, run)?;
-            written
+            write_done(rt, run, steps)?;
+            write_members(rt, run)
         }
         None => println!(rt; "nothing"),
     }
 }
 
+/// Writes what a line's run gives.
+fn write_run(rt: &HostRuntime, line: &str, is_once: bool) -> io::Result<()> {
+    let mut run = Run::new(rt.alloc(), is_once);
+    write_followed(rt, &mut run, line)
+}
+
+/// Writes what becomes of the row's datagram.
+fn write_answers(rt: &HostRuntime, row: &mut Row) -> io::Result<()> {
+    if row.times > 0 {
+        return repeated(rt, row);
+    }
+    each_front(rt, row)?;
+    each_byte(rt, row)
+}
+
 /// Writes what becomes of a datagram.
 fn write_row(rt: &HostRuntime, line: &str) -> io::Result<()> {
-    let Some(mut row) = Row::read(rt.alloc(), line) else {
-        return println!(rt; "no row");
-    };
-    if row.times > 0 {
-        return repeated(rt, &row);
+    match Row::read(rt.alloc(), line) {
+        Some(mut row) => write_answers(rt, &mut row),
+        None => println!(rt; "no row"),
     }
-    each_front(rt, &row)?;
-    each_byte(rt, &mut row)
 }
 
 /// Writes what a line gives.
@@ -131,11 +142,16 @@ fn write_line(rt: &HostRuntime, line: &str) -> io::Result<()> {
     }
 }
 
-fn main(rt: HostRuntime) -> io::Result<()> {
-    let input = io::read_to_string(rt.alloc(), rt.reader())?;
+/// Writes what each line gives.
+fn write_lines(rt: &HostRuntime, input: &str) -> io::Result<()> {
     for line in input.lines() {
         println!(rt; "== {line}")?;
-        write_line(&rt, line)?;
+        write_line(rt, line)?;
     }
     Ok(())
+}
+
+fn main(rt: HostRuntime) -> io::Result<()> {
+    let input = io::read_to_string(rt.alloc(), rt.reader())?;
+    write_lines(&rt, &input)
 }

@@ -17,7 +17,13 @@ pub fn opened<R: Records + Drop>(alloc: Global, me: u8, records: R) -> Option<No
     if m.me() >= m.members() {
         return None;
     }
-    Node::open(alloc, m, records).ok()
+    match Node::open(alloc, m, records) {
+        Ok(node) => Some(node),
+        Err((_, records)) => {
+            drop(records);
+            None
+        }
+    }
 }
 
 /// What a member receives.

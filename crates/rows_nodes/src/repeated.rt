@@ -17,11 +17,8 @@ fn learned(node: &Node<Kept>, positions: u32) -> u32 {
     count
 }
 
-/// Writes what a new node did with them all.
-pub fn repeated(rt: &HostRuntime, row: &Row) -> io::Result<()> {
-    let Some(mut node) = node_of(rt.alloc(), row.reader) else {
-        return println!(rt; "no node");
-    };
+/// Writes what the node does with them all.
+fn write_received(rt: &HostRuntime, row: &Row, node: &mut Node<Kept>) -> io::Result<()> {
     let mut out: Vec<Datagram> = Vec::new(rt.alloc());
     let mut done = 0u32;
     let mut ignored = 0u32;
@@ -35,8 +32,16 @@ pub fn repeated(rt: &HostRuntime, row: &Row) -> io::Result<()> {
     println!(rt;
         "taken {done}, ignored {ignored}, handed out {}, learned {}, front {}, applied {}",
         out.len(),
-        learned(&node, 1_000),
+        learned(node, 1_000),
         node.front(),
         node.applied()
     )
+}
+
+/// Writes what a new node does with them all.
+pub fn repeated(rt: &HostRuntime, row: &Row) -> io::Result<()> {
+    match node_of(rt.alloc(), row.reader) {
+        Some(mut node) => write_received(rt, row, &mut node),
+        None => println!(rt; "no node"),
+    }
 }

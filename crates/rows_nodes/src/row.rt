@@ -14,23 +14,36 @@ pub struct Row {
     pub bytes: Vec<u8>,
 }
 
+/// The member of three with this number, or 255.
+pub fn reader_of(number: &str) -> Option<Membership> {
+    match number.parse::<u8>() {
+        Ok(me) => Membership::new(7, 3, me),
+        Err(_) => None,
+    }
+}
+
+/// How many times a datagram arrives, by a word `x1000`.
+fn times_of(word: &str) -> Option<u32> {
+    word.strip_prefix('x')?.parse::<u32>().ok()
+}
+
 impl Row {
     /// The row of a line, if it is one and there is memory for it.
     pub fn read(alloc: Global, line: &str) -> Option<Row> {
-        let mut words = line.split(' ');
-        let _name = words.next()?;
-        let me = words.next()?.parse::<u8>().ok()?;
-        let reader = Membership::new(7, 3, me)?;
-        let word = words.next()?;
-        let (times, digits) = match word.strip_prefix('x') {
-            Some(number) => (number.parse::<u32>().ok()?, words.next()?),
-            None => (0, word),
+        let (_name, rest) = line.split_once(' ')?;
+        let (me, rest) = rest.split_once(' ')?;
+        let reader = reader_of(me)?;
+        let (times, digits) = match rest.split_once(' ') {
+            Some((word, digits)) => (times_of(word)?, digits),
+            None => (0, rest),
         };
-        let bytes = hex::decode(alloc, digits).ok()?;
-        Some(Row {
-            reader,
-            times,
-            bytes,
-        })
+        match hex::decode(alloc, digits) {
+            Ok(bytes) => Some(Row {
+                reader,
+                times,
+                bytes,
+            }),
+            Err(_) => None,
+        }
     }
 }

@@ -35,7 +35,13 @@ fn command(alloc: Global, digits: &str) -> Option<Command> {
 /// The member, started anew with its record.
 fn reopened<R: Records + Drop>(alloc: Global, node: Node<R>) -> Option<Node<R>> {
     let m = node.membership();
-    Node::open(alloc, m, node.close()).ok()
+    match Node::open(alloc, m, node.close()) {
+        Ok(node) => Some(node),
+        Err((_, records)) => {
+            drop(records);
+            None
+        }
+    }
 }
 
 /// Whether the call is refused as one of a node that has failed, and hands nothing out.
@@ -64,35 +70,31 @@ fn refuses_all<R: Records>(alloc: Global, node: &mut Node<R>, bytes: &[u8]) -> b
         && is_failed(node, Event::Comes(bytes), &mut out)
 }
 
-/// The three members with these records.
-fn members<R: Records + Drop>(alloc: Global, zero: R, one: R, two: R) -> Option<Vec<Node<R>>>
-    requires zero { R.members zero ≡ 3 }
-    requires one { R.members one ≡ 3 }
-    requires two { R.members two ≡ 3 }
-{
-    let mut members = Vec::with_capacity(alloc, 3).ok()?;
-    let _zero = members.push(opened(alloc, 0, zero)?);
-    let _one = members.push(opened(alloc, 1, one)?);
-    let _two = members.push(opened(alloc, 2, two)?);
-    Some(members)
-}
-
 impl<R: Records + Drop> Run<R> {
-    /// Members with these records, and nothing sent. A refused call is made again, or ends the run.
-    pub fn new(alloc: Global, zero: R, one: R, two: R, is_once: bool) -> Option<Run<R>>
-        requires zero { R.members zero ≡ 3 }
-        requires one { R.members one ≡ 3 }
-        requires two { R.members two ≡ 3 }
-    {
-        let sent = Vec::with_capacity(alloc, ROOM).ok()?;
-        let members = members(alloc, zero, one, two)?;
-        Some(Run {
+    /// No members, and nothing sent. A refused call is made again, or ends the run.
+    pub fn new(alloc: Global, is_once: bool) -> Run<R> {
+        Run {
             alloc,
-            members,
-            sent,
+            members: Vec::new(alloc),
+            sent: Vec::new(alloc),
             counters: Counters::new(),
             is_once,
-        })
+        }
+    }
+
+    /// Makes room for three members and what they send. Whether there was memory for that.
+    pub fn make_room(&mut self) -> bool {
+        self.members.reserve(3).is_ok() && self.sent.reserve(ROOM).is_ok()
+    }
+
+    /// The member of this number joins with this record. Whether there was memory for that.
+    pub fn join(&mut self, me: u8, records: R) -> bool
+        requires { R.members records ≡ 3 }
+    {
+        match opened(self.alloc, me, records) {
+            Some(node) => self.members.push(node).is_ok(),
+            None => false,
+        }
     }
 
     /// The member is asked the command.
@@ -149,8 +151,10 @@ impl<R: Records + Drop> Run<R> {
         if member >= self.members.len() {
             return None;
         }
-        let node = reopened(self.alloc, self.members.remove(member))?;
-        self.members.insert(member, node).ok()
+        match reopened(self.alloc, self.members.remove(member)) {
+            Some(node) => self.members.insert(member, node).ok(),
+            None => None,
+        }
     }
 
     /// The member's clock ticks, what it hands out is lost, and it starts anew.
@@ -183,14 +187,23 @@ impl<R: Records + Drop> Run<R> {
 
     /// Whether the first member refuses each further call as one that has failed, and hands nothing out.
     pub fn is_closed(&mut self) -> bool {
-        let Some(node) = self.members.get_mut(0) else {
-            return false;
-        };
-        refuses_all(self.alloc, node, first(&self.sent))
+        match self.members.first_mut() {
+            Some(node) => refuses_all(self.alloc, node, first(&self.sent)),
+            None => false,
+        }
     }
 
-    /// The members, in order, and what was sent.
-    pub fn end(self) -> (Vec<Node<R>>, Vec<Datagram>) {
-        (self.members, self.sent)
+    /// The members, in order.
+    pub fn members(&self) -> &[Node<R>] {
+        &self.members
+    }
+
+    /// The first member leaves, if there is one.
+    pub fn leave(&mut self) -> Option<Node<R>> {
+        if self.members.is_empty() {
+            None
+        } else {
+            Some(self.members.remove(0))
+        }
     }
 }

@@ -6,12 +6,17 @@ use px_model::{Entry, Meta, Slot};
 use px_records::Records;
 use std::io;
 
-/// Writes the messages, each with its number, its addressee and its bytes.
+/// Writes a message with its number, its addressee and its bytes.
+fn write_datagram(rt: &HostRuntime, number: usize, datagram: &Datagram) -> io::Result<()> {
+    let digits = hex::encode(rt.alloc(), datagram.bytes.as_slice())?;
+    println!(rt; "{number} to {}: {digits}", datagram.to)
+}
+
+/// Writes the messages, in order.
 pub fn write_sent(rt: &HostRuntime, sent: &[Datagram]) -> io::Result<()> {
     let mut number = 0usize;
     for datagram in sent {
-        let digits = hex::encode(rt.alloc(), datagram.bytes.as_slice())?;
-        println!(rt; "{number} to {}: {digits}", datagram.to)?;
+        write_datagram(rt, number, datagram)?;
         number = number.saturating_add(1);
     }
     Ok(())
@@ -71,10 +76,11 @@ fn write_meta(rt: &HostRuntime, meta: &Meta, top: u32, end: u32) -> io::Result<(
 
 /// Writes what a record has at a position.
 fn write_position<R: Records>(rt: &HostRuntime, records: &mut R, position: u32) -> io::Result<()> {
-    match records.read_slot(position) {
-        Ok(slot) => write_slot(rt, &slot)?,
-        Err(_) => println!(rt; "no memory")?,
-    }
+    let written = match records.read_slot(position) {
+        Ok(slot) => write_slot(rt, &slot),
+        Err(_) => println!(rt; "no memory"),
+    };
+    written?;
     match records.read_learned(position) {
         Ok(entry) => write_entry(rt, "  learned", entry.as_ref()),
         Err(_) => println!(rt; "no memory"),
@@ -97,9 +103,15 @@ fn write_record<R: Records>(rt: &HostRuntime, records: &mut R) -> io::Result<()>
     Ok(())
 }
 
+/// Writes what a member shows, and what it leaves in this record.
+fn write_left<R: Records>(rt: &HostRuntime, seen: Seen, records: &mut R) -> io::Result<()> {
+    write_seen(rt, seen)?;
+    write_record(rt, records)
+}
+
 /// Writes what the member shows, and what it leaves in its record.
 pub fn write_member<R: Records + Drop>(rt: &HostRuntime, node: Node<R>) -> io::Result<()> {
-    write_seen(rt, look(&node))?;
+    let seen = look(&node);
     let mut records = node.close();
-    write_record(rt, &mut records)
+    write_left(rt, seen, &mut records)
 }

@@ -16,18 +16,17 @@ pub enum Step<'a> {
 impl<'a> Step<'a> {
     /// The step of a word, if it is one.
     pub fn read(word: &'a str) -> Option<Step<'a>> {
-        let mut parts = word.split(':');
-        let first = parts.next()?;
-        if first == "tick" {
-            return Some(Step::Tick(parts.next()?.parse::<usize>().ok()?));
+        let (form, rest) = word.split_once(':').unwrap_or(("", word));
+        let (number, digits) = rest.split_once(':').unwrap_or((rest, ""));
+        let Ok(number) = number.parse::<usize>() else {
+            return None;
+        };
+        match form {
+            "" => Some(Step::Deliver(number)),
+            "ask" => Some(Step::Ask(number, digits)),
+            "tick" => Some(Step::Tick(number)),
+            "stop" => Some(Step::Stop(number)),
+            _ => None,
         }
-        if first == "stop" {
-            return Some(Step::Stop(parts.next()?.parse::<usize>().ok()?));
-        }
-        if first == "ask" {
-            let member = parts.next()?.parse::<usize>().ok()?;
-            return Some(Step::Ask(member, parts.next()?));
-        }
-        Some(Step::Deliver(first.parse::<usize>().ok()?))
     }
 }

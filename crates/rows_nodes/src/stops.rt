@@ -4,7 +4,7 @@ use crate::kept::{Kept, mended};
 use crate::member::look;
 use crate::run::Run;
 use crate::shown::{write_member, write_seen};
-use crate::{begun, follow};
+use crate::{begin, follow};
 use pf_node::Node;
 use px_records::When;
 use std::alloc::Global;
@@ -13,21 +13,32 @@ use std::io;
 /// The first member, started anew with its record, of which no commit fails any more.
 fn reopened(alloc: Global, node: Node<Kept>) -> Option<Node<Kept>> {
     let m = node.membership();
-    Node::open(alloc, m, mended(node.close())).ok()
+    match Node::open(alloc, m, mended(node.close())) {
+        Ok(node) => Some(node),
+        Err((_, records)) => {
+            drop(records);
+            None
+        }
+    }
+}
+
+/// Writes what each member shows.
+fn write_all_seen(rt: &HostRuntime, members: &[Node<Kept>]) -> io::Result<()> {
+    for node in members {
+        write_seen(rt, look(node))?;
+    }
+    Ok(())
 }
 
 /// Writes what the first member's record shows, opened again; and behind a run to its end what each member shows.
-fn write_end(rt: &HostRuntime, run: Run<Kept>, is_whole: bool) -> io::Result<()> {
-    let (mut members, _sent) = run.end();
+fn write_end(rt: &HostRuntime, run: &mut Run<Kept>, is_whole: bool) -> io::Result<()> {
     if is_whole {
-        for node in &members {
-            write_seen(rt, look(node))?;
-        }
+        write_all_seen(rt, run.members())?;
     }
-    if members.is_empty() {
+    let Some(first) = run.leave() else {
         return println!(rt; "nothing");
-    }
-    match reopened(rt.alloc(), members.remove(0)) {
+    };
+    match reopened(rt.alloc(), first) {
         Some(node) => write_member(rt, node),
         None => println!(rt; "wrong"),
     }
@@ -49,16 +60,28 @@ fn write_steps(rt: &HostRuntime, run: &mut Run<Kept>, steps: Option<u32>) -> io:
 
 /// Writes what the first that many steps of a line give, where the first member's `k`-th commit fails. Whether one
 /// did.
-fn write_one(rt: &HostRuntime, line: &str, k: u64, when: When, most: usize) -> io::Result<bool> {
-    let Some(mut run) = begun(rt.alloc(), k, when, true) else {
+fn write_cut(
+    rt: &HostRuntime,
+    run: &mut Run<Kept>,
+    line: &str,
+    k: u64,
+    when: When,
+    most: usize,
+) -> io::Result<bool> {
+    if !begin(rt.alloc(), run, k, when) {
         println!(rt; "nothing")?;
         return Ok(false);
-    };
-    let steps = follow(&mut run, line, most);
-    let written = write_steps(rt, &mut run, steps);
-    let is_whole = k > 0 && !run.counters.is_stopped;
-    write_end(rt, run, is_whole)?;
-    written
+    }
+    let steps = follow(run, line, most);
+    let is_stopped = write_steps(rt, run, steps)?;
+    write_end(rt, run, k > 0 && !is_stopped)?;
+    Ok(is_stopped)
+}
+
+/// The same of a new run.
+fn write_one(rt: &HostRuntime, line: &str, k: u64, when: When, most: usize) -> io::Result<bool> {
+    let mut run = Run::new(rt.alloc(), true);
+    write_cut(rt, &mut run, line, k, when, most)
 }
 
 /// Writes what comes where one commit fails, counted upwards until none does.

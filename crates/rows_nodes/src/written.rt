@@ -1,11 +1,12 @@
 //! A datagram that is read and written again.
 
+use crate::row::reader_of;
 use px_wire::{Membership, decode, encode};
 use std::alloc::Global;
 use std::io;
 
 /// How often a call is made again before it is given up.
-const TRIES: u8 = 20;
+const TRIES: u32 = 20;
 
 /// What a datagram's message is written as.
 enum Written {
@@ -13,7 +14,7 @@ enum Written {
     Same(usize),
     /// As others.
     Other,
-    /// Memory was wanting.
+    /// Memory was out.
     Refused,
     /// It has no message.
     Unread,
@@ -46,32 +47,43 @@ fn bytes_of(alloc: Global, digits: &str, more: usize) -> Option<Vec<u8>> {
 
 /// The reader and the bytes of a line behind its first word.
 fn datagram(alloc: Global, line: &str) -> Option<(Membership, Vec<u8>)> {
-    let mut words = line.split(' ');
-    let _form = words.next()?;
-    let _name = words.next()?;
-    let reader = Membership::new(7, 3, words.next()?.parse::<u8>().ok()?)?;
-    let digits = words.next()?;
-    let more = words.next()?.parse::<usize>().ok()?;
-    Some((reader, bytes_of(alloc, digits, more)?))
+    let (_form, rest) = line.split_once(' ')?;
+    let (_name, rest) = rest.split_once(' ')?;
+    let (me, rest) = rest.split_once(' ')?;
+    let (digits, more) = rest.split_once(' ')?;
+    let reader = reader_of(me)?;
+    let bytes = bytes_of(alloc, digits, more.parse::<usize>().ok()?)?;
+    Some((reader, bytes))
 }
 
-/// Writes what the line's datagram is written as; where memory runs out, it is written again.
+/// The length of what is written for the message of these bytes, and how often memory ran out before: it is written
+/// again then. None where other bytes are written.
+fn length_of(alloc: Global, reader: &Membership, bytes: &[u8]) -> Option<(usize, u32)> {
+    for refused in 0..TRIES {
+        match write_once(alloc, reader, bytes) {
+            Written::Same(length) => return Some((length, refused)),
+            Written::Refused => {}
+            Written::Other | Written::Unread => return None,
+        }
+    }
+    None
+}
+
+/// Writes that a datagram of this length is written as it was read, and how often memory ran out before.
+fn write_same(rt: &HostRuntime, length: usize, refused: u32) -> io::Result<()> {
+    if refused > 0 {
+        println!(rt; "memory: receive 0 tick 0 ask 0 encode {refused} late 0")?;
+    }
+    println!(rt; "{length} bytes as they were read")
+}
+
+/// Writes what the line's datagram is written as.
 pub fn write_again(rt: &HostRuntime, line: &str) -> io::Result<()> {
     let Some((reader, bytes)) = datagram(rt.alloc(), line) else {
         return println!(rt; "nothing");
     };
-    let mut refused = 0u32;
-    for _ in 0..TRIES {
-        match write_once(rt.alloc(), &reader, bytes.as_slice()) {
-            Written::Same(length) => {
-                if refused > 0 {
-                    println!(rt; "memory: receive 0 tick 0 ask 0 encode {refused} late 0")?;
-                }
-                return println!(rt; "{length} bytes as they were read");
-            }
-            Written::Refused => refused = refused.saturating_add(1),
-            Written::Other | Written::Unread => return println!(rt; "wrong"),
-        }
+    match length_of(rt.alloc(), &reader, bytes.as_slice()) {
+        Some((length, refused)) => write_same(rt, length, refused),
+        None => println!(rt; "wrong"),
     }
-    println!(rt; "wrong")
 }

@@ -1,8 +1,9 @@
 //! A worked run of three nodes, each over a store of its own. A command is asked of the first one, which stops as soon
 //! as its next round is recorded, so that what it sends is lost, and starts anew from its store. The same command is
 //! asked again, the clock ticks, and every message is delivered once, in the order in which they were sent.
-ghost use Rattle.std.specs.Prelude.{◌≡◌, IfOk};
+ghost use Rattle.std.specs.Prelude.{◌≡◌, IfSome};
 
+use crate::node::walked;
 use crate::said::say;
 use crate::store::adopted;
 use pf_eval::{parse_packet, show_verdict};
@@ -58,27 +59,6 @@ pub(crate) fn opened<R: Records>(
     Node::open(alloc, m, records)
 }
 
-/// A member of the three with its record.
-fn member<R: Records + Drop>(alloc: Global, me: u8, records: R) -> Result<Node<R>, NodeFault>
-    requires { R.members records ≡ 3 }
-{
-    match opened(alloc, me, records) {
-        Ok(node) => Ok(node),
-        Err((fault, _)) => Err(fault),
-    }
-}
-
-/// The first member's record after it was asked the command and its clock has ticked: what it sent is lost.
-fn stopped<R: Records + Drop>(alloc: Global, records: R) -> Result<R, NodeFault>
-    requires { R.members records ≡ 3 }
-{
-    let mut node = member(alloc, 0, records)?;
-    ask(alloc, &mut node)?;
-    let mut lost = Vec::new(alloc);
-    node.tick(&mut lost)?;
-    Ok(node.close())
-}
-
 /// Messages are on their way.
 fn send(sent: &mut Vec<Datagram>, out: Vec<Datagram>) -> Result<(), NodeFault> {
     for datagram in out {
@@ -126,30 +106,9 @@ fn finish<R: Records>(alloc: Global, nodes: &mut Vec<Node<R>>) -> Result<(), Nod
     }
 }
 
-/// The three nodes, the run being over.
-fn run<R: Records + Drop>(alloc: Global, zero: R, one: R, two: R) -> Result<Vec<Node<R>>, NodeFault>
-    requires zero { R.members zero ≡ 3 }
-    requires one { R.members one ≡ 3 }
-    requires two { R.members two ≡ 3 }
-{
-    let mut nodes = Vec::new(alloc);
-    if nodes.reserve(3).is_err() {
-        return Err(NodeFault::Memory);
-    }
-    let _zero = nodes.push(member(alloc, 0, zero)?);
-    let _one = nodes.push(member(alloc, 1, one)?);
-    let _two = nodes.push(member(alloc, 2, two)?);
-    finish(alloc, &mut nodes)?;
-    Ok(nodes)
-}
-
 /// The record of a member in a store.
-fn record<S: Alter + Drop>(
-    alloc: Global,
-    conn: Connection<S>,
-    node: u8,
-) -> Result<SqlRecords<S>, NodeFault>
-    ensures { IfOk result (λ r. ⟦<SqlRecords<S> as Records>⟧.members r ≡ 3) }
+fn record<S: Alter + Drop>(alloc: Global, conn: Connection<S>, node: u8) -> Option<SqlRecords<S>>
+    ensures { IfSome result (λ r. ⟦<SqlRecords<S> as Records>⟧.members r ≡ 3) }
 {
     let identity = Identity {
         cluster: 7,
@@ -157,23 +116,65 @@ fn record<S: Alter + Drop>(
         node,
     };
     match adopted(alloc, conn, identity) {
-        Ok(records) => Ok(records),
-        Err(_) => Err(NodeFault::BadStore),
+        Ok(records) => Some(records),
+        Err((_, conn)) => {
+            drop(conn);
+            None
+        }
     }
 }
 
-/// The three nodes over empty stores, the run being over.
-fn nodes<S: Alter + Drop>(
+/// The member of the three with this record joins the nodes.
+fn join<R: Records + Drop>(alloc: Global, nodes: &mut Vec<Node<R>>, me: u8, records: R) -> bool
+    requires { R.members records ≡ 3 }
+{
+    match opened(alloc, me, records) {
+        Ok(node) => nodes.push(node).is_ok(),
+        Err((_, records)) => {
+            drop(records);
+            false
+        }
+    }
+}
+
+/// The member with this store joins the nodes.
+fn begin<S: Alter + Drop>(
     alloc: Global,
-    zero: Connection<S>,
-    one: Connection<S>,
-    two: Connection<S>,
-) -> Result<Vec<Node<SqlRecords<S>>>, NodeFault> {
-    let one = record(alloc, one, 1)?;
-    let two = record(alloc, two, 2)?;
-    let left = stopped(alloc, record(alloc, zero, 0)?)?;
-    let zero = record(alloc, left.release(), 0)?;
-    run(alloc, zero, one, two)
+    nodes: &mut Vec<Node<SqlRecords<S>>>,
+    me: u8,
+    conn: Connection<S>,
+) -> bool {
+    match record(alloc, conn, me) {
+        Some(records) => join(alloc, nodes, me, records),
+        None => false,
+    }
+}
+
+/// The first member's store after it was asked the command and its clock has ticked: what it sent is lost. And whether
+/// it was so.
+fn stopped<S: Alter + Drop>(alloc: Global, records: SqlRecords<S>) -> (bool, Connection<S>)
+    requires { ⟦<SqlRecords<S> as Records>⟧.members records ≡ 3 }
+{
+    let mut said = String::new(alloc);
+    let (is_written, records) = walked(alloc, records, "ask, tick", &mut said);
+    let is_done = is_written && said.as_str() == "done 0, done 3, ";
+    drop(said);
+    (is_done, records.release())
+}
+
+/// The first member stops so, and joins the nodes with the store that is left.
+fn begin_again<S: Alter + Drop>(
+    alloc: Global,
+    nodes: &mut Vec<Node<SqlRecords<S>>>,
+    conn: Connection<S>,
+) -> bool {
+    match record(alloc, conn, 0) {
+        Some(records) => {
+            let (is_done, conn) = stopped(alloc, records);
+            begin(alloc, nodes, 0, conn) && is_done
+        }
+        None => false,
+    }
 }
 
 /// Who asked the entry that the node has learned at the first position, and which number it had there.
@@ -205,19 +206,10 @@ fn say_node<R: Records>(alloc: Global, node: &Node<R>, out: &mut String) -> bool
         && say_verdict(alloc, node, out)
 }
 
-/// Does the run over these empty stores, and reports what each node shows then.
-pub(crate) fn say_run<S: Alter + Drop>(
-    alloc: Global,
-    zero: Connection<S>,
-    one: Connection<S>,
-    two: Connection<S>,
-    out: &mut String,
-) -> bool {
-    let Ok(nodes) = nodes(alloc, zero, one, two) else {
-        return say(out, "refused");
-    };
+/// Reports what each node shows.
+fn say_all<R: Records>(alloc: Global, nodes: &[Node<R>], out: &mut String) -> bool {
     let mut is_first = true;
-    for node in &nodes {
+    for node in nodes {
         if !is_first && !say(out, "; ") {
             return false;
         }
@@ -227,4 +219,26 @@ pub(crate) fn say_run<S: Alter + Drop>(
         }
     }
     true
+}
+
+/// Does the run over these empty stores, and reports what each node shows then.
+pub(crate) fn say_run<S: Alter + Drop>(
+    alloc: Global,
+    zero: Connection<S>,
+    one: Connection<S>,
+    two: Connection<S>,
+    out: &mut String,
+) -> bool {
+    let mut nodes = Vec::new(alloc);
+    let is_zero = begin_again(alloc, &mut nodes, zero);
+    let is_one = begin(alloc, &mut nodes, 1, one);
+    let is_two = begin(alloc, &mut nodes, 2, two);
+    let is_over = is_zero && is_one && is_two && finish(alloc, &mut nodes).is_ok();
+    let is_written = if is_over {
+        say_all(alloc, &nodes, out)
+    } else {
+        say(out, "refused")
+    };
+    drop(nodes);
+    is_written
 }

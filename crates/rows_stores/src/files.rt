@@ -1,36 +1,64 @@
 //! Stores in files, and files that aren't stores.
+use crate::fused::opened;
+use crate::place::{Either, Place, Store};
 use crate::said::say;
 use crate::store::{work, work_once};
-use sqlite::{Connection, File, FileStore};
+use sqlite::{Connection, Files, Options, Unknown};
 use std::fs;
+use std::hash::{BuildHasher, RandomState};
 
-/// The database in the file.
-fn opened(rt: &HostRuntime, file: &str) -> Option<Connection<FileStore<File>>> {
-    Connection::open(rt, file).ok()
+/// The database file of this name and its log.
+fn pair(rt: &HostRuntime, file: &str) -> Option<Files<Either>> {
+    match sqlite_std_file::open(rt, file, Unknown) {
+        Ok(Files { log, db }) => Some(Files {
+            log: Place::Real(log),
+            db: Place::Real(db),
+        }),
+        Err(_) => None,
+    }
+}
+
+/// The store in the file, opened as SQLite does it.
+fn connected(rt: &HostRuntime, file: &str) -> Option<Connection<Store>> {
+    let keys = RandomState::new(rt).ok()?;
+    let options = Options::new(keys.hash_one(&0u8));
+    match pair(rt, file) {
+        Some(files) => opened(rt.alloc(), files, options).ok(),
+        None => None,
+    }
 }
 
 /// Opens the store in the file, and does the tasks with it.
 pub(crate) fn in_file(rt: &HostRuntime, file: &str, tasks: &str, out: &mut String) -> bool {
-    match opened(rt, file) {
+    match connected(rt, file) {
         Some(conn) => work_once(rt.alloc(), conn, tasks, out),
         None => say(out, "doesn't open"),
     }
 }
 
+/// Reports whether the file opens while its store is open.
+fn say_again(rt: &HostRuntime, file: &str, out: &mut String) -> bool {
+    let is_open = connected(rt, file).is_some();
+    say(
+        out,
+        if is_open {
+            "; opens; "
+        } else {
+            "; doesn't open; "
+        },
+    )
+}
+
 /// Does the tasks twice with the store in the file, which must not open a second time between.
 pub(crate) fn twice(rt: &HostRuntime, file: &str, tasks: &str, out: &mut String) -> bool {
-    let Some(conn) = opened(rt, file) else {
-        return say(out, "doesn't open");
-    };
-    let (is_written, conn) = work(rt.alloc(), conn, tasks, out);
-    let is_open = opened(rt, file).is_some();
-    let then = if is_open {
-        "; opens; "
-    } else {
-        "; doesn't open; "
-    };
-    let is_written = is_written && say(out, then);
-    work_once(rt.alloc(), conn, tasks, out) && is_written
+    match connected(rt, file) {
+        Some(conn) => {
+            let (is_written, conn) = work(rt.alloc(), conn, tasks, out);
+            let is_written = is_written && say_again(rt, file, out);
+            work_once(rt.alloc(), conn, tasks, out) && is_written
+        }
+        None => say(out, "doesn't open"),
+    }
 }
 
 /// Reports whether something was done with a file.

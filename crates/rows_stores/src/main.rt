@@ -53,6 +53,7 @@ mod cluster;
 mod files;
 mod fused;
 mod node;
+mod place;
 mod record;
 mod said;
 mod step;

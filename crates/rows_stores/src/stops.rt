@@ -129,16 +129,17 @@ fn judged(run: Run, said: &str, counted: &str, again: &str) -> Came {
 /// What a stop leaves. None where memory runs out.
 fn attempted(alloc: Global, run: Run, held: &Held, stop: Stop) -> Option<Came> {
     let (mut said, mut found) = (String::new(alloc), String::new(alloc));
-    let left = attempt(alloc, held, stop, run.tasks, &mut said)?;
-    let is_spent = left.is_spent;
-    let _left = attempt(alloc, &left, NEVER, run.again, &mut found)?;
+    let left = attempt(alloc, held, stop, run.tasks, &mut said);
+    let last = attempt(alloc, &left, NEVER, run.again, &mut found);
     let (counted, again) = found.as_str().split_once("; ").unwrap_or(("", ""));
     let came = judged(run, &said, counted, again);
-    Some(if is_spent && came == Came::Whole {
-        Came::Stopped
+    if !left.is_whole || !last.is_whole {
+        None
+    } else if left.is_spent && came == Came::Whole {
+        Some(Came::Stopped)
     } else {
-        came
-    })
+        Some(came)
+    }
 }
 
 /// The stop after that many calls on one of the files.
@@ -213,13 +214,23 @@ fn parts_of<'a>(alloc: Global, line: &'a str) -> Result<Vec<&'a str>, AllocError
 }
 
 /// The files that hold the store of these statements.
-fn held(alloc: Global, sql: &str) -> Option<Held> {
+fn held(alloc: Global, sql: &str) -> Held {
     let none = Held::new(alloc);
     if sql.is_empty() {
-        return Some(none);
+        return none;
     }
     let mut said = String::new(alloc);
     attempt(alloc, &none, NEVER, sql, &mut said)
+}
+
+/// What the trials of a run over the store of these statements give.
+fn tried(alloc: Global, run: Run, sql: &str) -> Option<Trials> {
+    let held = held(alloc, sql);
+    if held.is_whole {
+        trial(alloc, run, &held)
+    } else {
+        None
+    }
 }
 
 /// What the trials of a line give, and how many changes it has.
@@ -227,14 +238,14 @@ fn found(alloc: Global, work: Work, before: &str, line: &str) -> Option<(Trials,
     let (sql, rest) = line.split_once(" | ")?;
     let parts = parts_of(alloc, rest).ok()?;
     let tasks = tasks(alloc, work, &parts).ok()?;
-    let held = held(alloc, sql)?;
     let run = Run {
         before,
         parts: &parts,
         tasks: &tasks,
         again: work.again,
     };
-    Some((trial(alloc, run, &held)?, run.changes()))
+    let trials = tried(alloc, run, sql)?;
+    Some((trials, run.changes()))
 }
 
 /// Reports what was found of that many changes.

@@ -2,11 +2,8 @@ use crate::bench::Bench;
 use node_udp::{BindFault, UdpWire, parse_address};
 use pf_addr::Addr;
 use px_transport::Wire;
-use std::alloc::Global;
 use std::cell::Cell;
-use std::net::{Net, UdpSocket};
 use std::panic::Expect;
-use std::time::Clock;
 
 /// The front of a datagram of a client: its sender is 255.
 const ASK: [u8; 13] = [0x50, 0x46, 0x58, 0x52, 1, 0, 0, 0, 7, 2, 255, 0, 8];
@@ -16,17 +13,6 @@ const OF_ONE: [u8; 13] = [0x50, 0x46, 0x58, 0x52, 1, 0, 0, 0, 7, 2, 1, 0, 8];
 
 /// Bytes that are no datagram, with 255 where one has its sender.
 const NO_DATAGRAM: [u8; 13] = [0, 0, 0, 0, 0, 0, 0, 0, 0, 0, 255, 0, 8];
-
-/// The wire of a member, or of a client, with a wait of that number of milliseconds, at least one.
-fn bound<R: Net + Clock + Copy>(
-    rt: &R,
-    alloc: Global,
-    addresses: &[&str],
-    me: u8,
-    wait_ms: u32,
-) -> Result<UdpWire<UdpSocket, R>, BindFault> {
-    UdpWire::bind(rt, alloc, addresses, me, wait_ms.max(1))
-}
 
 /// Whether the room begins with the bytes, if any came, and is as it was behind them: 7 everywhere.
 fn holds(room: &[u8], came: Option<usize>, wanted: &[u8]) -> bool {
@@ -98,15 +84,15 @@ fn talk<W: Wire>(one: &mut W, other: &mut W, client: &mut W) -> bool {
 #[test]
 fn datagrams_go_between_members_and_who_asks(rt: HostRuntime) {
     let members = ["127.0.0.1:39471", "127.0.0.1:39472"];
-    let mut one = bound(&rt, rt.alloc(), &members, 0, 10).expect(&rt, "a socket");
-    let mut other = bound(&rt, rt.alloc(), &members, 1, 10).expect(&rt, "a socket");
-    let mut client = bound(&rt, rt.alloc(), &members[..1], 255, 10).expect(&rt, "a socket");
+    let mut one = UdpWire::bind(&rt, rt.alloc(), &members, 0, 10).expect(&rt, "a socket");
+    let mut other = UdpWire::bind(&rt, rt.alloc(), &members, 1, 10).expect(&rt, "a socket");
+    let mut client = UdpWire::bind(&rt, rt.alloc(), &members[..1], 255, 10).expect(&rt, "a socket");
     assert!(rt; talk(&mut one, &mut other, &mut client));
 }
 
 /// Whether the member with this number gets no socket.
 fn is_refused(rt: HostRuntime, members: &[&str], me: u8) -> bool {
-    match bound(&rt, rt.alloc(), members, me, 10) {
+    match UdpWire::bind(&rt, rt.alloc(), members, me, 10) {
         Ok(_) => false,
         Err(fault) => fault == BindFault::NoSocket,
     }
@@ -134,14 +120,14 @@ fn an_address_has_a_port(rt: HostRuntime) {
     for text in &NO_ADDRESSES {
         assert!(rt; is_refused(rt, &["127.0.0.1:39473", text], 0), "{text}");
     }
-    let wire = bound(&rt, rt.alloc(), &["127.0.0.1:39473"], 0, 10).expect(&rt, "a socket");
+    let wire = UdpWire::bind(&rt, rt.alloc(), &["127.0.0.1:39473"], 0, 10).expect(&rt, "a socket");
     assert!(rt; wire.failures() == 0);
 }
 
 #[test]
 fn two_members_do_not_share_an_address(rt: HostRuntime) {
     let members = ["127.0.0.1:39474", "127.0.0.1:39474"];
-    let _one = bound(&rt, rt.alloc(), &members, 0, 10).expect(&rt, "a socket");
+    let _one = UdpWire::bind(&rt, rt.alloc(), &members, 0, 10).expect(&rt, "a socket");
     assert!(rt; is_refused(rt, &members, 1));
 }
 
@@ -165,8 +151,8 @@ fn a_wait_ends_whatever_comes(rt: HostRuntime) {
         now: &now,
         step,
     };
-    let mut one = bound(&bench, rt.alloc(), &members, 0, 1000).expect(&rt, "a socket");
-    let mut other = bound(&rt, rt.alloc(), &members, 1, 10).expect(&rt, "a socket");
+    let mut one = UdpWire::bind(&bench, rt.alloc(), &members, 0, 1000).expect(&rt, "a socket");
+    let mut other = UdpWire::bind(&rt, rt.alloc(), &members, 1, 10).expect(&rt, "a socket");
     assert!(rt; ends(&mut one, &mut other));
 }
 
@@ -206,10 +192,10 @@ fn is_received(rt: HostRuntime, row: &Slow) -> bool {
         now: &now,
         step,
     };
-    let Ok(mut one) = bound(&bench, rt.alloc(), members, 0, 640) else {
+    let Ok(mut one) = UdpWire::bind(&bench, rt.alloc(), members, 0, 640) else {
         return false;
     };
-    let Ok(mut other) = bound(&rt, rt.alloc(), members, 1, 10) else {
+    let Ok(mut other) = UdpWire::bind(&rt, rt.alloc(), members, 1, 10) else {
         return false;
     };
     heard(&mut one, &mut other, &now, *millis) == *wanted
@@ -236,10 +222,10 @@ fn goes_on(rt: HostRuntime, members: &[&str], step: Option<u64>) -> bool {
         now: &now,
         step,
     };
-    let Ok(mut one) = bound(&bench, rt.alloc(), members, 0, 10) else {
+    let Ok(mut one) = UdpWire::bind(&bench, rt.alloc(), members, 0, 10) else {
         return false;
     };
-    let Ok(mut other) = bound(&rt, rt.alloc(), members, 1, 10) else {
+    let Ok(mut other) = UdpWire::bind(&rt, rt.alloc(), members, 1, 10) else {
         return false;
     };
     goes_back(&mut one, &mut other, &now)
@@ -269,8 +255,8 @@ fn each_receive_of_a_client_waits(rt: HostRuntime) {
         now: &now,
         step,
     };
-    let mut one = bound(&rt, rt.alloc(), &members, 0, 10).expect(&rt, "a socket");
-    let mut client = bound(&bench, rt.alloc(), &members, 255, 10).expect(&rt, "a socket");
+    let mut one = UdpWire::bind(&rt, rt.alloc(), &members, 0, 10).expect(&rt, "a socket");
+    let mut client = UdpWire::bind(&bench, rt.alloc(), &members, 255, 10).expect(&rt, "a socket");
     assert!(rt; answers(&mut one, &mut client));
 }
 
@@ -290,8 +276,8 @@ fn polls<W: Wire>(one: &mut W, other: &mut W) -> bool {
 #[test]
 fn a_poll_takes_what_has_come_and_waits_for_none(rt: HostRuntime) {
     let members = ["127.0.0.1:39461", "127.0.0.1:39462"];
-    let mut one = bound(&rt, rt.alloc(), &members, 0, 60_000).expect(&rt, "a socket");
-    let mut other = bound(&rt, rt.alloc(), &members, 1, 10).expect(&rt, "a socket");
+    let mut one = UdpWire::bind(&rt, rt.alloc(), &members, 0, 60_000).expect(&rt, "a socket");
+    let mut other = UdpWire::bind(&rt, rt.alloc(), &members, 1, 10).expect(&rt, "a socket");
     assert!(rt; polls(&mut one, &mut other));
 }
 
@@ -326,9 +312,9 @@ fn takes<W: Wire>(one: &mut W, other: &mut W, stranger: &mut W) -> bool {
 fn a_stranger_is_dropped_unless_it_asks(rt: HostRuntime) {
     let members = ["127.0.0.1:39463", "127.0.0.1:39464"];
     let elsewhere = ["127.0.0.1:39463", "127.0.0.1:39465"];
-    let mut one = bound(&rt, rt.alloc(), &members, 0, 1000).expect(&rt, "a socket");
-    let mut other = bound(&rt, rt.alloc(), &members, 1, 10).expect(&rt, "a socket");
-    let mut stranger = bound(&rt, rt.alloc(), &elsewhere, 1, 10).expect(&rt, "a socket");
+    let mut one = UdpWire::bind(&rt, rt.alloc(), &members, 0, 1000).expect(&rt, "a socket");
+    let mut other = UdpWire::bind(&rt, rt.alloc(), &members, 1, 10).expect(&rt, "a socket");
+    let mut stranger = UdpWire::bind(&rt, rt.alloc(), &elsewhere, 1, 10).expect(&rt, "a socket");
     let are_dropped = drops(&mut one, &mut stranger) && one.strangers() == 3;
     let are_accepted = takes(&mut one, &mut other, &mut stranger) && one.strangers() == 3;
     assert!(rt; are_dropped && are_accepted);
@@ -368,11 +354,11 @@ fn sends<W: Wire>(from: &mut W, one: &mut W, bytes: &[u8]) -> bool {
 #[test]
 fn datagrams_go_over_ipv6(rt: HostRuntime) {
     let members = ["[::1]:39466", "[::1]:39467"];
-    let Ok(mut one) = bound(&rt, rt.alloc(), &members, 0, 1000) else {
+    let Ok(mut one) = UdpWire::bind(&rt, rt.alloc(), &members, 0, 1000) else {
         return;
     };
-    let mut other = bound(&rt, rt.alloc(), &members, 1, 10).expect(&rt, "a socket");
-    let mut client = bound(&rt, rt.alloc(), &members[..1], 255, 10).expect(&rt, "a socket");
+    let mut other = UdpWire::bind(&rt, rt.alloc(), &members, 1, 10).expect(&rt, "a socket");
+    let mut client = UdpWire::bind(&rt, rt.alloc(), &members[..1], 255, 10).expect(&rt, "a socket");
     let is_heard = sends(&mut other, &mut one, b"hello") && sends(&mut client, &mut one, &ASK);
     assert!(rt; is_heard && one.strangers() == 0);
 }
@@ -381,9 +367,9 @@ fn datagrams_go_over_ipv6(rt: HostRuntime) {
 #[test]
 fn a_name_is_looked_up(rt: HostRuntime) {
     let members = ["localhost:39468", "127.0.0.1:39469"];
-    let Ok(mut one) = bound(&rt, rt.alloc(), &members, 0, 1000) else {
+    let Ok(mut one) = UdpWire::bind(&rt, rt.alloc(), &members, 0, 1000) else {
         return;
     };
-    let mut client = bound(&rt, rt.alloc(), &members[..1], 255, 10).expect(&rt, "a socket");
+    let mut client = UdpWire::bind(&rt, rt.alloc(), &members[..1], 255, 10).expect(&rt, "a socket");
     assert!(rt; sends(&mut client, &mut one, &ASK));
 }

@@ -1,173 +1,145 @@
 //! Members that hear each other's messages when they are delivered, one by one.
-use crate::member::{Member, asked, spelling};
-use crate::shown::Shown;
+use crate::member::Member;
+use crate::shown::push_message;
 use px_core::Sends;
-use px_model::{Entry, EntryView, Event, Message};
+use px_model::{Entry, Event, Message};
 use std::alloc::Global;
-use std::test::Fail;
 
 /// The members, and all that they sent, in order.
 #[derive(Drop)]
 pub(crate) struct Bus {
     alloc: Global,
-    count: u8,
-    pub(crate) members: Vec<Member>,
+    members: Vec<Member>,
+    /// Who sent a message, to whom, and its place.
     pub(crate) sent: Vec<(u8, u8, usize)>,
     messages: Vec<Message<Entry>>,
 }
 
-/// The message of this place arrives at the member: what that sends.
+/// What the message sends where it arrives at the member. None where there is no such, or it is refused.
 fn delivered(
     members: &mut [Member],
     messages: &[Message<Entry>],
     sender: u8,
     to: u8,
     place: usize,
-) -> Result<Sends, Fail> {
-    let Some(message) = messages.get(place) else {
-        return Err(Fail::new("no such message"));
-    };
-    let Some(member) = members.get_mut(to as usize) else {
-        return Err(Fail::new("no such member"));
-    };
+) -> Option<Sends> {
+    let message = messages.get(place)?;
+    let member = members.get_mut(to as usize)?;
     let event = Event::Comes {
         sender,
         message: message.view(),
     };
-    member.step(&event)
+    member.take(&event).ok()
 }
 
 impl Bus {
-    pub(crate) fn new(alloc: Global, members: u8) -> Result<Bus, Fail> {
-        let mut all = Vec::new(alloc);
-        for me in 0..members {
-            let member = Member::new(alloc, members, me)?;
-            all.push(member)?;
-        }
-        Ok(Bus {
+    /// A bus without members.
+    pub(crate) fn new(alloc: Global) -> Bus {
+        Bus {
             alloc,
-            count: members,
-            members: all,
+            members: Vec::new(alloc),
             sent: Vec::new(alloc),
             messages: Vec::new(alloc),
-        })
+        }
     }
 
-    pub(crate) fn member(&mut self, member: u8) -> Result<&mut Member, Fail> {
-        let Some(member) = self.members.get_mut(member as usize) else {
-            return Err(Fail::new("no such member"));
-        };
-        Ok(member)
+    /// Members join, that many. Whether they do.
+    pub(crate) fn join(&mut self, members: u8) -> bool {
+        for me in 0..members {
+            let has_joined = match Member::new(self.alloc, members, me) {
+                Some(member) => self.members.push(member).is_ok(),
+                None => false,
+            };
+            if !has_joined {
+                return false;
+            }
+        }
+        true
+    }
+
+    pub(crate) fn member(&mut self, member: u8) -> Option<&mut Member> {
+        self.members.get_mut(member as usize)
     }
 
     pub(crate) fn front(&self, member: u8) -> Option<u32> {
         self.members.get(member as usize).map(|m| m.core.front())
     }
 
-    /// The message of this place goes to one.
-    fn send_one(&mut self, sender: u8, to: u8, place: usize) -> Result<(), Fail> {
-        self.sent.push((sender, to, place))?;
-        Ok(())
-    }
-
-    /// The message of this place goes to every member.
-    fn send_all(&mut self, sender: u8, place: usize) -> Result<(), Fail> {
-        for to in 0..self.count {
-            self.send_one(sender, to, place)?;
+    /// The message of this place goes to every member. Whether there was memory for it.
+    fn send_all(&mut self, sender: u8, place: usize) -> bool {
+        for to in 0..u8::try_from(self.members.len()).unwrap_or(0) {
+            if self.sent.push((sender, to, place)).is_err() {
+                return false;
+            }
         }
-        Ok(())
+        true
     }
 
-    /// The message is kept: its place.
-    fn keep(&mut self, message: Message<Entry>) -> Result<usize, Fail> {
+    /// What a member sends goes onto the bus. Whether there was memory for it.
+    fn send(&mut self, sender: u8, sends: Sends) -> bool {
         let place = self.messages.len();
-        self.messages.push(message)?;
-        Ok(place)
-    }
-
-    fn send(&mut self, sender: u8, sends: Sends) -> Result<(), Fail> {
         match sends {
-            Sends::Nothing => Ok(()),
+            Sends::Nothing => true,
             Sends::One { to, message } => {
-                let place = self.keep(message)?;
-                self.send_one(sender, to, place)
+                self.messages.push(message).is_ok() && self.sent.push((sender, to, place)).is_ok()
             }
             Sends::All { message } => {
-                let place = self.keep(message)?;
-                self.send_all(sender, place)
+                self.messages.push(message).is_ok() && self.send_all(sender, place)
             }
         }
     }
 
-    /// The event arrives at the member, and what it sends goes onto the bus.
-    fn happen(&mut self, member: u8, event: &Event) -> Result<(), Fail> {
-        let sends = self.member(member)?.step(event)?;
-        self.send(member, sends)
-    }
-
-    pub(crate) fn ask(&mut self, member: u8, command: u8) -> Result<(), Fail> {
-        let bytes = spelling(0, 0, command);
-        let event = asked(&bytes)?;
-        self.happen(member, &event)
-    }
-
-    pub(crate) fn tick(&mut self, member: u8) -> Result<(), Fail> {
-        self.happen(member, &Event::Ticks)
-    }
-
-    /// Who sent the message of this number, to whom, and its place.
-    fn way(&self, number: usize) -> Result<(u8, u8, usize), Fail> {
-        match self.sent.get(number) {
-            Some(way) => Ok(*way),
-            None => Err(Fail::new("no such message")),
+    /// The event arrives at the member, and what it sends goes onto the bus. Whether it isn't refused.
+    pub(crate) fn happen(&mut self, member: u8, event: &Event) -> bool {
+        let sends = match self.member(member) {
+            Some(member) => member.take(event).ok(),
+            None => None,
+        };
+        match sends {
+            Some(sends) => self.send(member, sends),
+            None => false,
         }
     }
 
-    /// The message of this number comes to its addressee.
-    pub(crate) fn deliver(&mut self, number: usize) -> Result<(), Fail> {
-        let (sender, to, place) = self.way(number)?;
-        let sends = delivered(&mut self.members, &self.messages, sender, to, place)?;
-        self.send(to, sends)
-    }
-
-    /// The line of the message of this number.
-    pub(crate) fn line(&self, number: usize) -> Result<String, Fail> {
-        let (sender, to, place) = self.way(number)?;
-        let Some(message) = self.messages.get(place) else {
-            return Err(Fail::new("no such message"));
+    /// The message of this number comes to its addressee. Whether it isn't refused.
+    fn deliver(&mut self, number: usize) -> bool {
+        let Some((sender, to, place)) = self.sent.get(number).copied() else {
+            return false;
         };
-        Ok(format!(in self.alloc; "{sender}>{to} {}", Shown(message))?)
-    }
-}
-
-impl Bus {
-    /// Whether the message of this number has that line.
-    pub(crate) fn has_line(&self, number: usize, wanted: &str) -> Result<bool, Fail> {
-        let line = self.line(number)?;
-        Ok(line.as_str() == wanted)
+        match delivered(&mut self.members, &self.messages, sender, to, place) {
+            Some(sends) => self.send(to, sends),
+            None => false,
+        }
     }
 
     /// The messages of these numbers, a blank between, come to their addressees, in that order.
-    pub(crate) fn deliver_all(&mut self, numbers: &str) -> Result<(), Fail> {
+    pub(crate) fn deliver_all(&mut self, numbers: &str) -> bool {
         for number in numbers.split(' ') {
-            self.deliver(number.parse::<usize>().unwrap_or(usize::MAX))?;
+            if !self.deliver(number.parse::<usize>().unwrap_or(usize::MAX)) {
+                return false;
+            }
         }
-        Ok(())
+        true
     }
 
-    /// A message of nobody on the bus arrives at the first member, and what that sends goes onto it.
-    pub(crate) fn receive(&mut self, sender: u8, message: Message<EntryView>) -> Result<(), Fail> {
-        self.happen(0, &Event::Comes { sender, message })
+    /// Whether the message of this number has that line.
+    pub(crate) fn has_line(&self, number: usize, wanted: &str) -> bool {
+        let Some((sender, to, place)) = self.sent.get(number) else {
+            return false;
+        };
+        let Some(message) = self.messages.get(*place) else {
+            return false;
+        };
+        let mut line = String::new(self.alloc);
+        write!(line, "{sender}>{to} ").is_ok()
+            && push_message(&mut line, message).is_ok()
+            && line.as_str() == wanted
     }
 
-    /// The entry that the member has learned at the position.
-    fn learned(&self, member: u8, position: u32) -> Option<&Entry> {
-        self.members.get(member as usize)?.core.learned(position)
-    }
-
-    /// Who asked that entry, and its number and length. None where there is none.
+    /// Who asked the entry that the member has learned at the position, and its number and length. None where there is
+    /// none.
     pub(crate) fn named(&self, member: u8, position: u32) -> Option<(u8, u64, usize)> {
-        let entry = self.learned(member, position)?;
+        let entry = self.members.get(member as usize)?.core.learned(position)?;
         Some((entry.origin(), entry.number(), entry.bytes().len()))
     }
 }

@@ -1,19 +1,20 @@
+//! Three members over UDP: what a client asks is applied by each, and lost datagrams change no outcome.
 ghost use Rattle.std.specs.Prelude.{◌<◌};
 
-use crate::listing::listing;
-use crate::members::{ask, ask_load, member};
-use node_loop::{Room, turn};
+use crate::members::{ask, ask_load, member, room};
+use crate::parties::{Party, all_agree, apply, turns};
+use node_loop::Room;
 use node_udp::UdpWire;
-use pf_addr::parse_prefix;
+use pf_addr::{Prefix, parse_prefix};
 use pf_entry::TableName;
-use pf_eval::{parse_packet, show_verdict};
-use pf_node::{Command, Membership, Node};
+use pf_eval::{Packet, parse_packet, show_verdict};
+use pf_node::{Command, Node};
 use pf_rules::{Path, TableEntry};
 use px_records::MemoryRecords;
 use px_transport::{FaultyWire, Wire};
 use std::alloc::Global;
 use std::net::UdpSocket;
-use std::test::Fail;
+use std::panic::Expect;
 
 const PACKET: &str = "in on em0 proto tcp from 10.0.0.1 port 4000 to 192.0.2.1 port 22 flags S";
 
@@ -37,232 +38,197 @@ const ASKED: [u8; 29] = [
     0, 0,
 ];
 
-/// A member with its wire.
-#[derive(Drop)]
-struct Party {
-    node: Node<MemoryRecords>,
-    wire: FaultyWire<UdpWire<UdpSocket, HostRuntime>>,
-}
+/// A member over UDP, of whose datagrams some are lost.
+type Member = Party<FaultyWire<UdpWire<UdpSocket, HostRuntime>>>;
 
-/// The member with this number, of whose wire each `k`-th receive and send fails.
-fn joined(rt: &HostRuntime, members: &[&str], me: u8, k: u64, wait: u32) -> Result<Party, Fail>
+/// Whether the member with this number joins the others. Each `k`-th receive and send of its wire fails.
+fn joins(
+    rt: &HostRuntime,
+    parties: &mut Vec<Member>,
+    members: &[&str],
+    me: u8,
+    k: u64,
+    wait: u32,
+) -> bool
     requires faulty { 0 < k }
     requires wait { 0 < wait }
 {
-    let wire = UdpWire::bind(rt, rt.alloc(), members, me, wait)?;
-    let node = member(rt.alloc(), 3, me)?;
-    Ok(Party {
-        node,
-        wire: FaultyWire::new(wire, k),
-    })
-}
-
-/// All three of them.
-fn grouped(rt: &HostRuntime, members: &[&str], k: u64, wait: u32) -> Result<Vec<Party>, Fail>
-    requires faulty { 0 < k }
-    requires wait { 0 < wait }
-{
-    let mut parties = Vec::new(rt.alloc());
-    for me in 0..3u8 {
-        parties.push(joined(rt, members, me, k, wait)?)?;
-    }
-    Ok(parties)
-}
-
-/// The member with this number.
-fn party_of(parties: &mut [Party], me: usize) -> Result<&mut Party, Fail> {
-    let Some(party) = parties.get_mut(me) else {
-        return Err(Fail::new("no member"));
+    let Ok(below) = UdpWire::bind(rt, rt.alloc(), members, me, wait) else {
+        return false;
     };
-    Ok(party)
-}
-
-/// One turn of a member.
-fn tick_timer(parties: &mut [Party], me: usize, room: &mut Room) -> Result<(), Fail> {
-    let party = party_of(parties, me)?;
-    turn(&mut party.node, &mut party.wire, room)?;
-    Ok(())
-}
-
-/// The node's verdict for the packet.
-fn verdict_of(alloc: Global, node: &Node<MemoryRecords>) -> Result<String, Fail> {
-    let packet = parse_packet(alloc, PACKET)?;
-    let line = show_verdict(alloc, &node.verdict(&packet));
-    drop(packet);
-    Ok(line?)
-}
-
-/// Whether each node shows that the load is applied.
-fn all_block(alloc: Global, parties: &[Party]) -> Result<bool, Fail> {
-    for party in parties {
-        let line = verdict_of(alloc, &party.node)?;
-        let is_there = party.node.front() == 1 && party.node.applied() == 1;
-        if !is_there || line.as_str() != "block drop @0" {
-            return Ok(false);
-        }
+    let wire = FaultyWire::new(below, k);
+    match member(rt.alloc(), 3, me) {
+        Some(node) => parties.push(Party { node, wire }).is_ok(),
+        None => false,
     }
-    Ok(parties.len() == 3)
 }
 
-/// Whether the first member answers an Ask as accepted.
-fn is_asked<W: Wire>(parties: &mut [Party], client: &mut W, room: &mut Room) -> Result<bool, Fail> {
-    let is_sent = client.send(0, &ASK);
-    tick_timer(parties, 0, room)?;
-    let mut answer = [0u8; 29];
-    let came = client.recv(&mut answer);
-    Ok(is_sent && came == Some(29) && answer == ASKED)
-}
-
-/// Whether all have applied one command.
-fn have_applied(parties: &[Party]) -> bool {
-    for party in parties {
-        if party.node.applied() != 1 {
+/// Whether all three do.
+fn all_join(
+    rt: &HostRuntime,
+    parties: &mut Vec<Member>,
+    members: &[&str],
+    k: u64,
+    wait: u32,
+) -> bool
+    requires faulty { 0 < k }
+    requires wait { 0 < wait }
+{
+    for me in 0..3u8 {
+        if !joins(rt, parties, members, me, k, wait) {
             return false;
         }
     }
     true
 }
 
-/// Up to 200 turns of each, until all have applied the load.
-fn spread(parties: &mut [Party], room: &mut Room) -> Result<(), Fail> {
-    for _ in 0..200 {
-        for me in 0..3usize {
-            tick_timer(parties, me, room)?;
-        }
-        if have_applied(parties) {
-            break;
-        }
-    }
-    Ok(())
-}
-
-/// The buffers that they share: what they hold of one of them nobody uses in a turn.
-fn room(alloc: Global) -> Result<Room, Fail> {
-    match Membership::new(7, 3, 0) {
-        Some(m) => Ok(Room::new(alloc, &m, true)?),
-        None => Err(Fail::new("no member")),
+/// Whether that is the node's verdict for the packet.
+fn has_verdict(alloc: Global, node: &Node<MemoryRecords>, packet: &Packet, wanted: &str) -> bool {
+    match show_verdict(alloc, &node.verdict(packet)) {
+        Ok(line) => line.as_str() == wanted,
+        Err(_) => false,
     }
 }
 
-/// Whether a load that is asked from outside is applied by each.
-fn is_spread<W: Wire>(alloc: Global, parties: &mut [Party], client: &mut W) -> Result<bool, Fail> {
-    let mut room = room(alloc)?;
-    if !is_asked(parties, client, &mut room)? {
-        return Ok(false);
+/// Whether the node shows that the load is applied.
+fn blocks(alloc: Global, node: &Node<MemoryRecords>) -> bool {
+    match parse_packet(alloc, PACKET) {
+        Ok(packet) => {
+            node.front() == 1
+                && node.applied() == 1
+                && has_verdict(alloc, node, &packet, "block drop @0")
+        }
+        Err(_) => false,
     }
-    spread(parties, &mut room)?;
-    all_block(alloc, parties)
 }
+
+/// Whether all three show it.
+fn all_block(alloc: Global, parties: &[Member]) -> bool {
+    match parties {
+        [zero, one, two] => {
+            blocks(alloc, &zero.node) && blocks(alloc, &one.node) && blocks(alloc, &two.node)
+        }
+        _ => false,
+    }
+}
+
+/// Whether the first member answers an Ask as accepted.
+fn is_asked<W: Wire>(parties: &mut [Member], client: &mut W, room: &mut Room) -> bool {
+    let is_sent = client.send(0, &ASK) && turns(parties, 0, room);
+    let mut answer = [0u8; 29];
+    is_sent && client.recv(&mut answer) == Some(29) && answer == ASKED
+}
+
+/// Whether a load that the client asks is applied by each.
+fn applies<W: Wire>(
+    parties: &mut [Member],
+    client: &mut W,
+    room: &mut Room,
+    alloc: Global,
+) -> bool {
+    is_asked(parties, client, room) && apply(parties, room, 1) && all_block(alloc, parties)
+}
+
+/// The members' addresses.
+static MEMBERS: [&str; 3] = ["127.0.0.1:39481", "127.0.0.1:39482", "127.0.0.1:39483"];
 
 #[test]
-fn loopback(rt: HostRuntime) -> Result<(), Fail> {
-    let members = ["127.0.0.1:39481", "127.0.0.1:39482", "127.0.0.1:39483"];
-    let mut client = UdpWire::bind(&rt, rt.alloc(), &members[..1], 255, 200)?;
-    let mut parties = grouped(&rt, &members, u64::MAX, 10)?;
-    let is_there = is_spread(rt.alloc(), &mut parties, &mut client);
-    drop(parties);
-    drop(client);
-    assert!(rt; is_there?);
-    Ok(())
+fn loopback(rt: HostRuntime) {
+    let alloc = rt.alloc();
+    let mut client = UdpWire::bind(&rt, alloc, &MEMBERS[..1], 255, 200).expect(&rt, "a socket");
+    let mut room = room(alloc).expect(&rt, "memory");
+    let mut parties = Vec::new(alloc);
+    assert!(rt; all_join(&rt, &mut parties, &MEMBERS, u64::MAX, 10));
+    assert!(rt; applies(&mut parties, &mut client, &mut room, alloc));
 }
 
-/// A list of the address alone.
-fn only(alloc: Global, address: &str) -> Result<Vec<TableEntry>, Fail> {
-    let mut items = Vec::new(alloc);
-    items.push(TableEntry {
-        negated: false,
-        prefix: parse_prefix(address)?,
-    })?;
-    Ok(items)
-}
-
-/// The node is asked that the main ruleset's table `t` hold the address alone.
-fn ask_change(alloc: Global, node: &mut Node<MemoryRecords>, address: &str) -> Result<(), Fail> {
-    let addresses = only(alloc, address)?;
-    let Some(table) = TableName::new(alloc, b"t")? else {
-        return Err(Fail::new("no name"));
+/// Whether the node is asked that the main ruleset's table `t` hold the address alone.
+fn ask_change(alloc: Global, node: &mut Node<MemoryRecords>, prefix: Prefix) -> bool {
+    let Ok(Some(table)) = TableName::new(alloc, b"t") else {
+        return false;
     };
-    let command = Command::Replace {
-        path: Path::main(alloc),
-        table,
-        addresses,
+    let mut addresses = Vec::new(alloc);
+    let is_made = addresses
+        .push(TableEntry {
+            negated: false,
+            prefix,
+        })
+        .is_ok();
+    let path = Path::main(alloc);
+    is_made
+        && ask(
+            node,
+            Command::Replace {
+                path,
+                table,
+                addresses,
+            },
+        )
+}
+
+/// Whether each member is asked a command that changes what the others make.
+fn ask_all(alloc: Global, parties: &mut [Member]) -> bool {
+    let Ok(prefix) = parse_prefix("0.0.0.3") else {
+        return false;
     };
-    ask(node, command)
-}
-
-/// Each member is asked a command that changes what the others make.
-fn ask_all(alloc: Global, parties: &mut [Party]) -> Result<(), Fail> {
-    ask_load(alloc, &mut party_of(parties, 0)?.node, RULES.as_bytes())?;
-    ask_load(alloc, &mut party_of(parties, 1)?.node, ANCHOR.as_bytes())?;
-    ask_change(alloc, &mut party_of(parties, 2)?.node, "0.0.0.3")
-}
-
-/// Two nodes that have applied equally much have one configuration.
-fn agree(alloc: Global, a: &Party, b: &Party) -> Result<bool, Fail> {
-    if a.node.applied() != b.node.applied() {
-        return Ok(true);
+    match parties {
+        [zero, one, two] => {
+            ask_load(alloc, &mut zero.node, RULES.as_bytes())
+                && ask_load(alloc, &mut one.node, ANCHOR.as_bytes())
+                && ask_change(alloc, &mut two.node, prefix)
+        }
+        _ => false,
     }
-    let one = listing(alloc, a.node.config())?;
-    let other = listing(alloc, b.node.config())?;
-    Ok(one.as_str() == other.as_str())
 }
 
-/// Any two of the three do.
-fn all_agree(alloc: Global, parties: &[Party]) -> Result<bool, Fail> {
-    let [zero, one, two] = parties else {
-        return Ok(false);
-    };
-    Ok(agree(alloc, zero, one)? && agree(alloc, one, two)? && agree(alloc, zero, two)?)
-}
-
-/// The most commands that one of them has applied.
-fn most_applied(parties: &[Party]) -> u32 {
-    let mut most = 0u32;
-    for party in parties {
-        most = party.node.applied().max(most);
-    }
-    most
-}
-
-/// 600 turns of three nodes, after each of which any two agree: how many commands were applied.
-fn paced(alloc: Global, parties: &mut [Party]) -> Result<u32, Fail> {
-    ask_all(alloc, parties)?;
-    let mut room = room(alloc)?;
+/// Whether any two of three nodes agree after each of 600 turns.
+fn go_on(alloc: Global, parties: &mut [Member], room: &mut Room) -> bool {
     for number in 0..600usize {
-        tick_timer(parties, number % 3, &mut room)?;
-        if !all_agree(alloc, parties)? {
-            return Err(Fail::new("two nodes differ"));
+        if !turns(parties, number % 3, room) || !all_agree(alloc, parties) {
+            return false;
         }
     }
-    if party_of(parties, 0)?.wire.failures() == 0 {
-        return Err(Fail::new("nothing was lost"));
-    }
-    Ok(most_applied(parties))
+    true
 }
 
-/// The same over wires of which each `k`-th receive and send fails.
-fn lossy(rt: &HostRuntime, k: u64) -> Result<u32, Fail>
+/// The most commands that one of them has applied, where the first lost something. None where it didn't.
+fn most_applied(parties: &[Member]) -> Option<u32> {
+    match parties {
+        [zero, one, two] if zero.wire.failures() > 0 => {
+            let most = zero.node.applied().max(one.node.applied());
+            Some(most.max(two.node.applied()))
+        }
+        _ => None,
+    }
+}
+
+static LOSSY: [&str; 3] = ["127.0.0.1:39491", "127.0.0.1:39492", "127.0.0.1:39493"];
+
+/// The most commands that are applied over wires of which each `k`-th receive and send fails. None where two nodes
+/// differ, or nothing was lost.
+fn lossy(rt: &HostRuntime, k: u64) -> Option<u32>
     requires { 0 < k }
 {
-    let members = ["127.0.0.1:39491", "127.0.0.1:39492", "127.0.0.1:39493"];
-    let mut parties = grouped(rt, &members, k, 5)?;
-    let applied = paced(rt.alloc(), &mut parties);
-    drop(parties);
-    applied
+    let alloc = rt.alloc();
+    let mut room = room(alloc)?;
+    let mut parties = Vec::new(alloc);
+    let is_on = all_join(rt, &mut parties, &LOSSY, k, 5)
+        && ask_all(alloc, &mut parties)
+        && go_on(alloc, &mut parties, &mut room);
+    if is_on { most_applied(&parties) } else { None }
 }
 
 #[test]
-fn lost_datagrams_change_no_outcome(rt: HostRuntime) -> Result<(), Fail> {
+fn lost_datagrams_change_no_outcome(rt: HostRuntime) {
     let mut most = 0u32;
     for k in 2..8u64 {
-        most = lossy(&rt, k)?.max(most);
+        most = lossy(&rt, k).expect(&rt, "one outcome").max(most);
     }
     // on a busy machine all may have been late
     for _ in 0..20 {
         if most == 0 {
-            most = lossy(&rt, 7)?;
+            most = lossy(&rt, 7).expect(&rt, "one outcome");
         }
     }
     assert!(rt; most > 0);
-    Ok(())
 }

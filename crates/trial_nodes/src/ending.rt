@@ -1,31 +1,34 @@
 //! What a node does when its turns are over.
 
-use crate::members::{ask, member, run};
+use crate::members::{ask, member, runs};
 use pf_node::{Command, Node};
 use pf_rules::Path;
 use px_records::MemoryRecords;
 use px_transport::{LoopbackWire, MemoryWire};
-use std::test::Fail;
+use std::alloc::Global;
+use std::panic::Expect;
 
-/// Three commands are asked of the only member of a group, and its turns are over at once.
-fn ask_and_end(rt: &HostRuntime, node: &mut Node<MemoryRecords>) -> Result<(), Fail> {
-    let alloc = rt.alloc();
+/// Whether the node takes three commands.
+fn takes_three(alloc: Global, node: &mut Node<MemoryRecords>) -> bool {
     for _ in 0..3 {
         let path = Path::main(alloc);
-        ask(node, Command::FlushTables { path })?;
+        if !ask(node, Command::FlushTables { path }) {
+            return false;
+        }
     }
+    true
+}
+
+/// Whether the turns of the only member of a group are over at once, and all is worked off.
+fn ends(rt: &HostRuntime, node: &mut Node<MemoryRecords>) -> bool {
+    let alloc = rt.alloc();
     let mut wire = LoopbackWire::new(alloc, MemoryWire::new(alloc, Vec::new(alloc)), 0);
-    run(rt, node, &mut wire)
+    runs(rt, node, &mut wire)
 }
 
 #[test]
-fn what_waits_is_worked_off(rt: HostRuntime) -> Result<(), Fail> {
-    let mut node = member(rt.alloc(), 1, 0)?;
-    let done = ask_and_end(&rt, &mut node);
-    let (waiting, applied) = (node.waiting(), node.applied());
-    drop(node);
-    done?;
-    assert_eq!(rt; waiting, 0);
-    assert_eq!(rt; applied, 3);
-    Ok(())
+fn what_waits_is_worked_off(rt: HostRuntime) {
+    let mut node = member(rt.alloc(), 1, 0).expect(&rt, "a member");
+    assert!(rt; takes_three(rt.alloc(), &mut node) && ends(&rt, &mut node));
+    assert!(rt; node.waiting() == 0 && node.applied() == 3);
 }

@@ -24,6 +24,8 @@ mod members;
 #[cfg(test)]
 mod packets;
 #[cfg(test)]
+mod parties;
+#[cfg(test)]
 mod reminding;
 #[cfg(test)]
 mod runs;

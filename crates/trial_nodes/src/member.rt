@@ -3,9 +3,8 @@ ghost use Rattle.std.specs.Prelude.{IfOk};
 ghost use Rattle.px_core.specs.Planning.{IsFor};
 
 use px_core::{Core, CoreFault, Plan, Sends};
-use px_model::{Change, Entry, EntryView, Event, Meta, Proposal, Reads, Slot};
+use px_model::{Change, Entry, Event, Meta, Proposal, Reads, Slot};
 use std::alloc::Global;
-use std::test::Fail;
 
 /// As much of a member's record as the first four positions need.
 #[derive(Drop)]
@@ -27,12 +26,8 @@ pub(crate) fn spelling(origin: u8, number: u8, command: u8) -> [u8; 11] {
     [1, origin, 0, 0, 0, 0, 0, 0, 0, number, command]
 }
 
-pub(crate) fn entry(bytes: &[u8]) -> Result<EntryView<'_>, Fail> {
-    let Some(entry) = EntryView::read(bytes) else {
-        return Err(Fail::new("no entry"));
-    };
-    Ok(entry)
-}
+/// What an event or a record that isn't there is refused by.
+const NO_SUCH: u8 = 255;
 
 fn nothing_there() -> Slot {
     Slot {
@@ -41,69 +36,62 @@ fn nothing_there() -> Slot {
     }
 }
 
-pub(crate) fn asked(bytes: &[u8]) -> Result<Event<'_>, Fail> {
-    let entry = entry(bytes)?;
-    Ok(Event::Asks { entry })
+/// The number of a refusal.
+fn number_of(fault: &CoreFault) -> u8 {
+    match fault {
+        CoreFault::Full => 60,
+        CoreFault::BallotsSpent => 61,
+        CoreFault::PositionsSpent => 62,
+        CoreFault::Memory => NO_SUCH,
+    }
 }
 
-/// What the event makes of what is stored; or the refusal.
-fn planned(core: &mut Core, stored: &Stored, event: &Event) -> Result<Result<Plan, CoreFault>, Fail>
-    ensures { IfOk result (λ outcome. IfOk outcome (λ plan. IsFor plan core.new)) }
+/// What the event makes of what is stored; or the refusal's number.
+fn planned(core: &mut Core, stored: &Stored, event: &Event) -> Result<Plan, u8>
+    ensures { IfOk result (λ plan. IsFor plan core.new) }
 {
     if !core.takes(event) {
-        return Err(Fail::new("no such event"));
+        return Err(NO_SUCH);
     }
     let reads = event.reads();
     let Some(slot) = stored.read(reads) else {
-        return Err(Fail::new("no such slot"));
+        return Err(NO_SUCH);
     };
-    Ok(core.plan(&stored.meta, slot, stored.top_for(reads), event))
+    match core.plan(&stored.meta, slot, stored.top_for(reads), event) {
+        Ok(plan) => Ok(plan),
+        Err(fault) => Err(number_of(&fault)),
+    }
 }
 
 /// The plan's change is stored, and the core settles.
-fn settled(core: &mut Core, stored: &mut Stored, plan: Plan) -> Result<Sends, Fail>
+fn settled(core: &mut Core, stored: &mut Stored, plan: Plan) -> Result<Sends, u8>
     requires { IsFor plan core.old }
 {
-    let kept = stored.commit(&plan.change);
-    match kept {
-        Ok(()) => Ok(core.settle(plan)),
-        Err(fail) => {
-            drop(plan);
-            Err(fail)
-        }
+    if stored.commit(&plan.change) {
+        Ok(core.settle(plan))
+    } else {
+        drop(plan);
+        Err(NO_SUCH)
     }
 }
 
 impl Member {
-    pub(crate) fn new(alloc: Global, members: u8, me: u8) -> Result<Member, Fail> {
+    pub(crate) fn new(alloc: Global, members: u8, me: u8) -> Option<Member> {
         if members == 0 || members > 15 || me >= members {
-            return Err(Fail::new("no such member"));
+            return None;
         }
-        let core = Core::new(alloc, members, me)?;
-        let mut slots = Vec::new(alloc);
-        for _ in 0..4 {
-            slots.push(nothing_there())?;
+        let stored = Stored::new(alloc)?;
+        match Core::new(alloc, members, me) {
+            Ok(core) => Some(Member { core, stored }),
+            Err(_) => None,
         }
-        let stored = Stored {
-            meta: Meta {
-                round: 0,
-                number: 0,
-                floor: 0,
-            },
-            slots,
-            empty: nothing_there(),
-        };
-        Ok(Member { core, stored })
     }
 
-    /// One step, whole: planned, committed, settled; or the refusal.
-    pub(crate) fn take(&mut self, event: &Event) -> Result<Result<Sends, CoreFault>, Fail> {
-        match planned(&mut self.core, &self.stored, event)? {
-            Ok(plan) => {
-                let sends = settled(&mut self.core, &mut self.stored, plan)?;
-                Ok(Ok(sends))
-            }
-            Err(fault) => Ok(Err(fault)),
+    /// One step, whole: planned, committed, settled; or the refusal's number.
+    pub(crate) fn take(&mut self, event: &Event) -> Result<Sends, u8> {
+        match planned(&mut self.core, &self.stored, event) {
+            Ok(plan) => settled(&mut self.core, &mut self.stored, plan),
+            Err(code) => Err(code),
         }
     }
 
@@ -115,53 +103,62 @@ impl Member {
             floor: self.stored.meta.floor,
         };
     }
-
-    /// The same of an event that mustn't be refused.
-    pub(crate) fn step(&mut self, event: &Event) -> Result<Sends, Fail> {
-        match self.take(event)? {
-            Ok(sends) => Ok(sends),
-            Err(_) => Err(Fail::new("refused")),
-        }
-    }
 }
 
 impl Stored {
-    fn slot(&mut self, position: u32) -> Result<&mut Slot, Fail> {
+    /// An empty record.
+    fn new(alloc: Global) -> Option<Stored> {
+        let mut slots = Vec::new(alloc);
+        for _ in 0..4 {
+            slots.push(nothing_there()).ok()?;
+        }
+        Some(Stored {
+            meta: Meta {
+                round: 0,
+                number: 0,
+                floor: 0,
+            },
+            slots,
+            empty: nothing_there(),
+        })
+    }
+
+    /// The proposal takes the place of the slot. Whether there is one.
+    fn accept(&mut self, position: u32, ballot: u64, entry: &Entry) -> bool {
         let Some(slot) = self.slots.get_mut(position as usize) else {
-            return Err(Fail::new("no such slot"));
+            return false;
         };
-        Ok(slot)
+        match entry.share() {
+            Ok(entry) => {
+                *slot = Slot {
+                    promised: ballot,
+                    accepted: Some(Proposal { ballot, entry }),
+                };
+                true
+            }
+            Err(_) => false,
+        }
     }
 
-    /// The proposal takes the place of the slot.
-    fn accept(&mut self, position: u32, ballot: u64, entry: &Entry) -> Result<(), Fail> {
-        let slot = self.slot(position)?;
-        let entry = entry.share()?;
-        *slot = Slot {
-            promised: ballot,
-            accepted: Some(Proposal { ballot, entry }),
-        };
-        Ok(())
+    /// The ballot is promised at the position. Whether there is a slot.
+    pub(crate) fn promise(&mut self, position: u32, ballot: u64) -> bool {
+        match self.slots.get_mut(position as usize) {
+            Some(slot) => {
+                slot.promised = ballot;
+                true
+            }
+            None => false,
+        }
     }
 
-    fn commit(&mut self, change: &Option<Change>) -> Result<(), Fail> {
+    /// The change is made. Whether there is a slot for it.
+    fn commit(&mut self, change: &Option<Change>) -> bool {
         match change {
-            None => Ok(()),
-            Some(Change::Round { round }) => {
-                self.meta.round = *round;
-                Ok(())
-            }
-            Some(Change::Number { number }) => {
-                self.meta.number = *number;
-                Ok(())
-            }
-            Some(Change::Floor { ballot }) => {
-                self.meta.floor = *ballot;
-                Ok(())
-            }
+            Some(Change::Round { round }) => self.meta.round = *round,
+            Some(Change::Number { number }) => self.meta.number = *number,
+            Some(Change::Floor { ballot }) => self.meta.floor = *ballot,
             Some(Change::Promised { position, ballot }) => {
-                self.slot(*position)?.promised = *ballot;
-                Ok(())
+                return self.promise(*position, *ballot);
             }
             Some(
                 Change::Accepted {
@@ -169,9 +166,10 @@ impl Stored {
                     ballot,
                     entry,
                 },
-            ) => self.accept(*position, *ballot, entry),
-            Some(Change::Learned { .. }) => Ok(()),
+            ) => return self.accept(*position, *ballot, entry),
+            Some(Change::Learned { .. }) | None => (),
         }
+        true
     }
 
     /// The slot that an event reads, or the empty one where it reads none.
@@ -188,13 +186,6 @@ impl Stored {
         match reads {
             Reads::SlotAndTop { .. } => self.top(),
             _ => 0,
-        }
-    }
-
-    /// The ballot is promised at the first position, as by hand.
-    pub(crate) fn promise(&mut self, ballot: u64) {
-        if let Some(slot) = self.slots.get_mut(0) {
-            slot.promised = ballot;
         }
     }
 

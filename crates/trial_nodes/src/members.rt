@@ -6,63 +6,70 @@ use pf_node::{Command, Membership, Node};
 use pf_rules::Path;
 use px_records::MemoryRecords;
 use px_transport::{LoopbackWire, MemoryWire};
-use std::alloc::Global;
-use std::test::Fail;
+use std::alloc::{AllocError, Global};
 use std::time::Instant;
 
 /// The member with this number, of n of cluster 7.
-pub(crate) fn member(alloc: Global, members: u8, me: u8) -> Result<Node<MemoryRecords>, Fail> {
-    let Some(m) = Membership::new(7, members, me) else {
-        return Err(Fail::new("no member"));
-    };
+pub(crate) fn member(alloc: Global, members: u8, me: u8) -> Option<Node<MemoryRecords>> {
+    let m = Membership::new(7, members, me)?;
     if m.me() >= m.members() {
-        return Err(Fail::new("nobody"));
+        return None;
     }
     match Node::open(alloc, m, MemoryRecords::new(alloc, m.members())) {
-        Ok(node) => Ok(node),
-        Err((fault, _)) => Err(Fail::new(fault)),
+        Ok(node) => Some(node),
+        Err((_, records)) => {
+            drop(records);
+            None
+        }
     }
 }
 
-/// The node is asked the command.
-pub(crate) fn ask(node: &mut Node<MemoryRecords>, command: Command) -> Result<(), Fail> {
+/// Whether the node takes the command.
+pub(crate) fn ask(node: &mut Node<MemoryRecords>, command: Command) -> bool {
     let asked = node.ask(&command);
     drop(command);
-    asked?;
-    Ok(())
+    asked.is_ok()
 }
 
-/// The node is asked a load of a ruleset at main.
-pub(crate) fn ask_load(
-    alloc: Global,
-    node: &mut Node<MemoryRecords>,
-    text: &[u8],
-) -> Result<(), Fail> {
-    let text = Vec::from_slice(alloc, text)?;
-    let command = Command::Load {
-        path: Path::main(alloc),
-        profile: Profile::Two,
-        text,
-    };
-    ask(node, command)
+/// Whether the node takes a load of a ruleset at main.
+pub(crate) fn ask_load(alloc: Global, node: &mut Node<MemoryRecords>, text: &[u8]) -> bool {
+    match Vec::from_slice(alloc, text) {
+        Ok(text) => ask(
+            node,
+            Command::Load {
+                path: Path::main(alloc),
+                profile: Profile::Two,
+                text,
+            },
+        ),
+        Err(_) => false,
+    }
 }
 
-/// A round of member 0, and what waits then is worked off.
-pub(crate) fn run(
+/// The buffers of a member of this cluster of three: what they hold of one member nobody uses in a turn, so others
+/// share them.
+pub(crate) fn room(alloc: Global) -> Option<Room> {
+    let m = Membership::new(7, 3, 0)?;
+    Room::new(alloc, &m, true).ok()
+}
+
+/// A datagram that comes.
+pub(crate) fn coming(alloc: Global, datagram: &[u8]) -> Result<Vec<Vec<u8>>, AllocError> {
+    let mut all = Vec::new(alloc);
+    all.push(Vec::from_slice(alloc, datagram)?)?;
+    Ok(all)
+}
+
+/// Whether a round of member 0 is made, and what waits then is worked off.
+pub(crate) fn runs(
     rt: &HostRuntime,
     node: &mut Node<MemoryRecords>,
     wire: &mut LoopbackWire<MemoryWire>,
-) -> Result<(), Fail> {
-    let mut room = Room::new(rt.alloc(), &node.membership(), true)?;
-    let mut tick_timer = TickTimer::new(0);
-    round(node, wire, &mut room, &mut tick_timer, 0)?;
-    finish(
-        node,
-        wire,
-        &mut room,
-        &mut tick_timer,
-        rt,
-        Instant::now(rt).ok(),
-    )?;
-    Ok(())
+) -> bool {
+    let Ok(mut room) = Room::new(rt.alloc(), &node.membership(), true) else {
+        return false;
+    };
+    let mut timer = TickTimer::new(0);
+    round(node, wire, &mut room, &mut timer, 0).is_ok()
+        && finish(node, wire, &mut room, &mut timer, rt, Instant::now(rt).ok()).is_ok()
 }

@@ -1,37 +1,70 @@
 //! Members that tell how far they are, and what they are sent again.
 
-use crate::members::member;
+use crate::members::{coming, member};
 use node_loop::{Room, TickTimer, round};
 use pf_node::Node;
 use px_records::MemoryRecords;
 use px_transport::MemoryWire;
-use std::alloc::Global;
-use std::test::Fail;
+use std::alloc::{AllocError, Global};
+use std::panic::Expect;
 
-/// A round of a node for which these datagrams have come: the votes that it sends, with for whom and at which position.
+/// For whom a vote is, and its position, which is below 255.
+type Vote = (u8, u8);
+
+/// The vote that was sent, if it is one.
+fn vote_of(sent: &(u8, Vec<u8>)) -> Option<Vote> {
+    let (to, bytes) = sent;
+    match bytes.get(12) {
+        Some(4) => Some((*to, *bytes.get(24).unwrap_or(&255))),
+        _ => None,
+    }
+}
+
+/// The votes among what the wire was handed.
+fn votes_of(alloc: Global, wire: &MemoryWire) -> Option<Vec<Vote>> {
+    let mut votes = Vec::new(alloc);
+    for sent in wire.sent()? {
+        if let Some(vote) = vote_of(sent) {
+            votes.push(vote).ok()?;
+        }
+    }
+    Some(votes)
+}
+
+/// A round of a node for which these datagrams have come: the votes that it sends.
 fn round_with(
-    rt: &HostRuntime,
+    alloc: Global,
     node: &mut Node<MemoryRecords>,
     room: &mut Room,
     coming: Vec<Vec<u8>>,
-) -> Result<Vec<(u8, u8)>, Fail> {
-    let mut wire = MemoryWire::new(rt.alloc(), coming);
-    let mut tick_timer = TickTimer::new(0);
-    round(node, &mut wire, room, &mut tick_timer, 0)?;
-    let Some(sent) = wire.sent() else {
-        return Err(Fail::new("no memory"));
-    };
-    let mut votes = Vec::new(rt.alloc());
-    for (to, bytes) in sent {
-        if bytes.get(12) == Some(&4) {
-            votes.push((*to, *bytes.get(24).unwrap_or(&255)))?;
-        }
+) -> Option<Vec<Vote>> {
+    let mut wire = MemoryWire::new(alloc, coming);
+    let mut timer = TickTimer::new(0);
+    match round(node, &mut wire, room, &mut timer, 0) {
+        Ok(_) => votes_of(alloc, &wire),
+        Err(_) => None,
     }
-    Ok(votes)
 }
 
-/// What a member has voted for and learned: three commands.
-fn three(alloc: Global) -> Result<Vec<Vec<u8>>, Fail> {
+/// Whether these are the votes that it sends where the datagram comes.
+fn votes(
+    alloc: Global,
+    node: &mut Node<MemoryRecords>,
+    room: &mut Room,
+    datagram: &[u8],
+    wanted: &[Vote],
+) -> bool {
+    let Ok(coming) = coming(alloc, datagram) else {
+        return false;
+    };
+    match round_with(alloc, node, room, coming) {
+        Some(votes) => votes.as_slice() == wanted,
+        None => false,
+    }
+}
+
+/// Requests to accept three commands, and then that they are learned.
+fn three(alloc: Global) -> Result<Vec<Vec<u8>>, AllocError> {
     let mut coming = Vec::new(alloc);
     for position in 0..3u8 {
         coming.push(Vec::from_slice(alloc, &accept(position))?)?;
@@ -42,28 +75,27 @@ fn three(alloc: Global) -> Result<Vec<Vec<u8>>, Fail> {
     Ok(coming)
 }
 
-/// The votes that member 0 of 15 sends again after these, for whom and at which position, where the datagram comes.
-fn reminds(
-    rt: &HostRuntime,
-    node: &mut Node<MemoryRecords>,
-    datagram: &[u8],
-) -> Result<Vec<(u8, u8)>, Fail> {
-    let alloc = rt.alloc();
-    let mut room = Room::new(alloc, &node.membership(), true)?;
-    let first = round_with(rt, node, &mut room, three(alloc)?)?;
-    if first.len() != 45 || node.applied() < 3 {
-        return Err(Fail::new("not voted for"));
+/// Whether the node votes for three commands, once for each of 15, and learns them.
+fn learns_three(alloc: Global, node: &mut Node<MemoryRecords>, room: &mut Room) -> bool {
+    let Ok(coming) = three(alloc) else {
+        return false;
+    };
+    match round_with(alloc, node, room, coming) {
+        Some(votes) => votes.len() == 45 && node.applied() >= 3,
+        None => false,
     }
-    let mut coming = Vec::new(alloc);
-    coming.push(Vec::from_slice(alloc, datagram)?)?;
-    round_with(rt, node, &mut room, coming)
 }
 
-fn reminded(rt: &HostRuntime, datagram: &[u8]) -> Result<Vec<(u8, u8)>, Fail> {
-    let mut node = member(rt.alloc(), 15, 0)?;
-    let done = reminds(rt, &mut node, datagram);
-    drop(node);
-    done
+/// Whether these are the votes that member 0 of 15 sends again after those, where the datagram comes.
+fn reminds(alloc: Global, datagram: &[u8], wanted: &[Vote]) -> bool {
+    let Some(mut node) = member(alloc, 15, 0) else {
+        return false;
+    };
+    let Ok(mut room) = Room::new(alloc, &node.membership(), true) else {
+        return false;
+    };
+    learns_three(alloc, &mut node, &mut room)
+        && votes(alloc, &mut node, &mut room, datagram, wanted)
 }
 
 /// A flush of main's tables that member 1 proposes at the position, for member 0.
@@ -98,54 +130,43 @@ const fn prepare_all(position: u8) -> [u8; 25] {
 }
 
 #[test]
-fn who_needs_an_entry_is_sent_those_behind_it_again(rt: HostRuntime) -> Result<(), Fail> {
-    assert!(rt; reminded(&rt, &need(1, 0))?.as_slice() == [(1, 1), (1, 2)].as_slice());
-    assert!(rt; reminded(&rt, &need(14, 1))?.as_slice() == [(14, 2)].as_slice());
-    Ok(())
+fn who_needs_an_entry_is_sent_those_behind_it_again(rt: HostRuntime) {
+    assert!(rt; reminds(rt.alloc(), &need(1, 0), &[(1, 1), (1, 2)]));
+    assert!(rt; reminds(rt.alloc(), &need(14, 1), &[(14, 2)]));
 }
 
 #[test]
-fn who_proposes_below_is_sent_from_there_on_again(rt: HostRuntime) -> Result<(), Fail> {
-    assert!(rt; reminded(&rt, &prepare_all(0))?.as_slice() == [(2, 0), (2, 1), (2, 2)].as_slice());
-    assert!(rt; reminded(&rt, &prepare_all(2))?.as_slice() == [(2, 2)].as_slice());
-    Ok(())
+fn who_proposes_below_is_sent_from_there_on_again(rt: HostRuntime) {
+    assert!(rt; reminds(rt.alloc(), &prepare_all(0), &[(2, 0), (2, 1), (2, 2)]));
+    assert!(rt; reminds(rt.alloc(), &prepare_all(2), &[(2, 2)]));
 }
+
+/// Members that need a position: position 2 is known by its own entry and is the last; 15 and 255 are no members.
+static NEEDS: [(u8, u8); 4] = [(1, 2), (1, 3), (255, 0), (15, 0)];
 
 #[test]
-fn who_lacks_nothing_behind_is_sent_nothing_again(rt: HostRuntime) -> Result<(), Fail> {
-    // position 2 is known by its own entry, and is the last
-    assert!(rt; reminded(&rt, &need(1, 2))?.is_empty());
-    assert!(rt; reminded(&rt, &need(1, 3))?.is_empty());
-    assert!(rt; reminded(&rt, &prepare_all(3))?.is_empty());
-    // what is no member's
-    assert!(rt; reminded(&rt, &need(255, 0))?.is_empty());
-    assert!(rt; reminded(&rt, &need(15, 0))?.is_empty());
-    Ok(())
-}
-
-#[test]
-fn a_request_that_comes_again_is_answered_by_the_vote(rt: HostRuntime) -> Result<(), Fail> {
-    let mut node = member(rt.alloc(), 15, 0)?;
-    let found = voted_again(&rt, &mut node);
-    drop(node);
-    assert!(rt; found?.as_slice() == [(1, 0)].as_slice());
-    Ok(())
-}
-
-/// The votes that member 0 of 15 sends where a request comes a second time.
-fn voted_again(rt: &HostRuntime, node: &mut Node<MemoryRecords>) -> Result<Vec<(u8, u8)>, Fail> {
-    let alloc = rt.alloc();
-    let mut room = Room::new(alloc, &node.membership(), true)?;
-    for count in [15, 1] {
-        let mut coming = Vec::new(alloc);
-        coming.push(Vec::from_slice(alloc, &accept(0))?)?;
-        let votes = round_with(rt, node, &mut room, coming)?;
-        if votes.len() != count {
-            return Err(Fail::new("another number of votes"));
-        }
-        if count == 1 {
-            return Ok(votes);
-        }
+fn who_lacks_nothing_behind_is_sent_nothing_again(rt: HostRuntime) {
+    for (from, position) in &NEEDS {
+        assert!(rt; reminds(rt.alloc(), &need(*from, *position), &[]));
     }
-    Err(Fail::new("no round"))
+    assert!(rt; reminds(rt.alloc(), &prepare_all(3), &[]));
+}
+
+/// Whether the node votes for a request once for each of 15, and then answers it by the vote alone.
+fn answers_again(alloc: Global, node: &mut Node<MemoryRecords>, room: &mut Room) -> bool {
+    let Ok(first) = coming(alloc, &accept(0)) else {
+        return false;
+    };
+    let is_first = match round_with(alloc, node, room, first) {
+        Some(votes) => votes.len() == 15,
+        None => false,
+    };
+    is_first && votes(alloc, node, room, &accept(0), &[(1, 0)])
+}
+
+#[test]
+fn a_request_that_comes_again_is_answered_by_the_vote(rt: HostRuntime) {
+    let mut node = member(rt.alloc(), 15, 0).expect(&rt, "a member");
+    let mut room = Room::new(rt.alloc(), &node.membership(), true).expect(&rt, "memory");
+    assert!(rt; answers_again(rt.alloc(), &mut node, &mut room));
 }

@@ -5,7 +5,6 @@
 use crate::bus::Bus;
 use crate::step::step;
 use std::alloc::Global;
-use std::test::Fail;
 
 /// Runs of members that hear each other.
 const RUNS: &str = "\
@@ -156,44 +155,47 @@ numbers 0 281474976710656
 outside
 line 1 0>255 askrefused 9 62";
 
-/// The steps of a run, one after the other. A step that isn't so ends it.
-fn follow(alloc: Global, bus: &mut Bus, lines: &str) -> Result<(), Fail> {
+/// The first line of the run that isn't so, or nothing.
+fn wrong_line<'a>(alloc: Global, bus: &mut Bus, lines: &'a str) -> &'a str {
     for line in lines.lines() {
-        if !step(alloc, bus, line)? {
-            return Err(Fail::new(line));
+        if !step(alloc, bus, line) {
+            return line;
         }
     }
-    Ok(())
+    ""
 }
 
-/// A run with its members.
-fn play(alloc: Global, members: u8, lines: &str) -> Result<(), Fail> {
-    let mut bus = Bus::new(alloc, members)?;
-    let done = follow(alloc, &mut bus, lines);
-    drop(bus);
-    done
+/// A run with its members: its first line that isn't so, or nothing.
+fn wrong_in(alloc: Global, run: &str) -> &str {
+    let (name, lines) = run.split_once('\n').unwrap_or((run, ""));
+    let (members, _) = name.split_once(' ').unwrap_or((name, ""));
+    let mut bus = Bus::new(alloc);
+    if bus.join(members.parse::<u8>().unwrap_or(0)) {
+        wrong_line(alloc, &mut bus, lines)
+    } else {
+        name
+    }
 }
 
-/// Each run of a script: how many there are.
-fn play_all(alloc: Global, text: &str) -> Result<usize, Fail> {
+/// Each run of a script: how many there are, and the first line that isn't so, or nothing.
+fn play(alloc: Global, text: &str) -> (usize, &str) {
     let mut count = 0usize;
     for run in text.split("= ").skip(1) {
-        let (name, lines) = run.split_once('\n').unwrap_or((run, ""));
-        let (members, _) = name.split_once(' ').unwrap_or((name, ""));
-        play(alloc, members.parse::<u8>().unwrap_or(0), lines)?;
         count = count.saturating_add(1);
+        let wrong = wrong_in(alloc, run);
+        if !wrong.is_empty() {
+            return (count, wrong);
+        }
     }
-    Ok(count)
+    (count, "")
 }
 
 #[test]
-fn worked_runs(rt: HostRuntime) -> Result<(), Fail> {
-    assert!(rt; play_all(rt.alloc(), RUNS)? == 4);
-    Ok(())
+fn worked_runs(rt: HostRuntime) {
+    assert_eq!(rt; play(rt.alloc(), RUNS), (4, ""));
 }
 
 #[test]
-fn runs_of_single_members(rt: HostRuntime) -> Result<(), Fail> {
-    assert!(rt; play_all(rt.alloc(), SINGLE)? == 7);
-    Ok(())
+fn runs_of_single_members(rt: HostRuntime) {
+    assert_eq!(rt; play(rt.alloc(), SINGLE), (7, ""));
 }

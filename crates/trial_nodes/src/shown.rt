@@ -1,86 +1,82 @@
 //! Messages as lines: who to whom is written by the bus.
 use px_model::{Entry, Message, Proposal};
-use std::fmt;
+use std::alloc::AllocError;
 
 /// A ballot by its round and its member.
-#[derive(Clone, Copy)]
-struct Ballot(u64);
-
-impl fmt::Display for Ballot {
-    fn fmt<W: fmt::Write>(&self, f: &mut fmt::Formatter<W>) -> fmt::Result {
-        write!(f, "b{}.{}", self.0 / 256, self.0 % 256)
-    }
+fn push_ballot(out: &mut String, ballot: u64) -> Result<(), AllocError> {
+    write!(out, " b{}.{}", ballot / 256, ballot % 256)
 }
 
 /// An entry by who asked it, and its number there.
-#[derive(Clone, Copy)]
-struct Named<'a>(&'a Entry);
-
-impl fmt::Display for Named<'_> {
-    fn fmt<W: fmt::Write>(&self, f: &mut fmt::Formatter<W>) -> fmt::Result {
-        write!(f, "e{}.{}", self.0.origin(), self.0.number())
-    }
+fn push_entry(out: &mut String, entry: &Entry) -> Result<(), AllocError> {
+    write!(out, " e{}.{}", entry.origin(), entry.number())
 }
 
 /// What was accepted, if anything was.
-#[derive(Clone, Copy)]
-struct Reported<'a>(&'a Option<Proposal<Entry>>);
-
-impl fmt::Display for Reported<'_> {
-    fn fmt<W: fmt::Write>(&self, f: &mut fmt::Formatter<W>) -> fmt::Result {
-        match self.0 {
-            None => f.write_str("none"),
-            Some(proposal) => write!(f, "{} {}", Ballot(proposal.ballot), Named(&proposal.entry)),
+fn push_accepted(out: &mut String, accepted: &Option<Proposal<Entry>>) -> Result<(), AllocError> {
+    match accepted {
+        None => out.push_str(" none"),
+        Some(proposal) => {
+            push_ballot(out, proposal.ballot)?;
+            push_entry(out, &proposal.entry)
         }
     }
 }
 
-/// A message.
-#[derive(Clone, Copy)]
-pub(crate) struct Shown<'a>(pub(crate) &'a Message<Entry>);
+/// A kind of message, its ballot and its position.
+fn push_head(out: &mut String, kind: &str, ballot: u64, position: u32) -> Result<(), AllocError> {
+    out.push_str(kind)?;
+    push_ballot(out, ballot)?;
+    write!(out, " p{position}")
+}
 
-impl fmt::Display for Shown<'_> {
-    fn fmt<W: fmt::Write>(&self, f: &mut fmt::Formatter<W>) -> fmt::Result {
-        match self.0 {
-            Message::PrepareAll { ballot, position } => {
-                write!(f, "prepareall {} p{position}", Ballot(*ballot))
-            }
-            Message::PromiseAll {
-                ballot,
-                position,
-                top,
-                accepted,
-            } => {
-                let (ballot, accepted) = (Ballot(*ballot), Reported(accepted));
-                write!(f, "promiseall {ballot} p{position} {accepted} t{top}")
-            }
-            Message::Accept {
-                ballot,
-                position,
-                entry,
-            } => write!(f, "accept {} p{position} {}", Ballot(*ballot), Named(entry)),
-            Message::Vote {
-                ballot,
-                position,
-                entry,
-            } => write!(f, "vote {} p{position} {}", Ballot(*ballot), Named(entry)),
-            Message::Nack {
-                ballot,
-                position,
-                promised,
-            } => write!(
-                f,
-                "nack {} p{position} {}",
-                Ballot(*ballot),
-                Ballot(*promised)
-            ),
-            Message::Need { position } => write!(f, "need p{position}"),
-            Message::Learned { position, entry } => {
-                write!(f, "learned p{position} {}", Named(entry))
-            }
-            Message::Asked { token, number } => write!(f, "asked {token} {number}"),
-            Message::AskRefused { token, code } => write!(f, "askrefused {token} {code}"),
-            _ => f.write_str("another"),
+/// A message.
+pub(crate) fn push_message(out: &mut String, message: &Message<Entry>) -> Result<(), AllocError> {
+    match message {
+        Message::PrepareAll { ballot, position } => {
+            push_head(out, "prepareall", *ballot, *position)
         }
+        Message::PromiseAll {
+            ballot,
+            position,
+            top,
+            accepted,
+        } => {
+            push_head(out, "promiseall", *ballot, *position)?;
+            push_accepted(out, accepted)?;
+            write!(out, " t{top}")
+        }
+        Message::Accept {
+            ballot,
+            position,
+            entry,
+        } => {
+            push_head(out, "accept", *ballot, *position)?;
+            push_entry(out, entry)
+        }
+        Message::Vote {
+            ballot,
+            position,
+            entry,
+        } => {
+            push_head(out, "vote", *ballot, *position)?;
+            push_entry(out, entry)
+        }
+        Message::Nack {
+            ballot,
+            position,
+            promised,
+        } => {
+            push_head(out, "nack", *ballot, *position)?;
+            push_ballot(out, *promised)
+        }
+        Message::Need { position } => write!(out, "need p{position}"),
+        Message::Learned { position, entry } => {
+            write!(out, "learned p{position}")?;
+            push_entry(out, entry)
+        }
+        Message::Asked { token, number } => write!(out, "asked {token} {number}"),
+        Message::AskRefused { token, code } => write!(out, "askrefused {token} {code}"),
+        _ => out.push_str("another"),
     }
 }

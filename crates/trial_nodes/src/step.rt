@@ -13,110 +13,98 @@
 //! - `refused CODE`: the first member refuses a tick so. `asked CODE TIMES`: it answers that many askings so, 0 takes
 //!   them in.
 use crate::bus::Bus;
-use crate::member::{Member, asked, entry, spelling};
-use px_core::{Core, CoreFault, Sends};
-use px_model::{Entry, Event, Message};
+use crate::member::{Member, spelling};
+use px_core::Core;
+use px_model::{Entry, EntryView, Event, Message};
 use std::alloc::Global;
-use std::test::Fail;
 
-/// A promise with nothing accepted arrives at the first member.
-fn promise(bus: &mut Bus, sender: u8) -> Result<(), Fail> {
-    let promise = Message::PromiseAll {
-        ballot: 256,
-        position: 0,
-        top: 0,
-        accepted: None,
-    };
-    bus.receive(sender, promise)
+/// A message arrives at the first member. Whether it isn't refused.
+fn receive(bus: &mut Bus, sender: u8, message: Message<EntryView>) -> bool {
+    bus.happen(0, &Event::Comes { sender, message })
 }
 
-/// The first member is asked to accept an entry, by member 0 in its first round.
-fn ask_to_accept(bus: &mut Bus) -> Result<(), Fail> {
-    let bytes = spelling(0, 0, 7);
-    let entry = entry(&bytes)?;
-    let accept = Message::Accept {
-        ballot: 256,
-        position: 0,
-        entry,
-    };
-    bus.receive(0, accept)
-}
-
-/// A vote arrives at the first member.
-fn vote(bus: &mut Bus, sender: u8, position: u32) -> Result<(), Fail> {
-    let bytes = spelling(0, 0, 7);
-    let entry = entry(&bytes)?;
-    let vote = Message::Vote {
-        ballot: 256,
-        position,
-        entry,
-    };
-    bus.receive(sender, vote)
-}
-
-/// Whoever is no member asks the first member.
-fn ask_from_outside(bus: &mut Bus) -> Result<(), Fail> {
-    let bytes = spelling(255, 9, 7);
-    let entry = entry(&bytes)?;
-    bus.receive(255, Message::Ask { entry })
-}
-
-/// The number of the refusal.
-fn refusal_of(outcome: &Result<Sends, CoreFault>) -> Option<u8> {
-    match outcome {
-        Err(CoreFault::Full) => Some(60),
-        Err(CoreFault::BallotsSpent) => Some(61),
-        Err(CoreFault::PositionsSpent) => Some(62),
-        _ => None,
+/// The member is asked a command.
+fn ask(bus: &mut Bus, member: u8, command: u8) -> bool {
+    match EntryView::read(&spelling(0, 0, command)) {
+        Some(entry) => bus.happen(member, &Event::Asks { entry }),
+        None => false,
     }
 }
 
-/// Whether the event gives this refusal, none where it is taken.
-fn comes_to(member: &mut Member, event: &Event, code: Option<u8>) -> Result<bool, Fail> {
-    let outcome = member.take(event)?;
-    let found = refusal_of(&outcome);
-    drop(outcome);
-    Ok(found == code)
+/// A message with the entry of this origin and number arrives at the first member, if the word is that of one.
+fn come_with(bus: &mut Bus, word: &str, sender: u8, position: u32) -> Option<bool> {
+    let bytes = match word {
+        "outside" => spelling(255, 9, 7),
+        _ => spelling(0, 0, 7),
+    };
+    let entry = EntryView::read(&bytes)?;
+    let ballot = 256;
+    Some(match word {
+        "accept" => receive(
+            bus,
+            0,
+            Message::Accept {
+                ballot,
+                position: 0,
+                entry,
+            },
+        ),
+        "vote" => receive(
+            bus,
+            sender,
+            Message::Vote {
+                ballot,
+                position,
+                entry,
+            },
+        ),
+        "outside" => receive(bus, 255, Message::Ask { entry }),
+        _ => return None,
+    })
 }
 
-/// The same of that many askings; 0 where each is accepted.
-fn all_come_to(member: &mut Member, code: u8, times: u64) -> Result<bool, Fail> {
+/// Whether the event gives this refusal, 0 where it is taken.
+fn comes_to(member: &mut Member, event: &Event, code: u8) -> bool {
+    match member.take(event) {
+        Ok(_) => code == 0,
+        Err(found) => found == code,
+    }
+}
+
+/// The same of that many askings.
+fn all_come_to(member: &mut Member, code: u8, times: u64) -> bool {
     let bytes = spelling(0, 0, 7);
-    let event = asked(&bytes)?;
-    let code = if code == 0 { None } else { Some(code) };
+    let Some(entry) = EntryView::read(&bytes) else {
+        return false;
+    };
     for _ in 0..times {
-        if !comes_to(member, &event, code)? {
-            return Ok(false);
+        if !comes_to(member, &Event::Asks { entry }, code) {
+            return false;
         }
     }
-    Ok(true)
+    true
 }
 
 /// The entry of member 2 with number 5.
-fn fifth(alloc: Global) -> Result<Entry, Fail> {
+fn fifth(alloc: Global) -> Option<Entry> {
     let bytes = spelling(2, 5, 7);
-    let view = entry(&bytes)?;
-    Ok(Entry::from_view(alloc, &view)?)
+    let view = EntryView::read(&bytes)?;
+    Entry::from_view(alloc, &view).ok()
 }
 
-/// A core that starts with that entry at the first position.
-fn started(alloc: Global) -> Result<Core, Fail> {
-    let entry = fifth(alloc)?;
-    let mut core = Core::new(alloc, 3, 0)?;
-    match core.remember(0, entry) {
-        Ok(()) => Ok(core),
-        Err(fault) => {
-            drop(core);
-            Err(fault.into())
-        }
+/// The first member starts anew with that entry at the first position. Whether there was memory for it.
+fn start(alloc: Global, bus: &mut Bus) -> bool {
+    let Some(member) = bus.member(0) else {
+        return false;
+    };
+    let Ok(core) = Core::new(alloc, 3, 0) else {
+        return false;
+    };
+    member.core = core;
+    match fifth(alloc) {
+        Some(entry) => member.core.remember(0, entry).is_ok(),
+        None => false,
     }
-}
-
-/// The first member starts anew with that entry.
-fn start(alloc: Global, bus: &mut Bus) -> Result<(), Fail> {
-    let core = started(alloc)?;
-    bus.member(0)?.core = core;
-    Ok(())
 }
 
 /// Up to five numbers between blanks, each 0 where there is none.
@@ -143,106 +131,101 @@ fn place(number: u64) -> u32 {
 }
 
 /// Something arrives at the first member. None where the word is another.
-fn come(bus: &mut Bus, word: &str, first: u64, second: u64) -> Option<Result<(), Fail>> {
+fn come(bus: &mut Bus, word: &str, first: u64, second: u64) -> Option<bool> {
+    let position = place(second);
     Some(match word {
-        "promiseall" => promise(bus, byte(first)),
-        "accept" => ask_to_accept(bus),
-        "prepare" => bus.receive(
+        "promiseall" => receive(
+            bus,
+            byte(first),
+            Message::PromiseAll {
+                ballot: 256,
+                position: 0,
+                top: 0,
+                accepted: None,
+            },
+        ),
+        "prepare" => receive(
+            bus,
             1,
             Message::Prepare {
                 ballot: first,
                 position: 0,
             },
         ),
-        "vote" => vote(bus, byte(first), place(second)),
-        "need" => bus.receive(
-            byte(first),
-            Message::Need {
-                position: place(second),
-            },
-        ),
-        "outside" => ask_from_outside(bus),
-        _ => return None,
+        "need" => receive(bus, byte(first), Message::Need { position }),
+        _ => return come_with(bus, word, byte(first), position),
     })
 }
 
-/// Something is put into the first member. None where the word is another.
-fn put(
-    alloc: Global,
-    bus: &mut Bus,
-    word: &str,
-    first: u64,
-    second: u64,
-) -> Option<Result<(), Fail>> {
-    if word == "remember" {
-        return Some(start(alloc, bus));
-    }
-    let member = match bus.member(0) {
-        Ok(member) => member,
-        Err(fail) => return Some(Err(fail)),
-    };
-    match word {
-        "numbers" => member.put_numbers(first, second),
-        "forget" => member.core.forget(),
-        "promised" => member.stored.promise(first),
+/// Something is put into the first member, or looked for there, if there is such a member. None where the word is
+/// another.
+fn put(member: &mut Member, word: &str, first: u64, second: u64) -> Option<bool> {
+    Some(match word {
+        "numbers" => {
+            member.put_numbers(first, second);
+            true
+        }
+        "forget" => {
+            member.core.forget();
+            true
+        }
+        "promised" => member.stored.promise(0, first),
+        "meta" => member.stored.meta.round == first && member.stored.meta.number == second,
+        "unaccepted" => member.stored.top() == 0,
+        "refused" => comes_to(member, &Event::Ticks, byte(first)),
+        "asked" => all_come_to(member, byte(first), second),
         _ => return None,
-    }
-    Some(Ok(()))
-}
-
-/// Whether what is looked for of the first member's record is so.
-fn is_stored(bus: &mut Bus, word: &str, first: u64, second: u64) -> Result<bool, Fail> {
-    let stored = &bus.member(0)?.stored;
-    Ok(match word {
-        "meta" => stored.meta.round == first && stored.meta.number == second,
-        "unaccepted" => stored.top() == 0,
-        _ => false,
     })
 }
 
 /// Whether what is looked for is so.
-fn is_so(bus: &mut Bus, word: &str, numbers: [u64; 5]) -> Result<bool, Fail> {
+fn is_so(bus: &Bus, word: &str, numbers: [u64; 5]) -> bool {
     let [first, second, third, fourth, fifth] = numbers;
     match word {
-        "sent" => Ok(bus.sent.len() as u64 == first),
-        "front" => Ok(bus.front(byte(first)) == Some(place(second))),
+        "sent" => bus.sent.len() as u64 == first,
+        "front" => bus.front(byte(first)) == Some(place(second)),
         "learned" => {
             let wanted = Some((byte(third), fourth, fifth as usize));
-            Ok(bus.named(byte(first), place(second)) == wanted)
+            bus.named(byte(first), place(second)) == wanted
         }
-        "unlearned" => Ok(bus.named(byte(first), place(second)).is_none()),
-        "refused" => comes_to(bus.member(0)?, &Event::Ticks, Some(byte(first))),
-        "asked" => all_come_to(bus.member(0)?, byte(first), second),
-        _ => is_stored(bus, word, first, second),
+        "unlearned" => bus.named(byte(first), place(second)).is_none(),
+        _ => false,
     }
 }
 
 /// Whether the message has that line.
-fn has_line(bus: &Bus, rest: &str) -> Result<bool, Fail> {
+fn has_line(bus: &Bus, rest: &str) -> bool {
     let (number, wanted) = rest.split_once(' ').unwrap_or((rest, ""));
     bus.has_line(number.parse::<usize>().unwrap_or(usize::MAX), wanted)
 }
 
-/// The step happens, or what is looked for must be so. Whether it is.
-pub(crate) fn step(alloc: Global, bus: &mut Bus, line: &str) -> Result<bool, Fail> {
-    let (word, rest) = line.split_once(' ').unwrap_or((line, ""));
-    if word == "line" {
-        return has_line(bus, rest);
+/// What is done with the first member alone, and whether it is so; or what is looked for of all.
+fn done(bus: &mut Bus, word: &str, all: [u64; 5]) -> bool {
+    let [first, second, _, _, _] = all;
+    if let Some(came) = come(bus, word, first, second) {
+        return came;
     }
+    let put = match bus.member(0) {
+        Some(member) => put(member, word, first, second),
+        None => None,
+    };
+    match put {
+        Some(put) => put,
+        None => is_so(bus, word, all),
+    }
+}
+
+/// The step happens, or what is looked for must be so. Whether it is.
+pub(crate) fn step(alloc: Global, bus: &mut Bus, line: &str) -> bool {
+    let (word, rest) = line.split_once(' ').unwrap_or((line, ""));
     let all = numbers(rest);
     let [first, second, _, _, _] = all;
-    let happened = match word {
-        "deliver" => Some(bus.deliver_all(rest)),
-        "ask" => Some(bus.ask(byte(first), byte(second))),
-        "tick" => Some(bus.tick(byte(first))),
-        _ => match come(bus, word, first, second) {
-            Some(came) => Some(came),
-            None => put(alloc, bus, word, first, second),
-        },
-    };
-    match happened {
-        Some(Ok(())) => Ok(true),
-        Some(Err(fail)) => Err(fail),
-        None => is_so(bus, word, all),
+    match word {
+        "line" => has_line(bus, rest),
+        "deliver" => bus.deliver_all(rest),
+        "ask" => ask(bus, byte(first), byte(second)),
+        "tick" => bus.happen(byte(first), &Event::Ticks),
+        "remember" => start(alloc, bus),
+        _ => done(bus, word, all),
     }
 }

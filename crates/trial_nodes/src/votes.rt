@@ -3,246 +3,233 @@
 use node_loop::Resender;
 use px_transport::MemoryWire;
 use std::alloc::Global;
-use std::test::Fail;
 
-/// A vote of ballot 256 at position 0, from member 0 for member 1; of its entry the front alone, and then zeros.
-const VOTE: [u8; 27] = [
-    0x50, 0x46, 0x58, 0x52, 1, 0, 0, 0, 7, 3, 0, 1, 4, 0, 0, 0, 0, 0, 0, 1, 0, 0, 0, 0, 0, 0, 1,
-];
+/// The front of a vote of member 0 for a member: its round's ballot, its position, and of its entry the front alone.
+fn front(to: u8, round: u8, position: u32) -> [u8; 27] {
+    let [a, b, c, d] = position.to_be_bytes();
+    [
+        0x50, 0x46, 0x58, 0x52, 1, 0, 0, 0, 7, 3, 0, to, 4, 0, 0, 0, 0, 0, 0, round, 0, a, b, c, d,
+        0, 1,
+    ]
+}
 
 /// Member 0 sends this member a vote of this round's ballot at this position, of that many bytes.
 fn vote(resender: &mut Resender, to: u8, round: u8, position: u32, size: usize) {
     let mut bytes = [0u8; 1480];
-    bytes[..27].copy_from_slice(&VOTE);
-    bytes[11] = to;
-    bytes[19] = round;
-    bytes[21..25].copy_from_slice(&position.to_be_bytes());
+    bytes[..27].copy_from_slice(&front(to, round, position));
     let _kept = resender.keep(to, &bytes[..size.min(1480)]);
 }
 
-/// The same of each position from one to before another.
+/// The same of round 1 for member 1, at each position from one to before another.
 fn votes(resender: &mut Resender, from: u32, to: u32, size: usize) {
     for position in from..to {
         vote(resender, 1, 1, position, size);
     }
 }
 
-/// What a datagram is: for whom, the position and the round of a vote.
-fn shown(to: u8, bytes: &[u8]) -> (u8, u32, u8) {
-    match bytes {
-        [
-            _,
-            _,
-            _,
-            _,
-            _,
-            _,
-            _,
-            _,
-            _,
-            _,
-            _,
-            _,
-            4,
-            _,
-            _,
-            _,
-            _,
-            _,
-            _,
-            round,
-            _,
-            a,
-            b,
-            c,
-            d,
-            ..
-        ] => { (to, u32::from_be_bytes([*a, *b, *c, *d]), *round) }
-        _ => (to, 0, 255),
-    }
+/// Whether that was sent: to whom, of which round and for which position.
+fn is_vote(sent: &(u8, Vec<u8>), to: u8, round: u8, position: u32) -> bool {
+    let (whom, bytes) = sent;
+    *whom == to && bytes.get(..27) == Some(front(to, round, position).as_slice())
 }
 
 /// What is sent again at this time, in milliseconds, to a member that lacks this position and those after it.
-fn again(
+fn again(alloc: Global, resender: &mut Resender, now: u64, to: u8, from: u32) -> MemoryWire {
+    let mut wire = MemoryWire::new(alloc, Vec::new(alloc));
+    resender.set_time(now.saturating_mul(1_000));
+    resender.repeat_to(&mut wire, to, from);
+    wire
+}
+
+/// Whether the wire was handed votes of round 1 for the member at the positions from one to before another, in order.
+fn has_votes(wire: &MemoryWire, to: u8, (from, end): (u32, u32)) -> bool {
+    let Some(sent) = wire.sent() else {
+        return false;
+    };
+    let mut position = from;
+    for vote in sent {
+        if !is_vote(vote, to, 1, position) {
+            return false;
+        }
+        position = position.saturating_add(1);
+    }
+    position == end
+}
+
+/// Whether these are sent again to the member at this time, where it lacks this position and those after it.
+fn is_sent(
     alloc: Global,
     resender: &mut Resender,
     now: u64,
     to: u8,
     from: u32,
-) -> Result<Vec<(u8, u32, u8)>, Fail> {
-    let mut wire = MemoryWire::new(alloc, Vec::new(alloc));
-    resender.set_time(now.saturating_mul(1_000));
-    resender.repeat_to(&mut wire, to, from);
-    let mut out = Vec::new(alloc);
-    let Some(sent) = wire.sent() else {
-        return Err(Fail::new("no memory"));
-    };
-    for (to, bytes) in sent {
-        out.push(shown(*to, bytes.as_slice()))?;
-    }
-    Ok(out)
+    wanted: (u32, u32),
+) -> bool {
+    let wire = again(alloc, resender, now, to, from);
+    has_votes(&wire, to, wanted)
 }
 
-/// Whether these are the votes for member 1 at the positions from one to before another, in order.
-fn are(found: &[(u8, u32, u8)], from: u32, to: u32) -> bool {
-    let mut position = from;
-    for vote in found {
-        if *vote != (1, position, 1) {
+/// A time in milliseconds, the position from which on member 1 lacks votes then, and the positions from one to before
+/// another whose votes it is sent.
+type Row = (u64, u32, (u32, u32));
+
+/// Whether it is sent these, at one time after the other.
+fn are_sent(alloc: Global, resender: &mut Resender, rows: &[Row]) -> bool {
+    for row in rows {
+        let (now, lacks, wanted) = *row;
+        if !is_sent(alloc, resender, now, 1, lacks, wanted) {
             return false;
         }
-        position = position.saturating_add(1);
     }
-    position == to
+    true
 }
 
-/// Whether member 1 is sent the votes at the positions from one to before another.
-fn has(
-    alloc: Global,
-    resender: &mut Resender,
-    now: u64,
-    lacks: u32,
-    (from, to): (u32, u32),
-) -> Result<bool, Fail> {
-    let found = again(alloc, resender, now, 1, lacks)?;
-    Ok(are(found.as_slice(), from, to))
+/// The same of n members, to one of which votes of this size were sent at the positions from 1 to before another.
+fn is_so(alloc: Global, members: u8, end: u32, size: usize, rows: &[Row]) -> bool {
+    let mut it = Resender::new(alloc, members, 0);
+    votes(&mut it, 1, end, size);
+    are_sent(alloc, &mut it, rows)
+}
+
+/// Votes for both of the others at the positions from 5 to before another.
+fn vote_for_both(resender: &mut Resender, end: u32) {
+    for position in 5..end {
+        vote(resender, 1, 1, position, 27);
+        vote(resender, 2, 1, position, 27);
+    }
 }
 
 #[test]
-fn a_member_that_lacks_votes_is_sent_its_own_again(rt: HostRuntime) -> Result<(), Fail> {
+fn a_member_that_lacks_votes_is_sent_its_own_again(rt: HostRuntime) {
     let alloc = rt.alloc();
     let mut it = Resender::new(alloc, 3, 0);
-    for position in 5..8 {
-        vote(&mut it, 1, 1, position, 27);
-        vote(&mut it, 2, 1, position, 27);
-    }
-    assert!(rt; has(alloc, &mut it, 0, 6, (6, 8))?);
-    let two = again(alloc, &mut it, 0, 2, 7)?;
-    assert!(rt; two.as_slice() == [(2, 7, 1)].as_slice());
+    vote_for_both(&mut it, 8);
     assert!(rt;
-        again(alloc, &mut it, 0, 0, 6)?.is_empty() && again(alloc, &mut it, 0, 15, 6)?.is_empty()
+        is_sent(alloc, &mut it, 0, 1, 6, (6, 8))
+            && is_sent(alloc, &mut it, 0, 2, 7, (7, 8))
+            && is_sent(alloc, &mut it, 0, 0, 6, (6, 6))
+            && is_sent(alloc, &mut it, 0, 15, 6, (6, 6))
     );
-    Ok(())
+}
+
+/// Whether the wire was handed 63 votes for member 1.
+fn has_63(wire: &MemoryWire) -> bool {
+    let Some(sent) = wire.sent() else {
+        return false;
+    };
+    for (to, bytes) in sent {
+        if *to != 1 || bytes.get(12) != Some(&4) {
+            return false;
+        }
+    }
+    sent.len() == 63
 }
 
 #[test]
-fn a_member_is_handed_its_own_votes_again_at_63_positions(rt: HostRuntime) -> Result<(), Fail> {
+fn a_member_is_handed_its_own_votes_again_at_63_positions(rt: HostRuntime) {
     let alloc = rt.alloc();
     let mut it = Resender::new(alloc, 2, 1);
     votes(&mut it, 1, 201, 27);
     let mut wire = MemoryWire::new(alloc, Vec::new(alloc));
-    assert!(rt; it.repeat_own(&mut wire, 100));
-    let Some(sent) = wire.sent() else {
-        return Err(Fail::new("no memory"));
-    };
-    assert!(rt; sent.len() == 63);
-    for (to, bytes) in sent {
-        assert!(rt; shown(*to, bytes.as_slice()).0 == 1);
-    }
+    assert!(rt; it.repeat_own(&mut wire, 100) && has_63(&wire));
     // what is to be lost to it at other positions isn't, and nothing is handed to it twice within 20 ms
     assert!(rt; !it.repeat_own(&mut wire, 100) && !it.repeat_own(&mut wire, 201));
-    Ok(())
 }
 
-#[test]
-fn who_comes_on_is_sent_what_it_was_not_at_63_positions(rt: HostRuntime) -> Result<(), Fail> {
-    let alloc = rt.alloc();
-    let mut it = Resender::new(alloc, 2, 0);
-    votes(&mut it, 1, 201, 27);
-    assert!(rt; has(alloc, &mut it, 0, 100, (100, 163))?);
-    assert!(rt; has(alloc, &mut it, 0, 110, (163, 173))?);
-    assert!(rt; has(alloc, &mut it, 0, 112, (173, 175))?);
-    assert!(rt; has(alloc, &mut it, 0, 180, (180, 201))?);
-    Ok(())
-}
+static COMING_ON: [Row; 4] = [
+    (0, 100, (100, 163)),
+    (0, 110, (163, 173)),
+    (0, 112, (173, 175)),
+    (0, 180, (180, 201)),
+];
 
 #[test]
-fn no_more_is_sent_again_than_fits_the_socket(rt: HostRuntime) -> Result<(), Fail> {
-    // 56 votes of 1,200 bytes are 195,328 bytes of a socket with their tags
-    let alloc = rt.alloc();
-    let mut it = Resender::new(alloc, 2, 0);
-    votes(&mut it, 1, 61, 1200);
-    assert!(rt; has(alloc, &mut it, 1000, 1, (1, 57))?);
-    assert!(rt; has(alloc, &mut it, 1009, 3, (57, 57))?);
-    assert!(rt; has(alloc, &mut it, 1010, 5, (57, 61))?);
-    Ok(())
+fn who_comes_on_is_sent_what_it_was_not_at_63_positions(rt: HostRuntime) {
+    assert!(rt; is_so(rt.alloc(), 2, 201, 27, &COMING_ON));
 }
 
-#[test]
-fn the_others_share_a_socket(rt: HostRuntime) -> Result<(), Fail> {
-    let alloc = rt.alloc();
-    let mut it = Resender::new(alloc, 3, 0);
-    votes(&mut it, 1, 61, 1200);
-    assert!(rt; has(alloc, &mut it, 0, 1, (1, 29))?);
-    Ok(())
-}
+/// 56 votes of 1,200 bytes are 195,328 bytes of a socket with their tags.
+static FITTING: [Row; 3] = [(1000, 1, (1, 57)), (1009, 3, (57, 57)), (1010, 5, (57, 61))];
 
 #[test]
-fn a_vote_of_another_ballot_lets_the_older_go(rt: HostRuntime) -> Result<(), Fail> {
-    let alloc = rt.alloc();
-    let mut it = Resender::new(alloc, 3, 0);
-    for position in 5..7 {
-        vote(&mut it, 1, 1, position, 27);
-        vote(&mut it, 2, 1, position, 27);
+fn no_more_is_sent_again_than_fits_the_socket(rt: HostRuntime) {
+    assert!(rt; is_so(rt.alloc(), 2, 61, 1200, &FITTING));
+}
+
+static SHARED: [Row; 1] = [(0, 1, (1, 29))];
+
+#[test]
+fn the_others_share_a_socket(rt: HostRuntime) {
+    assert!(rt; is_so(rt.alloc(), 3, 61, 1200, &SHARED));
+}
+
+/// Whether the wire was handed the vote of round 1 at position 5 and that of round 2 at position 6, for member 1.
+fn has_both_rounds(wire: &MemoryWire) -> bool {
+    match wire.sent() {
+        Some([first, second]) => is_vote(first, 1, 1, 5) && is_vote(second, 1, 2, 6),
+        _ => false,
     }
+}
+
+#[test]
+fn a_vote_of_another_ballot_lets_the_older_go(rt: HostRuntime) {
+    let alloc = rt.alloc();
+    let mut it = Resender::new(alloc, 3, 0);
+    vote_for_both(&mut it, 7);
     vote(&mut it, 1, 2, 6, 27);
-    assert!(rt; again(alloc, &mut it, 0, 2, 5)?.as_slice() == [(2, 5, 1)].as_slice());
-    assert!(rt; again(alloc, &mut it, 0, 1, 5)?.as_slice() == [(1, 5, 1), (1, 6, 2)].as_slice());
-    Ok(())
+    assert!(rt; is_sent(alloc, &mut it, 0, 2, 5, (5, 6)));
+    assert!(rt; has_both_rounds(&again(alloc, &mut it, 0, 1, 5)));
 }
 
-#[test]
-fn who_stands_still_is_sent_all_again_after_20_ms(rt: HostRuntime) -> Result<(), Fail> {
-    let alloc = rt.alloc();
-    let mut it = Resender::new(alloc, 2, 0);
-    votes(&mut it, 1, 10, 27);
-    assert!(rt; has(alloc, &mut it, 1000, 3, (3, 10))?);
-    assert!(rt; has(alloc, &mut it, 1019, 3, (10, 10))?);
-    assert!(rt; has(alloc, &mut it, 1020, 3, (3, 10))?);
-    assert!(rt; has(alloc, &mut it, 1039, 2, (10, 10))?);
-    assert!(rt; has(alloc, &mut it, 1040, 2, (2, 10))?);
-    Ok(())
-}
+static STANDING_STILL: [Row; 5] = [
+    (1000, 3, (3, 10)),
+    (1019, 3, (10, 10)),
+    (1020, 3, (3, 10)),
+    (1039, 2, (10, 10)),
+    (1040, 2, (2, 10)),
+];
 
 #[test]
-fn who_comes_on_by_one_is_sent_all_again_at_the_third_time(rt: HostRuntime) -> Result<(), Fail> {
-    let alloc = rt.alloc();
-    let mut it = Resender::new(alloc, 2, 0);
-    votes(&mut it, 1, 10, 27);
-    assert!(rt; has(alloc, &mut it, 0, 1, (1, 10))?);
-    assert!(rt; has(alloc, &mut it, 100, 2, (10, 10))? && has(alloc, &mut it, 200, 3, (10, 10))?);
-    assert!(rt; has(alloc, &mut it, 300, 4, (4, 10))?);
-    assert!(rt; has(alloc, &mut it, 319, 5, (10, 10))?);
-    assert!(rt; has(alloc, &mut it, 320, 6, (6, 10))?);
-    Ok(())
+fn who_stands_still_is_sent_all_again_after_20_ms(rt: HostRuntime) {
+    assert!(rt; is_so(rt.alloc(), 2, 10, 27, &STANDING_STILL));
 }
 
+static ONE_BY_ONE: [Row; 6] = [
+    (0, 1, (1, 10)),
+    (100, 2, (10, 10)),
+    (200, 3, (10, 10)),
+    (300, 4, (4, 10)),
+    (319, 5, (10, 10)),
+    (320, 6, (6, 10)),
+];
+
 #[test]
-fn a_long_vote_is_not_kept_nor_one_below_the_last(rt: HostRuntime) -> Result<(), Fail> {
+fn who_comes_on_by_one_is_sent_all_again_at_the_third_time(rt: HostRuntime) {
+    assert!(rt; is_so(rt.alloc(), 2, 10, 27, &ONE_BY_ONE));
+}
+
+static THE_SEVENTH: [Row; 1] = [(0, 1, (7, 8))];
+
+#[test]
+fn a_long_vote_is_not_kept_nor_one_below_the_last(rt: HostRuntime) {
     let alloc = rt.alloc();
     let mut it = Resender::new(alloc, 2, 0);
     vote(&mut it, 1, 1, 5, 1201);
     vote(&mut it, 1, 1, 7, 1200);
     vote(&mut it, 1, 1, 6, 27);
     vote(&mut it, 1, 1, 7, 1200);
-    assert!(rt; has(alloc, &mut it, 0, 1, (7, 8))?);
-    Ok(())
+    assert!(rt; are_sent(alloc, &mut it, &THE_SEVENTH));
+}
+
+static FROM_THE_11TH: [Row; 1] = [(0, 1, (11, 64))];
+
+#[test]
+fn the_last_131072_votes_are_kept(rt: HostRuntime) {
+    assert!(rt; is_so(rt.alloc(), 2, 131_083, 27, &FROM_THE_11TH));
 }
 
 #[test]
-fn the_last_131072_votes_are_kept(rt: HostRuntime) -> Result<(), Fail> {
-    let alloc = rt.alloc();
-    let mut it = Resender::new(alloc, 2, 0);
-    votes(&mut it, 1, 131_083, 27);
-    assert!(rt; has(alloc, &mut it, 0, 1, (11, 64))?);
-    Ok(())
-}
-
-#[test]
-fn no_more_than_16_mib_of_votes_are_kept(rt: HostRuntime) -> Result<(), Fail> {
+fn no_more_than_16_mib_of_votes_are_kept(rt: HostRuntime) {
     // 13,981 votes of 1,200 bytes are 16,777,200 bytes
-    let alloc = rt.alloc();
-    let mut it = Resender::new(alloc, 2, 0);
-    votes(&mut it, 1, 13_992, 1200);
-    assert!(rt; has(alloc, &mut it, 0, 1, (11, 64))?);
-    Ok(())
+    assert!(rt; is_so(rt.alloc(), 2, 13_992, 1200, &FROM_THE_11TH));
 }
