@@ -5,16 +5,12 @@ use crate::serving::SOCKET;
 use cli_ask::run_control_ask;
 use cli_follow::run_follow;
 use cli_io::Status;
+use std::fs;
 use std::io::{self, Cursor};
 
 /// Runs the program's words, in which `~` stands for a blank, at the control socket; prints how it ended, and what it
 /// wrote to the output and to standard error.
-pub(crate) fn run(
-    rt: &HostRuntime,
-    operator: &Operator<'_>,
-    words: &str,
-    input: &str,
-) -> io::Result<()> {
+fn run(rt: &HostRuntime, operator: &Operator<'_>, words: &str, input: &str) -> io::Result<()> {
     let alloc = rt.alloc();
     let mut owned = Vec::new(alloc);
     for word in words.split(' ') {
@@ -56,4 +52,32 @@ pub(crate) fn run(
         )?;
     }
     Ok(())
+}
+
+/// Does what a row is for, if it is one of the control socket: whether it is.
+pub(crate) fn run_row(
+    rt: &HostRuntime,
+    operator: &Operator<'_>,
+    line: &str,
+    body: &str,
+) -> io::Result<bool> {
+    if let Some(words) = line.strip_prefix("RUN ") {
+        operator.set_late(false);
+        run(rt, operator, words, body)?;
+        return Ok(true);
+    }
+    if let Some(words) = line.strip_prefix("LATE ") {
+        operator.set_late(true);
+        run(rt, operator, words, body)?;
+        return Ok(true);
+    }
+    if let Some(name) = line.strip_prefix("FILE ") {
+        print!(rt; "{}", fs::read_to_string(rt, name)?)?;
+        return Ok(true);
+    }
+    if line == "SOCKET" {
+        println!(rt; "{:o}", operator.mode())?;
+        return Ok(true);
+    }
+    Ok(false)
 }

@@ -24,14 +24,15 @@ mod node;
 mod operator;
 mod serving;
 
-use crate::asking::run;
+use crate::asking::run_row;
 use crate::following::follow_node;
 use crate::node::{answered, opened, settle};
 use crate::operator::Operator;
 use crate::serving::Member;
 use node_requests::RequestHandler;
 use px_records::MemoryRecords;
-use std::{fs, io};
+use std::io;
+use std::rc::Rc;
 
 /// Prints the answer to a request.
 fn respond(
@@ -41,7 +42,7 @@ fn respond(
     body: &str,
 ) -> io::Result<()> {
     let answer = answered(rt.alloc(), handler, line, body)?;
-    print!(rt; "== {line}\n-- {}\n{}", answer.code, answer.body)
+    print!(rt; "-- {}\n{}", answer.code, answer.body)
 }
 
 fn main(rt: HostRuntime) -> io::Result<()> {
@@ -51,30 +52,17 @@ fn main(rt: HostRuntime) -> io::Result<()> {
         return println!(rt; "memory");
     };
     let mut handler = RequestHandler::new(alloc, node);
-    let operator = Operator::new(&rt, Member::new(alloc));
+    let operator = Rc::new(alloc, Operator::new(&rt, Member::new(alloc)))?;
     for row in input.split("\n== ").skip(1) {
         let (line, body) = match row.split_once('\n') {
             Some((line, body)) => (line, body),
             None => (row, ""),
         };
-        if let Some((how, words)) = line.split_once(' ') {
-            if how == "RUN" || how == "LATE" {
-                println!(rt; "== {line}")?;
-                operator.set_late(how == "LATE");
-                run(&rt, &operator, words, body)?;
-                continue;
-            }
-        }
-        if let Some(name) = line.strip_prefix("FILE ") {
-            print!(rt; "== {line}\n{}", fs::read_to_string(&rt, name)?)?;
-            continue;
-        }
-        if line == "SOCKET" {
-            println!(rt; "== {line}\n{:o}", operator.mode())?;
+        println!(rt; "== {line}")?;
+        if run_row(&rt, &operator, line, body)? {
             continue;
         }
         if line == "FOLLOW" || line == "FOLLOW GUARDED" {
-            println!(rt; "== {line}")?;
             follow_node(&rt, body, line != "FOLLOW")?;
             continue;
         }

@@ -11,6 +11,9 @@ use std::net::{Net, SocketAddr, TcpListener, TcpStream};
 use std::os::unix::net::{self, UnixStream};
 use std::time::{Clock, Duration};
 
+/// How often a request is read at most, 8,192 bytes each time.
+const READS: usize = 64;
+
 /// The system's files, and a node in place of its network.
 #[derive(Drop)]
 pub(crate) struct Operator<'a> {
@@ -47,7 +50,7 @@ fn request_in(rt: &HostRuntime, stream: &mut UnixStream) -> io::Result<Vec<u8>> 
     let mut request = Vec::new(rt.alloc());
     let mut bytes = [0; 8192];
     stream.set_nonblocking(true)?;
-    loop {
+    for _ in 0..READS {
         match stream.read(&mut bytes) {
             Ok(0) => return Ok(request),
             Ok(count) => {
@@ -59,6 +62,7 @@ fn request_in(rt: &HostRuntime, stream: &mut UnixStream) -> io::Result<Vec<u8>> 
             Err(error) => return Err(error),
         }
     }
+    Ok(request)
 }
 
 impl<'a> Operator<'a> {
