@@ -1,5 +1,5 @@
 -- What keeps a node from its store.
-use Rattle.std.proofs.Common.{◌≡◌, ◌≢◌, ◌⊎◌, cond, Bool, true, false, ℕ, Result, Ok, Err, refl, sym, subst, ◌∙◌, inl, inr, arith}
+use Rattle.std.proofs.Common.{◌≡◌, ◌≢◌, ◌⊎◌, Bool, true, false, ℕ, Result, Ok, Err, refl, sym, subst, ◌∙◌, inl, inr, arith}
 use Rattle.std.specs.Prelude.{IfErr, OnErr, if◌then◌else◌}
 use Rattle.px_store.specs.declared.fault.AdoptFault.{AdoptFault}
 use Rattle.px_store.specs.declared.fault.AdoptFault.TheVariants as adopt
@@ -226,7 +226,8 @@ refusal_of_unmade o (inr (inr (inr e))) = as_refusal o (Refused 84) tt e
 pub refusal_of_making : {C : Type 0} (r : Result C Outcome) (outcome : Outcome) → r ≡ Err outcome → IfErr r IsUnmade →
     IsRefusal outcome
 refusal_of_making (Ok c) outcome is h = absurd (cc)
-refusal_of_making (Err o) outcome is h = let same : o ≡ outcome = cc in refusal_of_unmade outcome (subst IsUnmade same h)
+refusal_of_making (Err o) outcome is h =
+    let same : o ≡ outcome = cc in refusal_of_unmade outcome (subst IsUnmade same h)
 
 pub refusal_of_fault : (e : AdoptFault) → IsRefusal (adopt_outcome e)
 refusal_of_fault adopt.Memory = tt

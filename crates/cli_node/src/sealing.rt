@@ -113,8 +113,9 @@ fn sealing_with<S: Starts>(
     requires here { m.me < m.members }
     ensures refused { OnErr result ((result ≡ Err Memory) ⊎ (result ≡ Err (Refused 95))) }
     ensures keys { IfOk result (λ s. option_map (λ x. x.keys) s ≡ Some keys) }
-    ensures start { IfOk result (λ s. IfSome s (λ x. S.raises starts.now (words.entry.store.now ++ codes "-starts")
-        m.members m.me (is_made words.entry.is_from_file words.entry.is_new found || words.entry.makes_starts) x.start)) }
+    ensures start { IfOk result (λ s. IfSome s (λ x. S.raises starts.now
+        (words.entry.store.now ++ codes "-starts") m.members m.me
+        (is_made words.entry.is_from_file words.entry.is_new found || words.entry.makes_starts) x.start)) }
     ensures keyed { IfOk result (λ s. is_some s ≡ true) }
 {
     let Ok(path) = starts_path(alloc, words.store) else {
