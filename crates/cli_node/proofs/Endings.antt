@@ -141,16 +141,16 @@ unsealed (Ok x) outcome is h file new = absurd (cc)
 unsealed (Err o) outcome is (inl e) file new = let same : outcome ≡ Memory = cc in rw same (by_memory file new)
 unsealed (Err o) outcome is (inr e) file new = let same : outcome ≡ Refused 95 = cc in rw same (n95 file new)
 
--- that is out of memory, or 95
-pub unsealed_as : {X : Type 0} (r : Result X Outcome) (outcome : Outcome) → r ≡ Err outcome →
-    OnErr r ((r ≡ Err Memory) ⊎ (r ≡ Err (Refused 95))) → (outcome ≡ Memory) ⊎ (outcome ≡ Refused 95)
-unsealed_as (Ok x) outcome is h = absurd (cc)
-unsealed_as (Err o) outcome is (inl e) = inl (cc)
-unsealed_as (Err o) outcome is (inr e) = inr (cc)
+-- the outcome of what is refused with one number, or out of memory
+pub refused_as : {X : Type 0} (code : ℕ) (r : Result X Outcome) (outcome : Outcome) → r ≡ Err outcome →
+    OnErr r ((r ≡ Err Memory) ⊎ (r ≡ Err (Refused code))) → (outcome ≡ Memory) ⊎ (outcome ≡ Refused code)
+refused_as code (Ok x) outcome is h = absurd (cc)
+refused_as code (Err o) outcome is (inl e) = inl (cc)
+refused_as code (Err o) outcome is (inr e) = inr (cc)
 
-pub unsealed_refusal : {X : Type 0} (r : Result X Outcome) (outcome : Outcome) → r ≡ Err outcome →
-    OnErr r ((r ≡ Err Memory) ⊎ (r ≡ Err (Refused 95))) → IsRefusal outcome
-unsealed_refusal r outcome is h = elim (unsealed_as r outcome is h) [
+pub refusal_of : {X : Type 0} (code : ℕ) (r : Result X Outcome) (outcome : Outcome) → r ≡ Err outcome →
+    OnErr r ((r ≡ Err Memory) ⊎ (r ≡ Err (Refused code))) → IsRefusal outcome
+refusal_of code r outcome is h = elim (refused_as code r outcome is h) [
   | inl e ↦ subst IsRefusal (sym e) tt
   | inr e ↦ subst IsRefusal (sym e) tt
 ]

@@ -10,7 +10,7 @@ use Rattle.cli_node.specs.declared.store.Found.TheVariants as found
 use Rattle.cli_node.specs.declared.store.Opening.{Opening}
 use Rattle.cli_node.specs.declared.store.Opening.TheVariants.{Opens, Makes, Refuses}
 use Rattle.cli_node.specs.inner.Outcomes.{adopt_outcome}
-use Rattle.cli_node.specs.inner.Stores.{IsNone, IsRefusal, IsRefused, IsOpening, IsStoreless, IsUnmade}
+use Rattle.cli_node.specs.inner.Stores.{IsNone, IsRefused, IsOpening, IsStoreless, IsUnmade}
 
 -- refusals of one outcome have one number
 same_number : (a b : ℕ) → Refused a ≡ Refused b → a ≡ b
@@ -205,33 +205,3 @@ pub unfailed_making : {C : Type 0} (r : Result C Outcome) (outcome : Outcome) �
     outcome ≢ Refused 80
 unfailed_making (Ok c) outcome is h = absurd (cc)
 unfailed_making (Err o) outcome is h = let same : o ≡ outcome = cc in not_made_80 outcome (subst IsUnmade same h)
-
--- ---- nothing else comes of a store that isn't opened
-
-as_refusal : (o p : Outcome) → IsRefusal p → o ≡ p → IsRefusal o
-as_refusal o p h e = subst IsRefusal (sym e) h
-
-pub refusal_of_file : {C : Type 0} (r : Result C Outcome) (outcome : Outcome) → r ≡ Err outcome →
-    OnErr r ((r ≡ Err Memory) ⊎ (r ≡ Err (Refused 70))) → IsRefusal outcome
-refusal_of_file (Ok c) outcome is h = absurd (cc)
-refusal_of_file (Err o) outcome is (inl h) = as_refusal outcome Memory tt (cc)
-refusal_of_file (Err o) outcome is (inr h) = as_refusal outcome (Refused 70) tt (cc)
-
-refusal_of_unmade : (o : Outcome) → IsUnmade o → IsRefusal o
-refusal_of_unmade o (inl e) = as_refusal o Memory tt e
-refusal_of_unmade o (inr (inl e)) = as_refusal o (Refused 70) tt e
-refusal_of_unmade o (inr (inr (inl e))) = as_refusal o (Refused 82) tt e
-refusal_of_unmade o (inr (inr (inr e))) = as_refusal o (Refused 84) tt e
-
-pub refusal_of_making : {C : Type 0} (r : Result C Outcome) (outcome : Outcome) → r ≡ Err outcome → IfErr r IsUnmade →
-    IsRefusal outcome
-refusal_of_making (Ok c) outcome is h = absurd (cc)
-refusal_of_making (Err o) outcome is h =
-    let same : o ≡ outcome = cc in refusal_of_unmade outcome (subst IsUnmade same h)
-
-pub refusal_of_fault : (e : AdoptFault) → IsRefusal (adopt_outcome e)
-refusal_of_fault adopt.Memory = tt
-refusal_of_fault adopt.Failed = tt
-refusal_of_fault adopt.StoreVersion = tt
-refusal_of_fault adopt.BadStore = tt
-refusal_of_fault adopt.WrongNode = tt

@@ -1,7 +1,7 @@
 //! The subcommand `node`: a node over UDP.
 
 ghost use Rattle.std.specs.Prelude.{◌≡◌, ◌≢◌, ◌<◌, ◌≤◌, ◌⊎◌, ◌↔◌, Err, false, length, IfSome, OnErr, IsSome, IsTrue};
-ghost use Rattle.std.specs.Prelude.{ℕ, Bool, [], None, Ok, IfOk, map, option_map, option_and_then, is_some};
+ghost use Rattle.std.specs.Prelude.{ℕ, Bool, List, [], None, Ok, IfOk, map, option_map, option_and_then, is_some};
 ghost use Rattle.std.specs.Prelude.{string_bytes};
 ghost use Rattle.toml.specs.Data.{as_str, get_member};
 ghost use Rattle.px_transport.specs.Wiring.{keys_of, sealer_of};
@@ -10,10 +10,11 @@ ghost use Rattle.node_loop.specs.Timing.{MakesTurns};
 ghost use Rattle.node_udp.specs.Addresses.{AreFound, shown_address};
 ghost use Rattle.node_udp.specs.Members.{me_of, peers_of};
 ghost use Rattle.pf_scripts.specs.Lines.{spaced};
+ghost use Rattle.cli_files.specs.Clusters.{IsClusterKey};
 ghost use Rattle.cli_files.specs.Files.{settings_of};
 ghost use Rattle.cli_files.specs.Settings.{number_of};
 ghost use Rattle.cli_node.specs.declared.outcome.Outcome.TheVariants.{Memory, Refused};
-ghost use Rattle.cli_node.specs.inner.Running.{EndsAs, EndsNew, EndsWith, IsAlone, IsUnrun, RunsHere};
+ghost use Rattle.cli_node.specs.inner.Running.{EndsAs, EndsNew, EndsNode, EndsWith, IsAlone, IsUnrun, RunsHere};
 ghost use Rattle.cli_node.specs.inner.Running.{hears_asks, keys_with, sealer_with};
 ghost use Rattle.cli_node.specs.inner.Outcomes.{ComesTo, ComesOpen, ComesOpenOr, IsWireless};
 ghost use Rattle.cli_node.specs.inner.Stores.{IsStoreless};
@@ -531,10 +532,21 @@ fn run_new<T: Timer>(
     }
 }
 
-/// What `node` comes to: 40 of its numbers, 83, 93, 94, the store's refusals, 95, 82, 84, and the first refusal of a
-/// turn, in this order.
-pub(crate) fn node_outcome(rt: &HostRuntime, alloc: Global, words: NodeWords<'_, '_, '_>) -> Outcome
+/// The outcome of `node` with this timer, as [`node_outcome`] has it.
+fn run_node<T: Timer>(
+    rt: &HostRuntime,
+    alloc: Global,
+    words: NodeWords<'_, '_, '_>,
+    timer: &mut T,
+) -> Outcome
     ensures place { has_place words.entry.me (length words.entry.members.now) ≡ false → result ≡ Refused 40 }
+    ensures ran { EndsNode ⟦<SqlRecords<FileStore<File>> as Records>⟧
+        (λ m. (m.cluster ≡ words.entry.cluster) × (m.me ≡ words.entry.me) ×
+        (m.members ≡ length words.entry.members.now))
+        (λ keys. (is_some keys ≡ is_some words.entry.key) × IfSome keys (λ k. (text : List ℕ) ×
+        IsClusterKey text words.entry.cluster (map (λ t. t.now) words.entry.members.now) k.key))
+        (hears_asks words.entry.key words.entry.control) (λ how.
+        OnFront how (MakesTurns words.entry.turns (T.timer_events timer.old) (T.timer_events timer.new))) result }
     ensures ending { result ≢ Refused 80 }
     ensures store { IsStoreless words.entry.is_from_file words.entry.is_new result }
 {
@@ -550,12 +562,22 @@ pub(crate) fn node_outcome(rt: &HostRuntime, alloc: Global, words: NodeWords<'_,
     let Ok(found) = found_at(rt, alloc, words.store) else {
         return Outcome::Memory;
     };
-    let mut timer = TickTimer::new(m.me());
     if is_made(words.is_from_file, words.is_new, found) {
-        return run_new(rt, alloc, words, m, found, keys, &mut timer);
+        return run_new(rt, alloc, words, m, found, keys, timer);
     }
     match record_at(rt, alloc, words, m, found) {
-        Ok(records) => run_sealed(rt, alloc, words, m, found, records, keys, &mut timer),
+        Ok(records) => run_sealed(rt, alloc, words, m, found, records, keys, timer),
         Err(outcome) => outcome,
     }
+}
+
+/// What `node` evaluates to: 40 of its numbers, 83, 93, 94, the store's refusals, 95, 82, 84, and the first refusal of
+/// a turn, in this order.
+pub(crate) fn node_outcome(rt: &HostRuntime, alloc: Global, words: NodeWords<'_, '_, '_>) -> Outcome
+    ensures place { has_place words.entry.me (length words.entry.members.now) ≡ false → result ≡ Refused 40 }
+    ensures ending { result ≢ Refused 80 }
+    ensures store { IsStoreless words.entry.is_from_file words.entry.is_new result }
+{
+    let mut timer = TickTimer::new(words.me);
+    run_node(rt, alloc, words, &mut timer)
 }

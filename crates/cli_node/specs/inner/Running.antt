@@ -81,3 +81,10 @@ abbrev pub EndsNew : {R : Type 0} → Ghosts R → Membership → Option Keys �
 EndsNew {R} G m keys hears made result =
     IsRefusal result
     ⊎ ((given : R) × (G.members given ≡ m.members) × (G.failed given ≡ 0) × EndsWith G m keys hears given made result)
+
+-- the same of a member and keys of which these hold
+abbrev pub EndsNode : {R : Type 0} → Ghosts R → (is_member : Membership → Type 0) → (are_keys : Option Keys → Type 0) →
+    (hears : Bool) → (made : Ended → Type 0) → Outcome → Type 0
+EndsNode G is_member are_keys hears made result =
+    IsRefusal result
+    ⊎ ((m : Membership) × (keys : Option Keys) × is_member m × are_keys keys × EndsNew G m keys hears made result)

@@ -1,6 +1,6 @@
 -- what the run ended with
 use Rattle.std.proofs.Common.{inl, inr}
-use Rattle.cli_node.proofs.Endings.{unsealed_refusal}
+use Rattle.cli_node.proofs.Endings.{refusal_of}
 use Rattle.cli_node.proofs.node.run_new.Goals as goal
 
 pub returns-in-Ok-record_at-clause-store : goal.returns-in-Ok-record_at-clause-store
@@ -8,7 +8,7 @@ returns-in-Ok-record_at-clause-store g c = c.run_on.ensures.store c.args.words.i
 
 pub returns-in-Err-clause-ran : goal.returns-in-Err-clause-ran
 returns-in-Err-clause-ran g c =
-    inl (unsealed_refusal c.sealing_for.result c.in-Err.outcome c.in-Err.is c.sealing_for.ensures.refused)
+    inl (refusal_of 95 c.sealing_for.result c.in-Err.outcome c.in-Err.is c.sealing_for.ensures.refused)
 
 pub returns-in-Ok-record_at-clause-ran : goal.returns-in-Ok-record_at-clause-ran
 returns-in-Ok-record_at-clause-ran g c = inr (
