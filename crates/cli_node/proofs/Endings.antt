@@ -1,5 +1,5 @@
 -- With what a run ends: neither 93 nor 94, which are of a store before it is opened.
-use Rattle.std.proofs.Common.{◌≡◌, ◌⊎◌, ◌↔◌, ℕ, Result, Ok, Err, Bool, true, false, Option, Some, None, refl, sym, subst, ap, ◌∙◌, inl, inr, arith}
+use Rattle.std.proofs.Common.{◌≡◌, ◌⊎◌, ◌↔◌, ℕ, Result, Ok, Err, Bool, true, false, Option, Some, None, refl, sym, subst, ap, inl, inr, arith}
 use Rattle.std.specs.Prelude.{if◌then◌else◌, nat_lt, IsSome, IsTrue, OnErr}
 use Rattle.px_records.specs.declared.records.Records.{Ghosts}
 use Rattle.px_wire.specs.declared.membership.Membership.{Membership}
@@ -12,7 +12,7 @@ use Rattle.cli_node.specs.declared.outcome.Outcome.TheVariants.{Front, Stopped, 
 use Rattle.cli_node.specs.declared.outcome.Outcome.TheVariants.{Sound, Made, Memory, Unread}
 use Rattle.cli_node.specs.inner.Outcomes.{outcome_of, ending_of, ended_outcome, first_of, checked, is_refused}
 use Rattle.cli_node.specs.inner.Outcomes.{ComesOpenOr, IsWireless}
-use Rattle.cli_node.specs.inner.Stores.{IsStoreless}
+use Rattle.cli_node.specs.inner.Stores.{IsRefusal, IsStoreless}
 use Rattle.cli_node.proofs.Stores.{other, by_memory, sound}
 
 -- any other number
@@ -140,6 +140,20 @@ pub unsealed : {X : Type 0} (r : Result X Outcome) (outcome : Outcome) → r ≡
 unsealed (Ok x) outcome is h file new = absurd (cc)
 unsealed (Err o) outcome is (inl e) file new = let same : outcome ≡ Memory = cc in rw same (by_memory file new)
 unsealed (Err o) outcome is (inr e) file new = let same : outcome ≡ Refused 95 = cc in rw same (n95 file new)
+
+-- the outcome of what is refused with one number, or out of memory
+pub refused_as : {X : Type 0} (code : ℕ) (r : Result X Outcome) (outcome : Outcome) → r ≡ Err outcome →
+    OnErr r ((r ≡ Err Memory) ⊎ (r ≡ Err (Refused code))) → (outcome ≡ Memory) ⊎ (outcome ≡ Refused code)
+refused_as code (Ok x) outcome is h = absurd (cc)
+refused_as code (Err o) outcome is (inl e) = inl (cc)
+refused_as code (Err o) outcome is (inr e) = inr (cc)
+
+pub refusal_of : {X : Type 0} (code : ℕ) (r : Result X Outcome) (outcome : Outcome) → r ≡ Err outcome →
+    OnErr r ((r ≡ Err Memory) ⊎ (r ≡ Err (Refused code))) → IsRefusal outcome
+refusal_of code r outcome is h = elim (refused_as code r outcome is h) [
+  | inl e ↦ subst IsRefusal (sym e) tt
+  | inr e ↦ subst IsRefusal (sym e) tt
+]
 
 of_addresses : (o : Outcome) → (o ≡ Sound) ⊎ (o ≡ Refused 82) → (file new : Bool) → IsStoreless file new o
 of_addresses o (inl e) = as_is o Sound e sound

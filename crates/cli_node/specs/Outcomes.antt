@@ -1,5 +1,5 @@
 -- What a run of node, ask or key writes.
-use Rattle.std.specs.Prelude.{◌≡◌, ℕ, List, [], ◌∷◌, ◌++◌, Option, Some, None, codes, decimal}
+use Rattle.std.specs.Prelude.{◌≡◌, ℕ, List, [], ◌++◌, Option, Some, None, codes, decimal}
 use Rattle.std.specs.Io.KnownBytes.{Appends}
 use Rattle.cli_files.specs.KeyTexts.{key_text}
 use Rattle.cli_io.specs.declared.status.Status.{Status}

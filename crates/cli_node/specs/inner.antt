@@ -4,3 +4,4 @@ pub mod Outcomes
 pub mod Stores
 pub mod Running
 pub mod Asked
+pub mod Keeping

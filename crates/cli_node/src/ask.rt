@@ -1,9 +1,11 @@
 //! The subcommand `ask`: a command asked of a node.
 
-ghost use Rattle.std.specs.Prelude.{◌≡◌, ◌<◌, ◌⊎◌, ◌↔◌, Err, Ok, false, IfSome, IfOk, OnErr, IsSome, IsTrue};
+ghost use Rattle.std.specs.Prelude.{◌≡◌, ◌<◌, ◌⊎◌, ◌↔◌, [], ◌∷◌, Err, Ok, false, IfSome, IfOk, OnErr, IsSome, IsTrue};
 ghost use Rattle.clap.specs.Words.{found_of, rows_of};
 ghost use Rattle.pf_entry.specs.Owned.{command_value};
 ghost use Rattle.pf_arguments.specs.Asked.{asked, given_in, Change};
+ghost use Rattle.node_udp.specs.Addresses.{AreFound};
+ghost use Rattle.node_udp.specs.Members.{me_of, peers_of};
 ghost use Rattle.cli_node.specs.declared.outcome.Outcome.TheVariants.{Memory, Refused, Unread};
 ghost use Rattle.cli_node.specs.inner.Places.{has_place, waits_of};
 ghost use Rattle.cli_node.specs.inner.Asked.{IsAsked};
@@ -136,7 +138,9 @@ fn bind(
     alloc: Global,
     to: &str,
 ) -> Result<UdpWire<UdpSocket, HostRuntime>, Outcome>
-    ensures { OnErr result ((result ≡ Err Memory) ⊎ (result ≡ Err (Refused 82))) }
+    ensures refused { OnErr result ((result ≡ Err Memory) ⊎ (result ≡ Err (Refused 82))) }
+    ensures me { IfOk result (λ w. me_of w ≡ CLIENT) }
+    ensures peers { IfOk result (λ w. AreFound (to.now ∷ []) (peers_of w)) }
 {
     match UdpWire::bind(rt, alloc, &[to], CLIENT, WAIT_MS) {
         Ok(wire) => Ok(wire),
@@ -175,19 +179,25 @@ fn membership(words: AskWords<'_>) -> Option<Membership>
     Membership::new(words.cluster, words.members, CLIENT)
 }
 
-/// What the node answers to a command.
-fn asked(
-    rt: &HostRuntime,
+/// What the node answers to a command over a wire, if there is one.
+fn asked<W: Wire + Drop>(
     alloc: Global,
     words: AskWords<'_>,
     m: &Membership,
     command: &Command,
+    wire: Result<W, Outcome>,
 ) -> Outcome
     requires client { m.now.me ≡ CLIENT }
     requires member { words.node < m.now.members }
+    ensures asked { IfOk wire (λ w. (back : W) ×
+        IsAsked W.traffic w back m.now words.entry.node words.entry.waits command.now result) }
+    ensures refused { OnErr wire (wire ≡ Err result) }
 {
-    match bind(rt, alloc, words.to) {
-        Ok(mut wire) => asked_over(alloc, words, m, command, &mut wire),
+    match wire {
+        Ok(wire) => {
+            let mut wire = wire;
+            asked_over(alloc, words, m, command, &mut wire)
+        }
         Err(outcome) => outcome,
     }
 }
@@ -210,7 +220,7 @@ pub(crate) fn ask_outcome<R: Read>(
         Err(outcome) => return outcome,
     };
     match change_in(alloc, matches, &text) {
-        Ok(command) => asked(rt, alloc, words, &m, &command),
+        Ok(command) => asked(alloc, words, &m, &command, bind(rt, alloc, words.to)),
         Err(outcome) => outcome,
     }
 }

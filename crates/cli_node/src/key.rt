@@ -1,10 +1,12 @@
 //! The keys that the arguments of `node` name, and new ones.
 
 ghost use Rattle.std.specs.Prelude.{◌≡◌, ◌≢◌, ◌⊎◌, ◌==◌, ◌/◌, Ok, Err, Some, true, OnErr, IfOk, IfSome, option_map};
-ghost use Rattle.std.specs.Prelude.{ℕ, List, map, is_some};
+ghost use Rattle.std.specs.Prelude.{ℕ, List, OnOk, map, is_some};
 ghost use Rattle.cli_files.specs.Clusters.{IsClusterKey};
+ghost use Rattle.cli_files.specs.KeyTexts.{key_text};
 ghost use Rattle.node_udp.specs.Addresses.{address_of};
-ghost use Rattle.cli_node.specs.declared.outcome.Outcome.TheVariants.{Key, Memory, Refused};
+ghost use Rattle.cli_node.specs.declared.outcome.Outcome.TheVariants.{Key, Made, Memory, Refused};
+ghost use Rattle.cli_node.specs.inner.Keeping.{IsWritten};
 ghost use Rattle.cli_node.specs.inner.Places.{is_loopback, is_loopback_ip};
 
 use crate::node::NodeWords;
@@ -172,7 +174,9 @@ pub(crate) fn warn_unsealed(rt: &HostRuntime, words: NodeWords<'_, '_, '_>) {
 }
 
 /// Writes a key into a new file, which its owner alone may read.
-fn write_key<F: Files>(rt: &F, path: &str, text: &str) -> io::Result<()> {
+fn write_key<F: Files>(rt: &F, path: &str, text: &str) -> io::Result<()>
+    ensures { OnOk result (IsWritten F.File.contents text.now) }
+{
     let mut file = make_private(rt, path)?;
     let written = file.write_all(text.as_bytes());
     if written.is_err() {
@@ -183,7 +187,8 @@ fn write_key<F: Files>(rt: &F, path: &str, text: &str) -> io::Result<()> {
 
 /// What a new key comes to that is to be in a file: 94 where one is there, 83 where the system refuses it.
 fn kept<RT: Files + Eprint>(rt: &RT, alloc: Global, path: &str, key: &[u8; 32]) -> Outcome
-    ensures { (key : List ℕ) → result ≢ Key key }
+    ensures hidden { (key : List ℕ) → result ≢ Key key }
+    ensures made { result ≡ Made → IsWritten RT.File.contents (key_text key.now) }
 {
     let Ok(text) = key_text(alloc, key) else {
         return Outcome::Memory;
@@ -207,7 +212,8 @@ pub(crate) fn key_outcome<R: RandomBytes + Files + Eprint>(
     alloc: Global,
     file: Option<&str>,
 ) -> Outcome
-    ensures { (key : List ℕ) → result ≡ Key key → R.gives rt.now key }
+    ensures shown { (key : List ℕ) → result ≡ Key key → R.gives rt.now key }
+    ensures made { result ≡ Made → (key : List ℕ) × R.gives rt.now key × IsWritten R.File.contents (key_text key) }
 {
     let Ok(key) = new_key(rt) else {
         return Outcome::Unread;

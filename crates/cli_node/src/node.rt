@@ -1,15 +1,21 @@
 //! The subcommand `node`: a node over UDP.
 
 ghost use Rattle.std.specs.Prelude.{◌≡◌, ◌≢◌, ◌<◌, ◌≤◌, ◌⊎◌, ◌↔◌, Err, false, length, IfSome, OnErr, IsSome, IsTrue};
-ghost use Rattle.std.specs.Prelude.{ℕ, Bool, [], None, IfOk, option_map, option_and_then, is_some};
+ghost use Rattle.std.specs.Prelude.{ℕ, Bool, List, [], None, Ok, IfOk, map, option_map, option_and_then, is_some};
+ghost use Rattle.std.specs.Prelude.{string_bytes};
 ghost use Rattle.toml.specs.Data.{as_str, get_member};
 ghost use Rattle.px_transport.specs.Wiring.{keys_of, sealer_of};
 ghost use Rattle.node_loop.specs.Lives.{OnFront};
 ghost use Rattle.node_loop.specs.Timing.{MakesTurns};
+ghost use Rattle.node_udp.specs.Addresses.{AreFound, shown_address};
+ghost use Rattle.node_udp.specs.Members.{me_of, peers_of};
+ghost use Rattle.pf_scripts.specs.Lines.{spaced};
+ghost use Rattle.cli_files.specs.Clusters.{IsClusterKey};
 ghost use Rattle.cli_files.specs.Files.{settings_of};
 ghost use Rattle.cli_files.specs.Settings.{number_of};
 ghost use Rattle.cli_node.specs.declared.outcome.Outcome.TheVariants.{Memory, Refused};
-ghost use Rattle.cli_node.specs.inner.Running.{IsAlone, IsUnrun, RunsHere, hears_asks, keys_with, sealer_with};
+ghost use Rattle.cli_node.specs.inner.Running.{EndsAs, EndsNew, EndsNode, EndsWith, IsAlone, IsUnrun, RunsHere};
+ghost use Rattle.cli_node.specs.inner.Running.{hears_asks, keys_with, sealer_with};
 ghost use Rattle.cli_node.specs.inner.Outcomes.{ComesTo, ComesOpen, ComesOpenOr, IsWireless};
 ghost use Rattle.cli_node.specs.inner.Stores.{IsStoreless};
 ghost use Rattle.cli_node.specs.inner.Places.{is_count, has_place, turns_or_all, chosen};
@@ -195,6 +201,8 @@ pub(crate) fn bind(
 ) -> Result<UdpWire<UdpSocket, HostRuntime>, Outcome>
     ensures refused { OnErr result ((result ≡ Err Memory) ⊎ (result ≡ Err (Refused 82))) }
     ensures new { IfOk result (λ w. ⟦<UdpWire<UdpSocket, HostRuntime> as Wire>⟧.traffic w []) }
+    ensures me { IfOk result (λ w. me_of w ≡ words.entry.me) }
+    ensures peers { IfOk result (λ w. AreFound (map (λ t. t.now) words.entry.members.now) (peers_of w)) }
 {
     match UdpWire::bind(rt, alloc, words.members, words.me, WAIT_MS) {
         Ok(wire) => {
@@ -341,14 +349,18 @@ pub(crate) fn figures_at(words: NodeWords<'_, '_, '_>) -> Result<Option<SocketAd
 }
 
 /// Addresses with a blank between two.
-fn addresses_text(alloc: Global, addresses: &[Address]) -> Result<String, AllocError> {
+fn addresses_text(alloc: Global, addresses: &[Address]) -> Result<String, AllocError>
+    ensures { IfOk result (λ text. string_bytes text ≡ spaced (map shown_address addresses.now)) }
+{
     let mut text = String::new(alloc);
-    for address in addresses {
-        if !text.is_empty() {
+    let mut left = addresses;
+    while let [first, rest @ ..] = left {
+        let one = first.to_string(alloc)?;
+        text.push_str(one.as_str())?;
+        if !rest.is_empty() {
             text.push(' ')?;
         }
-        let one = address.to_string(alloc)?;
-        text.push_str(one.as_str())?;
+        left = rest;
     }
     Ok(text)
 }
@@ -433,24 +445,27 @@ fn run_member_in<R: Records, T: Timer>(
 
 /// The run of a member over its record, which is closed, whatever came of it; what a node has committed stands also
 /// where closing fails. A node whose store failed ends with that (70, 72), whoever asked for the change.
-fn run_on(
+fn run_on<T: Timer>(
     rt: &HostRuntime,
     alloc: Global,
     words: NodeWords<'_, '_, '_>,
     m: Membership,
     records: SqlRecords<FileStore<File>>,
     sealing: Option<Sealing>,
+    timer: &mut T,
 ) -> Outcome
     requires members { ⟦<SqlRecords<FileStore<File>> as Records>⟧.members records ≡ m.members }
     requires here { m.me < m.members }
     requires failed { ⟦<SqlRecords<FileStore<File>> as Records>⟧.failed records ≡ 0 }
     requires keyed { is_some sealing ≡ is_some words.key }
+    ensures ran { EndsAs ⟦<SqlRecords<FileStore<File>> as Records>⟧ m sealing
+        (hears_asks words.entry.key words.entry.control) records (λ how.
+        OnFront how (MakesTurns words.entry.turns (T.timer_events timer.old) (T.timer_events timer.new))) result }
     ensures why { result ≢ Refused 80 }
     ensures store { (file new : Bool) → IsStoreless file new result }
 {
     say_start(rt, words);
-    let mut timer = TickTimer::new(m.me());
-    let (outcome, records) = run_member_in(rt, alloc, words, m, records, sealing, &mut timer);
+    let (outcome, records) = run_member_in(rt, alloc, words, m, records, sealing, timer);
     let outcome = ending_of(outcome, records.failures());
     say_end(rt, alloc, words, outcome);
     let _closed = records.release().close();
@@ -458,7 +473,7 @@ fn run_on(
 }
 
 /// The run of a member over its record, where its packets can be sealed; else the record is closed: 95.
-fn run_sealed(
+fn run_sealed<T: Timer>(
     rt: &HostRuntime,
     alloc: Global,
     words: NodeWords<'_, '_, '_>,
@@ -466,16 +481,20 @@ fn run_sealed(
     found: Found,
     records: SqlRecords<FileStore<File>>,
     keys: Option<Keys>,
+    timer: &mut T,
 ) -> Outcome
     requires members { ⟦<SqlRecords<FileStore<File>> as Records>⟧.members records ≡ m.members }
     requires here { m.me < m.members }
     requires failed { ⟦<SqlRecords<FileStore<File>> as Records>⟧.failed records ≡ 0 }
     requires keyed { is_some keys ≡ is_some words.key }
+    ensures ran { EndsWith ⟦<SqlRecords<FileStore<File>> as Records>⟧ m keys
+        (hears_asks words.entry.key words.entry.control) records (λ how.
+        OnFront how (MakesTurns words.entry.turns (T.timer_events timer.old) (T.timer_events timer.new))) result }
     ensures ending { result ≢ Refused 80 }
     ensures store { (file new : Bool) → IsStoreless file new result }
 {
     match sealing_for(rt, alloc, words, m, keys, found) {
-        Ok(sealing) => run_on(rt, alloc, words, m, records, sealing),
+        Ok(sealing) => run_on(rt, alloc, words, m, records, sealing, timer),
         Err(outcome) => {
             let _closed = records.release().close();
             outcome
@@ -486,16 +505,20 @@ fn run_sealed(
 /// What a node over a new store comes to: its file of starts is made before its store, so that no store is without one,
 /// and no store is made where its sockets are refused. 95, the store's refusals, 82, 84, and the first refusal of a
 /// turn, in this order.
-fn run_new(
+fn run_new<T: Timer>(
     rt: &HostRuntime,
     alloc: Global,
     words: NodeWords<'_, '_, '_>,
     m: Membership,
     found: Found,
     keys: Option<Keys>,
+    timer: &mut T,
 ) -> Outcome
     requires here { m.me < m.members }
     requires keyed { is_some keys ≡ is_some words.key }
+    ensures ran { EndsNew ⟦<SqlRecords<FileStore<File>> as Records>⟧ m keys
+        (hears_asks words.entry.key words.entry.control) (λ how.
+        OnFront how (MakesTurns words.entry.turns (T.timer_events timer.old) (T.timer_events timer.new))) result }
     ensures ending { result ≢ Refused 80 }
     ensures store { IsStoreless words.entry.is_from_file words.entry.is_new result }
 {
@@ -504,15 +527,26 @@ fn run_new(
         Err(outcome) => return outcome,
     };
     match record_at(rt, alloc, words, m, found) {
-        Ok(records) => run_on(rt, alloc, words, m, records, sealing),
+        Ok(records) => run_on(rt, alloc, words, m, records, sealing, timer),
         Err(outcome) => outcome,
     }
 }
 
-/// What `node` comes to: 40 of its numbers, 83, 93, 94, the store's refusals, 95, 82, 84, and the first refusal of a
-/// turn, in this order.
-pub(crate) fn node_outcome(rt: &HostRuntime, alloc: Global, words: NodeWords<'_, '_, '_>) -> Outcome
+/// The outcome of `node` with this timer, as [`node_outcome`] has it.
+fn run_node<T: Timer>(
+    rt: &HostRuntime,
+    alloc: Global,
+    words: NodeWords<'_, '_, '_>,
+    timer: &mut T,
+) -> Outcome
     ensures place { has_place words.entry.me (length words.entry.members.now) ≡ false → result ≡ Refused 40 }
+    ensures ran { EndsNode ⟦<SqlRecords<FileStore<File>> as Records>⟧
+        (λ m. (m.cluster ≡ words.entry.cluster) × (m.me ≡ words.entry.me) ×
+        (m.members ≡ length words.entry.members.now))
+        (λ keys. (is_some keys ≡ is_some words.entry.key) × IfSome keys (λ k. (text : List ℕ) ×
+        IsClusterKey text words.entry.cluster (map (λ t. t.now) words.entry.members.now) k.key))
+        (hears_asks words.entry.key words.entry.control) (λ how.
+        OnFront how (MakesTurns words.entry.turns (T.timer_events timer.old) (T.timer_events timer.new))) result }
     ensures ending { result ≢ Refused 80 }
     ensures store { IsStoreless words.entry.is_from_file words.entry.is_new result }
 {
@@ -529,10 +563,21 @@ pub(crate) fn node_outcome(rt: &HostRuntime, alloc: Global, words: NodeWords<'_,
         return Outcome::Memory;
     };
     if is_made(words.is_from_file, words.is_new, found) {
-        return run_new(rt, alloc, words, m, found, keys);
+        return run_new(rt, alloc, words, m, found, keys, timer);
     }
     match record_at(rt, alloc, words, m, found) {
-        Ok(records) => run_sealed(rt, alloc, words, m, found, records, keys),
+        Ok(records) => run_sealed(rt, alloc, words, m, found, records, keys, timer),
         Err(outcome) => outcome,
     }
+}
+
+/// What `node` evaluates to: 40 of its numbers, 83, 93, 94, the store's refusals, 95, 82, 84, and the first refusal of
+/// a turn, in this order.
+pub(crate) fn node_outcome(rt: &HostRuntime, alloc: Global, words: NodeWords<'_, '_, '_>) -> Outcome
+    ensures place { has_place words.entry.me (length words.entry.members.now) ≡ false → result ≡ Refused 40 }
+    ensures ending { result ≢ Refused 80 }
+    ensures store { IsStoreless words.entry.is_from_file words.entry.is_new result }
+{
+    let mut timer = TickTimer::new(words.me);
+    run_node(rt, alloc, words, &mut timer)
 }

@@ -1,6 +1,8 @@
 //! How a node's packets are sealed: its keys, and this start of it.
 
-ghost use Rattle.std.specs.Prelude.{◌≡◌, ◌⊎◌, ◌||◌, ◌<◌, Ok, Err, Some, true, OnErr, IfOk, option_map, is_some};
+ghost use Rattle.std.specs.Prelude.{◌≡◌, ◌⊎◌, ◌||◌, ◌<◌, ◌++◌, ⊤, ℕ, Bool, List, Ok, Err, Some, true, codes};
+ghost use Rattle.std.specs.Prelude.{OnErr, IfOk, IfSome, option_map, is_some};
+ghost use Rattle.px_packet.specs.declared.start.Start as declared;
 ghost use Rattle.cli_node.specs.declared.outcome.Outcome.TheVariants.{Memory, Refused, Sound};
 ghost use Rattle.cli_node.specs.inner.Stores.{is_made};
 
@@ -13,6 +15,9 @@ use cli_files::{RaiseFault, raise_start, starts_in, starts_path};
 use node_loop::Membership;
 use px_packet::Start;
 use std::alloc::Global;
+use std::fs::Files;
+use std::random::RandomSource;
+use std::time::Clock;
 
 /// A file of starts that is missing or damaged, or can't be written.
 const BAD_STARTS: u8 = 95;
@@ -23,6 +28,38 @@ pub(crate) struct Sealing {
     pub(crate) keys: Keys,
     /// This start of the node.
     pub(crate) start: Start,
+}
+
+/// Where a member's starts are raised.
+trait Starts {
+    // in a file at this path, which may be made or not, this may be the next start of the member of a cluster of n
+    ghost raises: { Self → (path : List ℕ) → (n me : ℕ) → (may_be_made : Bool) → declared.Start → Type 0 };
+
+    /// Raises the start of the member, by [`raise_start`].
+    fn raise(
+        &self,
+        alloc: Global,
+        path: &str,
+        m: Membership,
+        may_be_made: bool,
+    ) -> Result<Start, RaiseFault>
+        requires here { m.me < m.members }
+        ensures { IfOk result (raises self.now path.now m.members m.me may_be_made) };
+}
+
+impl<R: Files + Clock + RandomSource> Starts for R {
+    // no contract says what the system's files, clock and random source have
+    ghost raises = { λ _ _ _ _ _ _. ⊤ };
+
+    fn raise(
+        &self,
+        alloc: Global,
+        path: &str,
+        m: Membership,
+        may_be_made: bool,
+    ) -> Result<Start, RaiseFault> {
+        raise_start(self, alloc, path, m.members(), m.me(), may_be_made)
+    }
 }
 
 /// The outcome of a file of starts that can't be used; why is logged.
@@ -64,8 +101,9 @@ fn may_make_starts(words: NodeWords<'_, '_, '_>, found: Found) -> bool
 
 /// How a node's packets are sealed with these keys in this start of it, written into the file beside its store first,
 /// where this was found.
-fn sealing_with(
+fn sealing_with<S: Starts>(
     rt: &HostRuntime,
+    starts: &S,
     alloc: Global,
     words: NodeWords<'_, '_, '_>,
     m: Membership,
@@ -75,13 +113,16 @@ fn sealing_with(
     requires here { m.me < m.members }
     ensures refused { OnErr result ((result ≡ Err Memory) ⊎ (result ≡ Err (Refused 95))) }
     ensures keys { IfOk result (λ s. option_map (λ x. x.keys) s ≡ Some keys) }
+    ensures start { IfOk result (λ s. IfSome s (λ x. S.raises starts.now
+        (words.entry.store.now ++ codes "-starts") m.members m.me
+        (is_made words.entry.is_from_file words.entry.is_new found || words.entry.makes_starts) x.start)) }
     ensures keyed { IfOk result (λ s. is_some s ≡ true) }
 {
     let Ok(path) = starts_path(alloc, words.store) else {
         return Err(Outcome::Memory);
     };
     let may_be_made = may_make_starts(words, found);
-    let raised = raise_start(rt, alloc, path.as_str(), m.members(), m.me(), may_be_made);
+    let raised = starts.raise(alloc, path.as_str(), m, may_be_made);
     sealing_of(rt, alloc, path.as_str(), keys, raised)
 }
 
@@ -101,7 +142,7 @@ pub(crate) fn sealing_for(
     ensures keyed { IfOk result (λ s. is_some s ≡ is_some keys) }
 {
     match keys {
-        Some(keys) => sealing_with(rt, alloc, words, m, keys, found),
+        Some(keys) => sealing_with(rt, rt, alloc, words, m, keys, found),
         None => Ok(None),
     }
 }

@@ -10,7 +10,7 @@ ghost use Rattle.px_store.specs.View.{connection_of, IsOpened};
 ghost use Rattle.cli_node.specs.declared.outcome.Outcome.TheVariants.{Memory, Refused};
 ghost use Rattle.cli_node.specs.declared.store.TheConstants.{NO_STORE, FILE_IS_THERE};
 ghost use Rattle.cli_node.specs.inner.Outcomes.{adopt_outcome};
-ghost use Rattle.cli_node.specs.inner.Stores.{IsOpening, IsStoreless, IsUnmade, is_made};
+ghost use Rattle.cli_node.specs.inner.Stores.{IsOpening, IsRefusal, IsStoreless, IsUnmade, is_made};
 
 use crate::database::open_database;
 use crate::faults::{say_closed, say_judged, say_storeless, why_closed};
@@ -224,6 +224,7 @@ fn open_store(
     found: Found,
 ) -> Result<Connection<FileStore<File>>, Outcome>
     ensures refused { IfErr result (IsStoreless words.entry.is_from_file words.entry.is_new) }
+    ensures kind { IfErr result IsRefusal }
     ensures lost { words.entry.is_from_file ≡ true → words.entry.is_new ≡ false →
         (found ≡ Found.Nothing) ⊎ (found ≡ Found.Empty) → result ≡ Err (Refused NO_STORE) }
     ensures held { words.entry.is_new ≡ true → found ≡ Found.Store → result ≡ Err (Refused FILE_IS_THERE) }
@@ -273,6 +274,7 @@ pub(crate) fn record_at(
     ensures members { IfOk result (λ r. ⟦<SqlRecords<FileStore<File>> as Records>⟧.members r ≡ m.members) }
     ensures begins { IfOk result (λ r. ⟦<SqlRecords<FileStore<File>> as Records>⟧.failed r ≡ 0) }
     ensures refused { IfErr result (IsStoreless words.entry.is_from_file words.entry.is_new) }
+    ensures kind { IfErr result IsRefusal }
     ensures unfailed { OnErr result (result ≢ Err (Refused 80)) }
 {
     let conn = match open_store(rt, alloc, words, found) {

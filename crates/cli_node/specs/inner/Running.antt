@@ -11,9 +11,11 @@ use Rattle.node_loop.specs.declared.ended.Ended.{Ended}
 use Rattle.node_udp.specs.Sockets.{SocketEvent}
 use Rattle.node_control.specs.Sockets.{RunsAtHearing, RunsSealedHearing}
 use Rattle.cli_node.specs.declared.outcome.Outcome.{Outcome}
-use Rattle.cli_node.specs.declared.outcome.Outcome.TheVariants.{Memory}
+use Rattle.cli_node.specs.declared.key.Keys.{Keys}
+use Rattle.cli_node.specs.declared.outcome.Outcome.TheVariants.{Memory, Refused}
 use Rattle.cli_node.specs.declared.sealing.Sealing.{Sealing}
-use Rattle.cli_node.specs.inner.Outcomes.{IsWireless, ended_outcome}
+use Rattle.cli_node.specs.inner.Stores.{IsRefusal}
+use Rattle.cli_node.specs.inner.Outcomes.{ComesOpenOr, IsWireless, ended_outcome, ending_of}
 
 -- the keys of packets that are opened
 abbrev pub keys_with : Sealing → List (List ℕ)
@@ -56,3 +58,33 @@ IsAlone G m given outcome back =
 -- the same where the record may stay closed
 abbrev pub IsUnrun : {R : Type 0} → Ghosts R → Membership → (given : R) → Outcome → (back : R) → Type 0
 IsUnrun G m given outcome back = IsAlone G m given outcome back ⊎ (IsWireless outcome × (back ≡ given))
+
+-- What a run over a record is shown as, which is closed then: a member that had failed ends with what it failed of.
+abbrev pub EndsAs : {R : Type 0} → Ghosts R → Membership → Option Sealing → (hears : Bool) → (given : R) →
+    (made : Ended → Type 0) → Outcome → Type 0
+EndsAs {R} G m sealing hears given made result =
+    (outcome : Outcome) × (back : R) × (result ≡ ending_of outcome (G.failed back))
+    × ComesOpenOr G m given outcome back
+    × (IsUnrun G m given outcome back ⊎ RunsHere G m sealing hears given outcome back made)
+
+-- the same with these keys, where the packets of this start can be sealed: else it is out of memory, or 95
+abbrev pub EndsWith : {R : Type 0} → Ghosts R → Membership → Option Keys → (hears : Bool) → (given : R) →
+    (made : Ended → Type 0) → Outcome → Type 0
+EndsWith G m keys hears given made result =
+    ((sealing : Option Sealing) × (option_map (λ s. s.keys) sealing ≡ keys)
+    × EndsAs G m sealing hears given made result)
+    ⊎ ((result ≡ Memory) ⊎ (result ≡ Refused 95))
+
+-- the same over a record of the member that has not failed, where there is one: else it is refused, or out of memory
+abbrev pub EndsNew : {R : Type 0} → Ghosts R → Membership → Option Keys → (hears : Bool) → (made : Ended → Type 0) →
+    Outcome → Type 0
+EndsNew {R} G m keys hears made result =
+    IsRefusal result
+    ⊎ ((given : R) × (G.members given ≡ m.members) × (G.failed given ≡ 0) × EndsWith G m keys hears given made result)
+
+-- the same of a member and keys of which these hold
+abbrev pub EndsNode : {R : Type 0} → Ghosts R → (is_member : Membership → Type 0) → (are_keys : Option Keys → Type 0) →
+    (hears : Bool) → (made : Ended → Type 0) → Outcome → Type 0
+EndsNode G is_member are_keys hears made result =
+    IsRefusal result
+    ⊎ ((m : Membership) × (keys : Option Keys) × is_member m × are_keys keys × EndsNew G m keys hears made result)

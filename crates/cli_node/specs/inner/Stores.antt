@@ -1,7 +1,8 @@
 -- Whether a node's store is opened or made.
-use Rattle.std.specs.Prelude.{◌≡◌, ◌≢◌, ◌⊎◌, ◌||◌, not, ℕ, Bool, true, false}
+use Rattle.std.specs.Prelude.{◌≡◌, ◌≢◌, ◌⊎◌, ◌||◌, ⊤, not, ℕ, Bool, true, false}
 use Rattle.cli_node.specs.declared.outcome.Outcome.{Outcome}
-use Rattle.cli_node.specs.declared.outcome.Outcome.TheVariants.{Memory, Refused}
+use Rattle.cli_node.specs.declared.outcome.Outcome.TheVariants.{Front, Stopped, Asked, Key, Refused, RefusedLine}
+use Rattle.cli_node.specs.declared.outcome.Outcome.TheVariants.{NoAnswer, Sound, Made, Memory, Unread}
 use Rattle.cli_node.specs.declared.store.Found.{Found}
 use Rattle.cli_node.specs.declared.store.Found.TheVariants as found
 use Rattle.cli_node.specs.declared.store.Opening.{Opening}
@@ -37,6 +38,20 @@ pub record IsOpening (is_from_file is_new : Bool) (f : Found) (o : Opening) : Ty
   pub held : is_new ≡ true → f ≡ found.Store → o ≡ Refuses FILE_IS_THERE
   pub lost : is_from_file ≡ true → is_new ≡ false → IsNone f → o ≡ Refuses NO_STORE
   pub refused : (code : ℕ) → o ≡ Refuses code → IsRefused is_from_file is_new f code
+
+-- nothing but out of memory and refusals
+abbrev pub IsRefusal : Outcome → Type 0
+IsRefusal Memory = ⊤
+IsRefusal (Refused code) = ⊤
+IsRefusal (Front front applied) = ⊥
+IsRefusal (Stopped front applied) = ⊥
+IsRefusal (Asked node number) = ⊥
+IsRefusal (Key key) = ⊥
+IsRefusal (RefusedLine code at) = ⊥
+IsRefusal NoAnswer = ⊥
+IsRefusal Sound = ⊥
+IsRefusal Made = ⊥
+IsRefusal Unread = ⊥
 
 -- why no store is made: its file or its database can't be, or its node would have no socket
 abbrev pub IsUnmade : Outcome → Type 0

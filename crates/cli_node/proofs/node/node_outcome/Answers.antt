@@ -1,5 +1,0 @@
--- what the run ended with
-use Rattle.cli_node.proofs.node.node_outcome.Goals as goal
-
-pub returns-in-Ok-record_at-clause-store : goal.returns-in-Ok-record_at-clause-store
-returns-in-Ok-record_at-clause-store c = c.run_sealed.ensures.store c.args.words.is_from_file c.args.words.is_new
