@@ -12,7 +12,10 @@ use Rattle.cli_node.specs.declared.outcome.Outcome.TheVariants.{Front, Stopped, 
 use Rattle.cli_node.specs.declared.outcome.Outcome.TheVariants.{Sound, Made, Memory, Unread}
 use Rattle.cli_node.specs.inner.Outcomes.{outcome_of, ending_of, ended_outcome, first_of, checked, is_refused}
 use Rattle.cli_node.specs.inner.Outcomes.{ComesOpenOr, IsWireless}
+use Rattle.cli_node.specs.inner.Running.{RunsHere, EndsAs, EndsWith, EndsNew, EndsNode, AnyTurns}
 use Rattle.cli_node.specs.inner.Stores.{IsRefusal, IsStoreless}
+use Rattle.cli_node.specs.declared.key.Keys.{Keys}
+use Rattle.cli_node.specs.declared.sealing.Sealing.{Sealing}
 use Rattle.cli_node.proofs.Stores.{other, by_memory, sound}
 
 -- any other number
@@ -185,3 +188,33 @@ none_of (Some x) b h e =
 pub place_first : (place keys store starts addresses control : Outcome) → place ≡ Refused 40 →
     checked place keys store starts addresses control ≡ Refused 40
 place_first place keys store starts addresses control e = ap (λ (o : Outcome). checked o keys store starts addresses control) e
+
+-- ---- whatever turns were made
+
+runs_any : {R : Type 0} (G : Ghosts R) (m : Membership) (s : Option Sealing) (hears : Bool) (given back : R) (o : Outcome)
+    (made : Ended → Type 0) → RunsHere G m s hears given o back made → RunsHere G m s hears given o back AnyTurns
+runs_any G m s hears given back o made (how, is, turns, honest) = (how, is, tt, honest)
+
+as_any : {R : Type 0} (G : Ghosts R) (m : Membership) (s : Option Sealing) (hears : Bool) (given : R) (made : Ended → Type 0)
+    (result : Outcome) → EndsAs G m s hears given made result → EndsAs G m s hears given AnyTurns result
+as_any G m s hears given made result (o, back, is, comes, inl unrun) = (o, back, is, comes, inl unrun)
+as_any G m s hears given made result (o, back, is, comes, inr here) =
+    (o, back, is, comes, inr (runs_any G m s hears given back o made here))
+
+with_any : {R : Type 0} (G : Ghosts R) (m : Membership) (keys : Option Keys) (hears : Bool) (given : R) (made : Ended → Type 0)
+    (result : Outcome) → EndsWith G m keys hears given made result → EndsWith G m keys hears given AnyTurns result
+with_any G m keys hears given made result (inl (s, same, ends)) = inl (s, same, as_any G m s hears given made result ends)
+with_any G m keys hears given made result (inr refused) = inr refused
+
+new_any : {R : Type 0} (G : Ghosts R) (m : Membership) (keys : Option Keys) (hears : Bool) (made : Ended → Type 0)
+    (result : Outcome) → EndsNew G m keys hears made result → EndsNew G m keys hears AnyTurns result
+new_any G m keys hears made result (inl refused) = inl refused
+new_any G m keys hears made result (inr (given, members, whole, ends)) =
+    inr (given, members, whole, with_any G m keys hears given made result ends)
+
+pub node_any : {R : Type 0} (G : Ghosts R) (is_member : Membership → Type 0) (are_keys : Option Keys → Type 0) (hears : Bool)
+    (made : Ended → Type 0) (result : Outcome) → EndsNode G is_member are_keys hears made result →
+    EndsNode G is_member are_keys hears AnyTurns result
+node_any G is_member are_keys hears made result (inl refused) = inl refused
+node_any G is_member are_keys hears made result (inr (m, keys, is, are, ends)) =
+    inr (m, keys, is, are, new_any G m keys hears made result ends)

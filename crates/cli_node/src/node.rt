@@ -8,13 +8,13 @@ ghost use Rattle.px_transport.specs.Wiring.{keys_of, sealer_of};
 ghost use Rattle.node_loop.specs.Lives.{OnFront};
 ghost use Rattle.node_loop.specs.Timing.{MakesTurns};
 ghost use Rattle.node_udp.specs.Addresses.{AreFound, shown_address};
-ghost use Rattle.node_udp.specs.Members.{me_of, peers_of};
+ghost use Rattle.node_udp.specs.Members.{hears_of, me_of, peers_of};
 ghost use Rattle.pf_scripts.specs.Lines.{spaced};
 ghost use Rattle.cli_files.specs.Clusters.{IsClusterKey};
 ghost use Rattle.cli_files.specs.Files.{settings_of};
 ghost use Rattle.cli_files.specs.Settings.{number_of};
 ghost use Rattle.cli_node.specs.declared.outcome.Outcome.TheVariants.{Memory, Refused};
-ghost use Rattle.cli_node.specs.inner.Running.{EndsAs, EndsNew, EndsNode, EndsWith, IsAlone, IsUnrun, RunsHere};
+ghost use Rattle.cli_node.specs.inner.Running.{AnyTurns, EndsAs, EndsNew, EndsNode, EndsWith, IsAlone, IsUnrun, RunsHere};
 ghost use Rattle.cli_node.specs.inner.Running.{hears_asks, keys_with, sealer_with};
 ghost use Rattle.cli_node.specs.inner.Outcomes.{ComesTo, ComesOpen, ComesOpenOr, IsWireless};
 ghost use Rattle.cli_node.specs.inner.Stores.{IsStoreless};
@@ -203,6 +203,7 @@ pub(crate) fn bind(
     ensures new { IfOk result (λ w. ⟦<UdpWire<UdpSocket, HostRuntime> as Wire>⟧.traffic w []) }
     ensures me { IfOk result (λ w. me_of w ≡ words.entry.me) }
     ensures peers { IfOk result (λ w. AreFound (map (λ t. t.now) words.entry.members.now) (peers_of w)) }
+    ensures hears { IfOk result (λ w. hears_of w ≡ hears_asks words.entry.key words.entry.control) }
 {
     match UdpWire::bind(rt, alloc, words.members, words.me, WAIT_MS) {
         Ok(wire) => {
@@ -575,6 +576,12 @@ fn run_node<T: Timer>(
 /// a turn, in this order.
 pub(crate) fn node_outcome(rt: &HostRuntime, alloc: Global, words: NodeWords<'_, '_, '_>) -> Outcome
     ensures place { has_place words.entry.me (length words.entry.members.now) ≡ false → result ≡ Refused 40 }
+    ensures ran { EndsNode ⟦<SqlRecords<FileStore<File>> as Records>⟧
+        (λ m. (m.cluster ≡ words.entry.cluster) × (m.me ≡ words.entry.me) ×
+        (m.members ≡ length words.entry.members.now))
+        (λ keys. (is_some keys ≡ is_some words.entry.key) × IfSome keys (λ k. (text : List ℕ) ×
+        IsClusterKey text words.entry.cluster (map (λ t. t.now) words.entry.members.now) k.key))
+        (hears_asks words.entry.key words.entry.control) AnyTurns result }
     ensures ending { result ≢ Refused 80 }
     ensures store { IsStoreless words.entry.is_from_file words.entry.is_new result }
 {

@@ -49,6 +49,10 @@ RunsHere G m sealing hears given outcome back made =
     (how : Ended) × (outcome ≡ ended_outcome Memory how) × made how
     × (G.is_honest back → (events : List SocketEvent) × RunsWith G m sealing hears given back events)
 
+-- whatever turns were made
+abbrev pub AnyTurns : Ended → Type 0
+AnyTurns how = Unit {0}
+
 -- there is no wire, or no memory: its record is opened alone
 abbrev pub IsAlone : {R : Type 0} → Ghosts R → Membership → (given : R) → Outcome → (back : R) → Type 0
 IsAlone G m given outcome back =
