@@ -1,11 +1,11 @@
 //! Datagrams over a UDP socket.
 
 ghost use Rattle.std.specs.Prelude.{◌≡◌, ◌⊎◌, ◌<◌, ◌≤◌, ◌==◌, Some, None, Err, IfOk, IfSome, OnErr, IsTrue};
-ghost use Rattle.std.specs.Prelude.{[], ◌∷◌, ◌≢◌, map, length, option_map, take, true, false};
+ghost use Rattle.std.specs.Prelude.{ℕ, [], ◌∷◌, ◌≢◌, map, length, option_map, take, true, false};
 ghost use Rattle.std.specs.List.{list_any};
 ghost use Rattle.pf_entry.specs.declared.limits.TheConstants.{CLIENT};
 ghost use Rattle.px_transport.specs.Identities.{plain};
-ghost use Rattle.px_transport.specs.Wires.{Adds, IsQuiet, gives, one_more};
+ghost use Rattle.px_transport.specs.Wires.{Adds, Counts, Handed, IsQuiet, gives, one_more};
 ghost use Rattle.node_udp.specs.declared.udp.BindFault.TheVariants.{Memory};
 ghost use Rattle.node_udp.specs.Addresses.{AreFound};
 ghost use Rattle.px_wire.specs.Message.{Group, Message, DatagramBytes};
@@ -516,6 +516,9 @@ impl<S: Socket, C: Clock> Wire for UdpWire<S, C> {
 
     fn wait(&mut self, milliseconds: u32)
         ensures hears { hears_of self.new ≡ hears_of self.old }
+        ensures quiet { IsQuiet (WentOver (S.traffic (socket_of self.old)) self.old)
+            (WentOver (S.traffic (socket_of self.new)) self.new) }
+        ensures counts { self.old.failures ≤ self.new.failures }
     {
         if milliseconds == 0 || !self.set_blocking(true) {
             return;
@@ -536,6 +539,9 @@ impl<S: Socket, C: Clock> Wire for UdpWire<S, C> {
 
     fn send(&mut self, to: u8, bytes: &[u8]) -> bool
         ensures hears { hears_of self.new ≡ hears_of self.old }
+        ensures handed { Adds (WentOver (S.traffic (socket_of self.old)) self.old)
+            (WentOver (S.traffic (socket_of self.new)) self.new) (Handed to bytes.now ∷ []) }
+        ensures counts { Counts result self.old.failures self.new.failures }
     {
         let sent = match self.address(to) {
             Some(there) => self.sent_to(bytes, there),
