@@ -16,6 +16,7 @@ use Rattle.cli_node.specs.inner.Running.{RunsHere, EndsAs, EndsWith, EndsNew, En
 use Rattle.cli_node.specs.inner.Stores.{IsRefusal, IsStoreless}
 use Rattle.cli_node.specs.declared.key.Keys.{Keys}
 use Rattle.cli_node.specs.declared.sealing.Sealing.{Sealing}
+use Rattle.px_packet.specs.declared.start.Start.{Start}
 use Rattle.cli_node.proofs.Stores.{other, by_memory, sound}
 
 -- any other number
@@ -201,20 +202,64 @@ as_any G m s hears given made result (o, back, is, comes, inl unrun) = (o, back,
 as_any G m s hears given made result (o, back, is, comes, inr here) =
     (o, back, is, comes, inr (runs_any G m s hears given back o made here))
 
-with_any : {R : Type 0} (G : Ghosts R) (m : Membership) (keys : Option Keys) (hears : Bool) (given : R) (made : Ended → Type 0)
-    (result : Outcome) → EndsWith G m keys hears given made result → EndsWith G m keys hears given AnyTurns result
-with_any G m keys hears given made result (inl (s, same, ends)) = inl (s, same, as_any G m s hears given made result ends)
-with_any G m keys hears given made result (inr refused) = inr refused
+with_any : {R : Type 0} (G : Ghosts R) (m : Membership) (keys : Option Keys) (is_start : Start → Type 0) (hears : Bool)
+    (given : R) (made : Ended → Type 0) (result : Outcome) → EndsWith G m keys is_start hears given made result →
+    EndsWith G m keys is_start hears given AnyTurns result
+with_any G m keys is_start hears given made result (inl (s, same, start, ends)) =
+    inl (s, same, start, as_any G m s hears given made result ends)
+with_any G m keys is_start hears given made result (inr refused) = inr refused
 
-new_any : {R : Type 0} (G : Ghosts R) (m : Membership) (keys : Option Keys) (hears : Bool) (made : Ended → Type 0)
-    (result : Outcome) → EndsNew G m keys hears made result → EndsNew G m keys hears AnyTurns result
-new_any G m keys hears made result (inl refused) = inl refused
-new_any G m keys hears made result (inr (given, members, whole, ends)) =
-    inr (given, members, whole, with_any G m keys hears given made result ends)
+new_any : {R : Type 0} (G : Ghosts R) (m : Membership) (keys : Option Keys) (is_start : Start → Type 0) (hears : Bool)
+    (made : Ended → Type 0) (result : Outcome) → EndsNew G m keys is_start hears made result →
+    EndsNew G m keys is_start hears AnyTurns result
+new_any G m keys is_start hears made result (inl refused) = inl refused
+new_any G m keys is_start hears made result (inr (given, members, whole, ends)) =
+    inr (given, members, whole, with_any G m keys is_start hears given made result ends)
 
-pub node_any : {R : Type 0} (G : Ghosts R) (is_member : Membership → Type 0) (are_keys : Option Keys → Type 0) (hears : Bool)
-    (made : Ended → Type 0) (result : Outcome) → EndsNode G is_member are_keys hears made result →
-    EndsNode G is_member are_keys hears AnyTurns result
-node_any G is_member are_keys hears made result (inl refused) = inl refused
-node_any G is_member are_keys hears made result (inr (m, keys, is, are, ends)) =
-    inr (m, keys, is, are, new_any G m keys hears made result ends)
+pub node_any : {R : Type 0} (G : Ghosts R) (is_member : Membership → Type 0) (are_keys : Option Keys → Type 0)
+    (is_start : Membership → Start → Type 0) (hears : Bool) (made : Ended → Type 0) (result : Outcome) →
+    EndsNode G is_member are_keys is_start hears made result → EndsNode G is_member are_keys is_start hears AnyTurns result
+node_any G is_member are_keys is_start hears made result (inl refused) = inl refused
+node_any G is_member are_keys is_start hears made result (inr (m, keys, is, are, ends)) =
+    inr (m, keys, is, are, new_any G m keys (is_start m) hears made result ends)
+
+-- the start is one of more
+in_more : (is may : Start → Type 0) (s : Option Sealing) → ((x : Start) → is x → may x) → IfSome s (λ x. is x.start) →
+    IfSome s (λ x. may x.start)
+in_more is may None f h = h
+in_more is may (Some s) f h = f s.start h
+
+pub with_found : {R : Type 0} (G : Ghosts R) (m : Membership) (keys : Option Keys) (is may : Start → Type 0) (hears : Bool)
+    (given : R) (made : Ended → Type 0) {result : Outcome} → ((x : Start) → is x → may x) →
+    EndsWith G m keys is hears given made result → EndsWith G m keys may hears given made result
+with_found G m keys is may hears given made f (inl (s, same, start, ends)) = inl (s, same, in_more is may s f start, ends)
+with_found G m keys is may hears given made f (inr refused) = inr refused
+
+pub new_found : {R : Type 0} (G : Ghosts R) (m : Membership) (keys : Option Keys) (is may : Start → Type 0) (hears : Bool)
+    (made : Ended → Type 0) {result : Outcome} → ((x : Start) → is x → may x) → EndsNew G m keys is hears made result →
+    EndsNew G m keys may hears made result
+new_found G m keys is may hears made f (inl refused) = inl refused
+new_found G m keys is may hears made f (inr (given, members, whole, ends)) =
+    inr (given, members, whole, with_found G m keys is may hears given made f ends)
+
+-- ---- nothing is refused
+
+both : (o p : Outcome) → first_of o p ≡ Sound → (o ≡ Sound) × (p ≡ Sound)
+both (Front n a) p e = absurd (cc)
+both (Stopped n a) p e = absurd (cc)
+both (Asked n k) p e = absurd (cc)
+both (Key k) p e = absurd (cc)
+both (Refused c) p e = absurd (cc)
+both (RefusedLine c l) p e = absurd (cc)
+both NoAnswer p e = absurd (cc)
+both Sound p e = (refl, e)
+both Made p e = absurd (cc)
+both Memory p e = absurd (cc)
+both Unread p e = absurd (cc)
+
+-- neither of the keys
+pub keys_sound : (place key other store starts addresses control : Outcome) →
+    checked place (first_of key other) store starts addresses control ≡ Sound → (key ≡ Sound) × (other ≡ Sound)
+keys_sound place key other store starts addresses control e =
+    both key other (both (first_of key other) (first_of store (first_of starts (first_of addresses control)))
+    (both place (first_of (first_of key other) (first_of store (first_of starts (first_of addresses control)))) e).1).0

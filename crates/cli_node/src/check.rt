@@ -1,15 +1,17 @@
 //! The subcommand `node` with `--check`: whether a node could be started. Nothing is changed: a socket that is made to
 //! try that is removed.
 
-ghost use Rattle.std.specs.Prelude.{◌≡◌, ◌⊎◌, Bool, Err, false, length, OnErr};
+ghost use Rattle.std.specs.Prelude.{◌≡◌, ◌⊎◌, ℕ, Bool, List, Option, Err, false, length, map, option_map, OnErr};
 ghost use Rattle.cli_node.specs.declared.outcome.Outcome.{Outcome};
 ghost use Rattle.cli_node.specs.declared.outcome.Outcome.TheVariants.{Memory, Refused, Sound};
 ghost use Rattle.cli_node.specs.inner.Outcomes.{checked, first_of};
 ghost use Rattle.cli_node.specs.inner.Places.{has_place};
+ghost use Rattle.cli_node.specs.inner.Secrets.{IsNamed};
 ghost use Rattle.cli_node.specs.inner.Stores.{IsStoreless};
 
 use crate::database::open_database;
 use crate::faults::{owner_of, say_closed, say_figures, say_place, say_storeless, say_unknown};
+use crate::files::NodeFiles;
 use crate::key::key_in;
 use crate::node::{NodeWords, figures_at, membership};
 use crate::outcome::Outcome;
@@ -268,18 +270,22 @@ fn of_place(rt: &HostRuntime, words: NodeWords<'_, '_, '_>, m: Option<Membership
 }
 
 /// What is refused of one key's file, if there is one.
-fn of_key(
+fn of_key<F: NodeFiles>(
     rt: &HostRuntime,
+    files: &F,
     alloc: Global,
     words: NodeWords<'_, '_, '_>,
     path: Option<&str>,
 ) -> Outcome
-    ensures { (result ≡ Sound) ⊎ ((result ≡ Memory) ⊎ (result ≡ Refused 83)) }
+    ensures why { (result ≡ Sound) ⊎ ((result ≡ Memory) ⊎ (result ≡ Refused 83)) }
+    ensures sound { result ≡ Sound → (key : Option (List ℕ)) × IsNamed
+        (F.makes files.now words.entry.cluster (map (λ t. t.now) words.entry.members.now))
+        (option_map (λ t. t.now) path.entry) key }
 {
     let Some(path) = path else {
         return Outcome::Sound;
     };
-    match key_in(rt, alloc, words, path) {
+    match key_in(rt, files, alloc, words, path) {
         Ok(_) => Outcome::Sound,
         Err(outcome) => outcome,
     }
@@ -304,18 +310,25 @@ fn of_addresses(rt: &HostRuntime, words: NodeWords<'_, '_, '_>) -> Outcome
 /// What a start with these words would be refused for, as far as settings, keys, addresses, sockets and store tell: all
 /// is said on standard error, and the first answered, in the order of a start: 40, 83, 93, 94, the store's refusals,
 /// 95, 82, 84.
-pub(crate) fn check_outcome(
+pub(crate) fn check_outcome<F: NodeFiles>(
     rt: &HostRuntime,
+    files: &F,
     alloc: Global,
     words: NodeWords<'_, '_, '_>,
 ) -> Outcome
     ensures place { has_place words.entry.me (length words.entry.members.now) ≡ false → result ≡ Refused 40 }
     ensures store { IsStoreless words.entry.is_from_file words.entry.is_new result }
+    ensures key { result ≡ Sound → (key : Option (List ℕ)) × IsNamed
+        (F.makes files.now words.entry.cluster (map (λ t. t.now) words.entry.members.now))
+        (option_map (λ t. t.now) words.entry.key) key }
+    ensures other { result ≡ Sound → (key : Option (List ℕ)) × IsNamed
+        (F.makes files.now words.entry.cluster (map (λ t. t.now) words.entry.members.now))
+        (option_map (λ t. t.now) words.entry.other_key) key }
 {
     let m = membership(words);
     let place = of_place(rt, words, m);
-    let key = of_key(rt, alloc, words, words.key);
-    let other = of_key(rt, alloc, words, words.other_key);
+    let key = of_key(rt, files, alloc, words, words.key);
+    let other = of_key(rt, files, alloc, words, words.other_key);
     let store = of_store(rt, alloc, words, m);
     let starts = starts_of(rt, alloc, words, m);
     let addresses = of_addresses(rt, words);

@@ -2,7 +2,7 @@
 
 ghost use Rattle.std.specs.Prelude.{◌≡◌, ◌≢◌, ◌<◌, ◌≤◌, ◌⊎◌, ◌↔◌, Err, false, length, IfSome, OnErr, IsSome, IsTrue};
 ghost use Rattle.std.specs.Prelude.{ℕ, Bool, List, [], None, Ok, IfOk, map, option_map, option_and_then, is_some};
-ghost use Rattle.std.specs.Prelude.{string_bytes};
+ghost use Rattle.std.specs.Prelude.{◌||◌, ◌++◌, ⊤, codes, string_bytes};
 ghost use Rattle.toml.specs.Data.{as_str, get_member};
 ghost use Rattle.px_transport.specs.Wiring.{keys_of, sealer_of};
 ghost use Rattle.node_loop.specs.Lives.{OnFront};
@@ -17,11 +17,15 @@ ghost use Rattle.cli_node.specs.declared.outcome.Outcome.TheVariants.{Memory, Re
 ghost use Rattle.cli_node.specs.inner.Running.{AnyTurns, EndsAs, EndsNew, EndsNode, EndsWith, IsAlone, IsUnrun, RunsHere};
 ghost use Rattle.cli_node.specs.inner.Running.{hears_asks, keys_with, sealer_with};
 ghost use Rattle.cli_node.specs.inner.Outcomes.{ComesTo, ComesOpen, ComesOpenOr, IsWireless};
-ghost use Rattle.cli_node.specs.inner.Stores.{IsStoreless};
+ghost use Rattle.cli_node.specs.inner.Given.{IsPlaced, text_in};
+ghost use Rattle.cli_node.specs.inner.Secrets.{AreNamed};
+ghost use Rattle.cli_node.specs.inner.Stores.{IsStoreless, is_made};
+ghost use Rattle.cli_node.specs.declared.store.Found.{Found};
 ghost use Rattle.cli_node.specs.inner.Places.{is_count, has_place, turns_or_all, chosen};
 
 use crate::events::{say_end, say_start};
 use crate::faults::say_place;
+use crate::files::NodeFiles;
 use crate::key::{Keys, keys_for, warn_unsealed};
 use crate::outcome::{Outcome, ended_outcome, ending_of};
 use crate::sealing::{Sealing, sealing_for};
@@ -118,7 +122,14 @@ impl<'m, 'w, 'a> NodeWords<'m, 'w, 'a> {
         matches: &ArgMatches<'g>,
         file: &'a NodeFile,
         members: &'m [&'w str],
-    ) -> Option<NodeWords<'m, 'w, 'a>> {
+    ) -> Option<NodeWords<'m, 'w, 'a>>
+        ensures store { IfSome result (λ w. text_in matches.now file.now (codes "store") ≡ Some w.store.now) }
+        ensures key { IfSome result (λ w. option_map (λ t. t.now) w.key ≡ text_in matches.now file.now (codes "key")) }
+        ensures other_key { IfSome result (λ w. option_map (λ t. t.now) w.other_key ≡ text_in matches.now file.now (codes "other-key")) }
+        ensures control { IfSome result (λ w. option_map (λ t. t.now) w.control ≡ text_in matches.now file.now (codes "control")) }
+        ensures metrics { IfSome result (λ w. option_map (λ t. t.now) w.metrics ≡ text_in matches.now file.now (codes "metrics")) }
+        ensures members { IfSome result (λ w. w.members ≡ members) }
+    {
         let Some(me) = number_or(matches.get_one::<u32>("me"), file, "me") else {
             return None;
         };
@@ -277,6 +288,8 @@ fn run_at<R: Records, T: Timer>(
     timer: &mut T,
     place: Option<ControlPlace<'_>>,
 ) -> (Outcome, R)
+    requires placed { IsPlaced (λ p. p.path.now) (λ p. p.figures) (option_map (λ t. t.now) words.entry.control)
+        words.entry.metrics place.entry }
     requires members { R.members records ≡ m.members }
     requires here { m.me < m.members }
     requires failed { R.failed records ≡ 0 }
@@ -332,7 +345,8 @@ fn run_at<R: Records, T: Timer>(
 /// Where figures are served over TCP, if they are: 82 for what is no address at which this machine alone is heard, with
 /// a port.
 pub(crate) fn figures_at(words: NodeWords<'_, '_, '_>) -> Result<Option<SocketAddr>, Outcome>
-    ensures { OnErr result (result ≡ Err (Refused 82)) }
+    ensures refused { OnErr result (result ≡ Err (Refused 82)) }
+    ensures served { IfOk result (λ f. is_some f ≡ is_some words.entry.metrics) }
 {
     let Some(text) = words.metrics else {
         return Ok(None);
@@ -380,6 +394,7 @@ fn run_with_control<R: Records, T: Timer>(
     requires members { R.members records ≡ m.members }
     requires here { m.me < m.members }
     requires failed { R.failed records ≡ 0 }
+    requires control { option_map (λ t. t.now) words.entry.control ≡ Some path.now }
     ensures hosted { ComesOpenOr R.Records m records result.0 result.1 }
     ensures ran { IsUnrun R.Records m records result.0 result.1 ⊎
         RunsHere R.Records m sealing (hears_asks words.entry.key words.entry.control) records result.0 result.1 (λ how.
@@ -474,8 +489,9 @@ fn run_on<T: Timer>(
 }
 
 /// The run of a member over its record, where its packets can be sealed; else the record is closed: 95.
-fn run_sealed<T: Timer>(
+fn run_sealed<F: NodeFiles, T: Timer>(
     rt: &HostRuntime,
+    files: &F,
     alloc: Global,
     words: NodeWords<'_, '_, '_>,
     m: Membership,
@@ -489,12 +505,14 @@ fn run_sealed<T: Timer>(
     requires failed { ⟦<SqlRecords<FileStore<File>> as Records>⟧.failed records ≡ 0 }
     requires keyed { is_some keys ≡ is_some words.key }
     ensures ran { EndsWith ⟦<SqlRecords<FileStore<File>> as Records>⟧ m keys
+        (F.raises files.now (words.entry.store.now ++ codes "-starts") m.members m.me
+        (is_made words.entry.is_from_file words.entry.is_new found || words.entry.makes_starts))
         (hears_asks words.entry.key words.entry.control) records (λ how.
         OnFront how (MakesTurns words.entry.turns (T.timer_events timer.old) (T.timer_events timer.new))) result }
     ensures ending { result ≢ Refused 80 }
     ensures store { (file new : Bool) → IsStoreless file new result }
 {
-    match sealing_for(rt, alloc, words, m, keys, found) {
+    match sealing_for(rt, files, alloc, words, m, keys, found) {
         Ok(sealing) => run_on(rt, alloc, words, m, records, sealing, timer),
         Err(outcome) => {
             let _closed = records.release().close();
@@ -506,8 +524,9 @@ fn run_sealed<T: Timer>(
 /// What a node over a new store comes to: its file of starts is made before its store, so that no store is without one,
 /// and no store is made where its sockets are refused. 95, the store's refusals, 82, 84, and the first refusal of a
 /// turn, in this order.
-fn run_new<T: Timer>(
+fn run_new<F: NodeFiles, T: Timer>(
     rt: &HostRuntime,
+    files: &F,
     alloc: Global,
     words: NodeWords<'_, '_, '_>,
     m: Membership,
@@ -518,12 +537,14 @@ fn run_new<T: Timer>(
     requires here { m.me < m.members }
     requires keyed { is_some keys ≡ is_some words.key }
     ensures ran { EndsNew ⟦<SqlRecords<FileStore<File>> as Records>⟧ m keys
+        (F.raises files.now (words.entry.store.now ++ codes "-starts") m.members m.me
+        (is_made words.entry.is_from_file words.entry.is_new found || words.entry.makes_starts))
         (hears_asks words.entry.key words.entry.control) (λ how.
         OnFront how (MakesTurns words.entry.turns (T.timer_events timer.old) (T.timer_events timer.new))) result }
     ensures ending { result ≢ Refused 80 }
     ensures store { IsStoreless words.entry.is_from_file words.entry.is_new result }
 {
-    let sealing = match sealing_for(rt, alloc, words, m, keys, found) {
+    let sealing = match sealing_for(rt, files, alloc, words, m, keys, found) {
         Ok(sealing) => sealing,
         Err(outcome) => return outcome,
     };
@@ -534,8 +555,9 @@ fn run_new<T: Timer>(
 }
 
 /// The outcome of `node` with this timer, as [`node_outcome`] has it.
-fn run_node<T: Timer>(
+fn run_node<F: NodeFiles, T: Timer>(
     rt: &HostRuntime,
+    files: &F,
     alloc: Global,
     words: NodeWords<'_, '_, '_>,
     timer: &mut T,
@@ -544,8 +566,10 @@ fn run_node<T: Timer>(
     ensures ran { EndsNode ⟦<SqlRecords<FileStore<File>> as Records>⟧
         (λ m. (m.cluster ≡ words.entry.cluster) × (m.me ≡ words.entry.me) ×
         (m.members ≡ length words.entry.members.now))
-        (λ keys. (is_some keys ≡ is_some words.entry.key) × IfSome keys (λ k. (text : List ℕ) ×
-        IsClusterKey text words.entry.cluster (map (λ t. t.now) words.entry.members.now) k.key))
+        (AreNamed (F.makes files.now words.entry.cluster (map (λ t. t.now) words.entry.members.now))
+        (option_map (λ t. t.now) words.entry.key) (option_map (λ t. t.now) words.entry.other_key))
+        (λ m start. (found : Found) × F.raises files.now (words.entry.store.now ++ codes "-starts") m.members m.me
+        (is_made words.entry.is_from_file words.entry.is_new found || words.entry.makes_starts) start)
         (hears_asks words.entry.key words.entry.control) (λ how.
         OnFront how (MakesTurns words.entry.turns (T.timer_events timer.old) (T.timer_events timer.new))) result }
     ensures ending { result ≢ Refused 80 }
@@ -555,7 +579,7 @@ fn run_node<T: Timer>(
         say_place(rt, words);
         return Outcome::Refused(40);
     };
-    let keys = match keys_for(rt, alloc, words) {
+    let keys = match keys_for(rt, files, alloc, words) {
         Ok(keys) => keys,
         Err(outcome) => return outcome,
     };
@@ -564,10 +588,10 @@ fn run_node<T: Timer>(
         return Outcome::Memory;
     };
     if is_made(words.is_from_file, words.is_new, found) {
-        return run_new(rt, alloc, words, m, found, keys, timer);
+        return run_new(rt, files, alloc, words, m, found, keys, timer);
     }
     match record_at(rt, alloc, words, m, found) {
-        Ok(records) => run_sealed(rt, alloc, words, m, found, records, keys, timer),
+        Ok(records) => run_sealed(rt, files, alloc, words, m, found, records, keys, timer),
         Err(outcome) => outcome,
     }
 }
@@ -579,12 +603,14 @@ pub(crate) fn node_outcome(rt: &HostRuntime, alloc: Global, words: NodeWords<'_,
     ensures ran { EndsNode ⟦<SqlRecords<FileStore<File>> as Records>⟧
         (λ m. (m.cluster ≡ words.entry.cluster) × (m.me ≡ words.entry.me) ×
         (m.members ≡ length words.entry.members.now))
-        (λ keys. (is_some keys ≡ is_some words.entry.key) × IfSome keys (λ k. (text : List ℕ) ×
-        IsClusterKey text words.entry.cluster (map (λ t. t.now) words.entry.members.now) k.key))
+        (AreNamed (λ path key. (text : List ℕ) ×
+        IsClusterKey text words.entry.cluster (map (λ t. t.now) words.entry.members.now) key)
+        (option_map (λ t. t.now) words.entry.key) (option_map (λ t. t.now) words.entry.other_key))
+        (λ m start. Found × ⊤)
         (hears_asks words.entry.key words.entry.control) AnyTurns result }
     ensures ending { result ≢ Refused 80 }
     ensures store { IsStoreless words.entry.is_from_file words.entry.is_new result }
 {
     let mut timer = TickTimer::new(words.me);
-    run_node(rt, alloc, words, &mut timer)
+    run_node(rt, rt, alloc, words, &mut timer)
 }

@@ -1,23 +1,20 @@
 //! How a node's packets are sealed: its keys, and this start of it.
 
-ghost use Rattle.std.specs.Prelude.{◌≡◌, ◌⊎◌, ◌||◌, ◌<◌, ◌++◌, ⊤, ℕ, Bool, List, Ok, Err, Some, true, codes};
+ghost use Rattle.std.specs.Prelude.{◌≡◌, ◌⊎◌, ◌||◌, ◌<◌, ◌++◌, Ok, Err, Some, true, codes};
 ghost use Rattle.std.specs.Prelude.{OnErr, IfOk, IfSome, option_map, is_some};
-ghost use Rattle.px_packet.specs.declared.start.Start as declared;
 ghost use Rattle.cli_node.specs.declared.outcome.Outcome.TheVariants.{Memory, Refused, Sound};
 ghost use Rattle.cli_node.specs.inner.Stores.{is_made};
 
 use crate::faults::say_unusable;
+use crate::files::NodeFiles;
 use crate::key::Keys;
 use crate::node::NodeWords;
 use crate::outcome::Outcome;
 use crate::store::{Found, is_made};
-use cli_files::{RaiseFault, raise_start, starts_in, starts_path};
+use cli_files::{RaiseFault, starts_in, starts_path};
 use node_loop::Membership;
 use px_packet::Start;
 use std::alloc::Global;
-use std::fs::Files;
-use std::random::RandomSource;
-use std::time::Clock;
 
 /// A file of starts that is missing or damaged, or can't be written.
 const BAD_STARTS: u8 = 95;
@@ -28,38 +25,6 @@ pub(crate) struct Sealing {
     pub(crate) keys: Keys,
     /// This start of the node.
     pub(crate) start: Start,
-}
-
-/// Where a member's starts are raised.
-trait Starts {
-    // in a file at this path, which may be made or not, this may be the next start of the member of a cluster of n
-    ghost raises: { Self → (path : List ℕ) → (n me : ℕ) → (may_be_made : Bool) → declared.Start → Type 0 };
-
-    /// Raises the start of the member, by [`raise_start`].
-    fn raise(
-        &self,
-        alloc: Global,
-        path: &str,
-        m: Membership,
-        may_be_made: bool,
-    ) -> Result<Start, RaiseFault>
-        requires here { m.me < m.members }
-        ensures { IfOk result (raises self.now path.now m.members m.me may_be_made) };
-}
-
-impl<R: Files + Clock + RandomSource> Starts for R {
-    // no contract says what the system's files, clock and random source have
-    ghost raises = { λ _ _ _ _ _ _. ⊤ };
-
-    fn raise(
-        &self,
-        alloc: Global,
-        path: &str,
-        m: Membership,
-        may_be_made: bool,
-    ) -> Result<Start, RaiseFault> {
-        raise_start(self, alloc, path, m.members(), m.me(), may_be_made)
-    }
 }
 
 /// The outcome of a file of starts that can't be used; why is logged.
@@ -101,9 +66,9 @@ fn may_make_starts(words: NodeWords<'_, '_, '_>, found: Found) -> bool
 
 /// How a node's packets are sealed with these keys in this start of it, written into the file beside its store first,
 /// where this was found.
-fn sealing_with<S: Starts>(
+fn sealing_with<F: NodeFiles>(
     rt: &HostRuntime,
-    starts: &S,
+    files: &F,
     alloc: Global,
     words: NodeWords<'_, '_, '_>,
     m: Membership,
@@ -113,7 +78,7 @@ fn sealing_with<S: Starts>(
     requires here { m.me < m.members }
     ensures refused { OnErr result ((result ≡ Err Memory) ⊎ (result ≡ Err (Refused 95))) }
     ensures keys { IfOk result (λ s. option_map (λ x. x.keys) s ≡ Some keys) }
-    ensures start { IfOk result (λ s. IfSome s (λ x. S.raises starts.now
+    ensures start { IfOk result (λ s. IfSome s (λ x. F.raises files.now
         (words.entry.store.now ++ codes "-starts") m.members m.me
         (is_made words.entry.is_from_file words.entry.is_new found || words.entry.makes_starts) x.start)) }
     ensures keyed { IfOk result (λ s. is_some s ≡ true) }
@@ -122,14 +87,15 @@ fn sealing_with<S: Starts>(
         return Err(Outcome::Memory);
     };
     let may_be_made = may_make_starts(words, found);
-    let raised = starts.raise(alloc, path.as_str(), m, may_be_made);
+    let raised = files.raise(alloc, path.as_str(), m, may_be_made);
     sealing_of(rt, alloc, path.as_str(), keys, raised)
 }
 
 /// How the node's packets are sealed, where it has keys, and this was found where its store is: 95 where its file of
 /// starts can't be used.
-pub(crate) fn sealing_for(
+pub(crate) fn sealing_for<F: NodeFiles>(
     rt: &HostRuntime,
+    files: &F,
     alloc: Global,
     words: NodeWords<'_, '_, '_>,
     m: Membership,
@@ -139,10 +105,13 @@ pub(crate) fn sealing_for(
     requires here { m.me < m.members }
     ensures refused { OnErr result ((result ≡ Err Memory) ⊎ (result ≡ Err (Refused 95))) }
     ensures keys { IfOk result (λ s. option_map (λ x. x.keys) s ≡ keys) }
+    ensures start { IfOk result (λ s. IfSome s (λ x. F.raises files.now
+        (words.entry.store.now ++ codes "-starts") m.members m.me
+        (is_made words.entry.is_from_file words.entry.is_new found || words.entry.makes_starts) x.start)) }
     ensures keyed { IfOk result (λ s. is_some s ≡ is_some keys) }
 {
     match keys {
-        Some(keys) => sealing_with(rt, rt, alloc, words, m, keys, found),
+        Some(keys) => sealing_with(rt, files, alloc, words, m, keys, found),
         None => Ok(None),
     }
 }

@@ -1,8 +1,9 @@
 -- How a member's run went at its socket.
-use Rattle.std.specs.Prelude.{◌≡◌, ◌⊎◌, ℕ, Bool, not, ◌&&◌, List, [], Option, Some, None, option_map, is_some}
+use Rattle.std.specs.Prelude.{◌≡◌, ◌⊎◌, ℕ, Bool, not, ◌&&◌, List, [], Option, Some, None, IfSome, option_map, is_some}
 use Rattle.px_packet.specs.Hmac.{key_block}
 use Rattle.px_packet.specs.Packets.{packet_key}
 use Rattle.px_packet.specs.Keyed.{and_key}
+use Rattle.px_packet.specs.declared.start.Start.{Start}
 use Rattle.px_records.specs.declared.records.Records.{Ghosts}
 use Rattle.px_transport.specs.Sending.{Sealer}
 use Rattle.px_wire.specs.declared.membership.Membership.{Membership}
@@ -72,23 +73,25 @@ EndsAs {R} G m sealing hears given made result =
     × (IsUnrun G m given outcome back ⊎ RunsHere G m sealing hears given outcome back made)
 
 -- the same with these keys, where the packets of this start can be sealed: else it is out of memory, or 95
-abbrev pub EndsWith : {R : Type 0} → Ghosts R → Membership → Option Keys → (hears : Bool) → (given : R) →
-    (made : Ended → Type 0) → Outcome → Type 0
-EndsWith G m keys hears given made result =
-    ((sealing : Option Sealing) × (option_map (λ s. s.keys) sealing ≡ keys)
+abbrev pub EndsWith : {R : Type 0} → Ghosts R → Membership → Option Keys → (is_start : Start → Type 0) → (hears : Bool) →
+    (given : R) → (made : Ended → Type 0) → Outcome → Type 0
+EndsWith G m keys is_start hears given made result =
+    ((sealing : Option Sealing) × (option_map (λ s. s.keys) sealing ≡ keys) × IfSome sealing (λ s. is_start s.start)
     × EndsAs G m sealing hears given made result)
     ⊎ ((result ≡ Memory) ⊎ (result ≡ Refused 95))
 
 -- the same over a record of the member that has not failed, where there is one: else it is refused, or out of memory
-abbrev pub EndsNew : {R : Type 0} → Ghosts R → Membership → Option Keys → (hears : Bool) → (made : Ended → Type 0) →
-    Outcome → Type 0
-EndsNew {R} G m keys hears made result =
+abbrev pub EndsNew : {R : Type 0} → Ghosts R → Membership → Option Keys → (is_start : Start → Type 0) → (hears : Bool) →
+    (made : Ended → Type 0) → Outcome → Type 0
+EndsNew {R} G m keys is_start hears made result =
     IsRefusal result
-    ⊎ ((given : R) × (G.members given ≡ m.members) × (G.failed given ≡ 0) × EndsWith G m keys hears given made result)
+    ⊎ ((given : R) × (G.members given ≡ m.members) × (G.failed given ≡ 0)
+    × EndsWith G m keys is_start hears given made result)
 
--- the same of a member and keys of which these hold
+-- the same of a member, keys and a start of which these hold
 abbrev pub EndsNode : {R : Type 0} → Ghosts R → (is_member : Membership → Type 0) → (are_keys : Option Keys → Type 0) →
-    (hears : Bool) → (made : Ended → Type 0) → Outcome → Type 0
-EndsNode G is_member are_keys hears made result =
+    (is_start : Membership → Start → Type 0) → (hears : Bool) → (made : Ended → Type 0) → Outcome → Type 0
+EndsNode G is_member are_keys is_start hears made result =
     IsRefusal result
-    ⊎ ((m : Membership) × (keys : Option Keys) × is_member m × are_keys keys × EndsNew G m keys hears made result)
+    ⊎ ((m : Membership) × (keys : Option Keys) × is_member m × are_keys keys
+    × EndsNew G m keys (is_start m) hears made result)

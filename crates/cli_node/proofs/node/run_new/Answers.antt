@@ -15,7 +15,7 @@ returns-in-Ok-record_at-clause-ran g c = inr (
   c.in-Ok-record_at.records,
   c.in-Ok-record_at.ensures.members,
   c.in-Ok-record_at.ensures.begins,
-  inl (c.in-Ok.sealing, c.in-Ok.ensures.keys, c.run_on.ensures.ran),
+  inl (c.in-Ok.sealing, c.in-Ok.ensures.keys, c.in-Ok.ensures.start, c.run_on.ensures.ran),
 )
 
 pub returns-in-Err-record_at-clause-ran : goal.returns-in-Err-record_at-clause-ran

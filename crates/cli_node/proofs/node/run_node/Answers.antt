@@ -1,6 +1,6 @@
--- what the run ended with, of its member and its keys
+-- what the run ended with, of its member, its keys and its start
 use Rattle.std.proofs.Common.{inl, inr}
-use Rattle.cli_node.proofs.Endings.{refusal_of}
+use Rattle.cli_node.proofs.Endings.{refusal_of, new_found, with_found}
 use Rattle.cli_node.proofs.node.run_node.Goals as goal
 
 pub returns-then-is_made-clause-ran : goal.returns-then-is_made-clause-ran
@@ -8,8 +8,8 @@ returns-then-is_made-clause-ran g c = inr (
   c.in-Some.m,
   c.in-Ok.keys,
   c.in-Some.ensures.some,
-  (c.in-Ok.ensures.keyed, c.in-Ok.ensures.made),
-  c.run_new.ensures.ran,
+  c.in-Ok.ensures.named,
+  new_found _ _ _ _ _ _ _ (λ start raised. (c.in-Ok-found_at.found, raised)) c.run_new.ensures.ran,
 )
 
 pub returns-in-Ok-record_at-clause-ran : goal.returns-in-Ok-record_at-clause-ran
@@ -17,12 +17,12 @@ returns-in-Ok-record_at-clause-ran g c = inr (
   c.in-Some.m,
   c.in-Ok.keys,
   c.in-Some.ensures.some,
-  (c.in-Ok.ensures.keyed, c.in-Ok.ensures.made),
+  c.in-Ok.ensures.named,
   inr (
     c.in-Ok-record_at.records,
     c.in-Ok-record_at.ensures.members,
     c.in-Ok-record_at.ensures.begins,
-    c.run_sealed.ensures.ran,
+    with_found _ _ _ _ _ _ _ _ (λ start raised. (c.in-Ok-found_at.found, raised)) c.run_sealed.ensures.ran,
   ),
 )
 

@@ -12,4 +12,4 @@ returns-in-Err-clause-ran g c =
     inr (refused_as 95 c.sealing_for.result c.in-Err.outcome c.in-Err.is c.sealing_for.ensures.refused)
 
 pub returns-in-Ok-clause-ran : goal.returns-in-Ok-clause-ran
-returns-in-Ok-clause-ran g c = inl (c.in-Ok.sealing, c.in-Ok.ensures.keys, c.run_on.ensures.ran)
+returns-in-Ok-clause-ran g c = inl (c.in-Ok.sealing, c.in-Ok.ensures.keys, c.in-Ok.ensures.start, c.run_on.ensures.ran)
