@@ -12,7 +12,7 @@ use Rattle.cli_node.specs.declared.outcome.Outcome.TheVariants.{Front, Stopped, 
 use Rattle.cli_node.specs.declared.outcome.Outcome.TheVariants.{Sound, Made, Memory, Unread}
 use Rattle.cli_node.specs.inner.Outcomes.{outcome_of, ending_of, ended_outcome, first_of, checked, is_refused}
 use Rattle.cli_node.specs.inner.Outcomes.{ComesOpenOr, IsWireless}
-use Rattle.cli_node.specs.inner.Running.{RunsHere, EndsAs, EndsWith, EndsNew, EndsNode, AnyTurns}
+use Rattle.cli_node.specs.inner.Running.{RunsHere, EndsAs, EndsWith, EndsNew, EndsNode, Anything}
 use Rattle.cli_node.specs.inner.Stores.{IsRefusal, IsStoreless}
 use Rattle.cli_node.specs.declared.key.Keys.{Keys}
 use Rattle.cli_node.specs.declared.sealing.Sealing.{Sealing}
@@ -190,57 +190,63 @@ pub place_first : (place keys store starts addresses control : Outcome) → plac
     checked place keys store starts addresses control ≡ Refused 40
 place_first place keys store starts addresses control e = ap (λ (o : Outcome). checked o keys store starts addresses control) e
 
--- ---- whatever turns were made
+-- ---- of which less holds
 
-runs_any : {R : Type 0} (G : Ghosts R) (m : Membership) (s : Option Sealing) (hears : Bool) (given back : R) (o : Outcome)
-    (made : Ended → Type 0) → RunsHere G m s hears given o back made → RunsHere G m s hears given o back AnyTurns
-runs_any G m s hears given back o made (how, is, turns, honest) = (how, is, tt, honest)
+runs_map : {R : Type 0} (G : Ghosts R) (m : Membership) (s : Option Sealing) (hears : Bool) (given back : R) (o : Outcome)
+    (made made' : Ended → Type 0) → ((how : Ended) → made how → made' how) → RunsHere G m s hears given o back made →
+    RunsHere G m s hears given o back made'
+runs_map G m s hears given back o made made' f (how, is, turns, honest) = (how, is, f how turns, honest)
 
-as_any : {R : Type 0} (G : Ghosts R) (m : Membership) (s : Option Sealing) (hears : Bool) (given : R) (made : Ended → Type 0)
-    (result : Outcome) → EndsAs G m s hears given made result → EndsAs G m s hears given AnyTurns result
-as_any G m s hears given made result (o, back, is, comes, inl unrun) = (o, back, is, comes, inl unrun)
-as_any G m s hears given made result (o, back, is, comes, inr here) =
-    (o, back, is, comes, inr (runs_any G m s hears given back o made here))
+as_map : {R : Type 0} (G : Ghosts R) (m : Membership) (s : Option Sealing) (hears : Bool) (given : R)
+    (closed closed' : R → Type 0) (made made' : Ended → Type 0) (result : Outcome) → ((r : R) → closed r → closed' r) →
+    ((how : Ended) → made how → made' how) → EndsAs G m s hears given closed made result →
+    EndsAs G m s hears given closed' made' result
+as_map G m s hears given closed closed' made made' result c f (o, back, is, shut, comes, inl unrun) =
+    (o, back, is, c back shut, comes, inl unrun)
+as_map G m s hears given closed closed' made made' result c f (o, back, is, shut, comes, inr here) =
+    (o, back, is, c back shut, comes, inr (runs_map G m s hears given back o made made' f here))
 
-with_any : {R : Type 0} (G : Ghosts R) (m : Membership) (keys : Option Keys) (is_start : Start → Type 0) (hears : Bool)
-    (given : R) (made : Ended → Type 0) (result : Outcome) → EndsWith G m keys is_start hears given made result →
-    EndsWith G m keys is_start hears given AnyTurns result
-with_any G m keys is_start hears given made result (inl (s, same, start, ends)) =
-    inl (s, same, start, as_any G m s hears given made result ends)
-with_any G m keys is_start hears given made result (inr refused) = inr refused
-
-new_any : {R : Type 0} (G : Ghosts R) (m : Membership) (keys : Option Keys) (is_start : Start → Type 0) (hears : Bool)
-    (made : Ended → Type 0) (result : Outcome) → EndsNew G m keys is_start hears made result →
-    EndsNew G m keys is_start hears AnyTurns result
-new_any G m keys is_start hears made result (inl refused) = inl refused
-new_any G m keys is_start hears made result (inr (given, members, whole, ends)) =
-    inr (given, members, whole, with_any G m keys is_start hears given made result ends)
-
-pub node_any : {R : Type 0} (G : Ghosts R) (is_member : Membership → Type 0) (are_keys : Option Keys → Type 0)
-    (is_start : Membership → Start → Type 0) (hears : Bool) (made : Ended → Type 0) (result : Outcome) →
-    EndsNode G is_member are_keys is_start hears made result → EndsNode G is_member are_keys is_start hears AnyTurns result
-node_any G is_member are_keys is_start hears made result (inl refused) = inl refused
-node_any G is_member are_keys is_start hears made result (inr (m, keys, is, are, ends)) =
-    inr (m, keys, is, are, new_any G m keys (is_start m) hears made result ends)
-
--- the start is one of more
 in_more : (is may : Start → Type 0) (s : Option Sealing) → ((x : Start) → is x → may x) → IfSome s (λ x. is x.start) →
     IfSome s (λ x. may x.start)
 in_more is may None f h = h
 in_more is may (Some s) f h = f s.start h
 
-pub with_found : {R : Type 0} (G : Ghosts R) (m : Membership) (keys : Option Keys) (is may : Start → Type 0) (hears : Bool)
-    (given : R) (made : Ended → Type 0) {result : Outcome} → ((x : Start) → is x → may x) →
-    EndsWith G m keys is hears given made result → EndsWith G m keys may hears given made result
-with_found G m keys is may hears given made f (inl (s, same, start, ends)) = inl (s, same, in_more is may s f start, ends)
-with_found G m keys is may hears given made f (inr refused) = inr refused
+pub with_map : {R : Type 0} (G : Ghosts R) (m : Membership) (keys : Option Keys) (is may : Start → Type 0) (hears : Bool)
+    (given : R) (closed closed' : R → Type 0) (made made' : Ended → Type 0) (result : Outcome) →
+    ((x : Start) → is x → may x) → ((r : R) → closed r → closed' r) → ((how : Ended) → made how → made' how) →
+    EndsWith G m keys is hears given closed made result → EndsWith G m keys may hears given closed' made' result
+with_map G m keys is may hears given closed closed' made made' result s c f (inl (sealing, same, start, ends)) =
+    inl (
+      sealing,
+      same,
+      in_more is may sealing s start,
+      as_map G m sealing hears given closed closed' made made' result c f ends,
+    )
+with_map G m keys is may hears given closed closed' made made' result s c f (inr refused) = inr refused
 
-pub new_found : {R : Type 0} (G : Ghosts R) (m : Membership) (keys : Option Keys) (is may : Start → Type 0) (hears : Bool)
-    (made : Ended → Type 0) {result : Outcome} → ((x : Start) → is x → may x) → EndsNew G m keys is hears made result →
-    EndsNew G m keys may hears made result
-new_found G m keys is may hears made f (inl refused) = inl refused
-new_found G m keys is may hears made f (inr (given, members, whole, ends)) =
-    inr (given, members, whole, with_found G m keys is may hears given made f ends)
+pub new_map : {R : Type 0} (G : Ghosts R) (m : Membership) (keys : Option Keys) (is may : Start → Type 0) (hears : Bool)
+    (kept kept' closed closed' : R → Type 0) (made made' : Ended → Type 0) (result : Outcome) →
+    ((x : Start) → is x → may x) → ((r : R) → kept r → kept' r) → ((r : R) → closed r → closed' r) →
+    ((how : Ended) → made how → made' how) → EndsNew G m keys is hears kept closed made result →
+    EndsNew G m keys may hears kept' closed' made' result
+new_map G m keys is may hears kept kept' closed closed' made made' result s d c f (inl refused) = inl refused
+new_map G m keys is may hears kept kept' closed closed' made made' result s d c f (inr (given, members, whole, at, ends)) =
+    inr (given, members, whole, d given at, with_map G m keys is may hears given closed closed' made made' result s c f ends)
+
+pub node_any : {R : Type 0} (G : Ghosts R) (is_member : Membership → Type 0) (are_keys : Option Keys → Type 0)
+    (is_start : Membership → Start → Type 0) (hears : Bool) (kept closed : R → Type 0) (made : Ended → Type 0)
+    (result : Outcome) → EndsNode G is_member are_keys is_start hears kept closed made result →
+    EndsNode G is_member are_keys (λ m. Anything) hears Anything Anything Anything result
+node_any G is_member are_keys is_start hears kept closed made result (inl refused) = inl refused
+node_any G is_member are_keys is_start hears kept closed made result (inr (m, keys, is, are, ends)) =
+    inr (
+      m,
+      keys,
+      is,
+      are,
+      new_map G m keys (is_start m) Anything hears kept Anything closed Anything made Anything result
+          (λ x h. tt) (λ r h. tt) (λ r h. tt) (λ how h. tt) ends,
+    )
 
 -- ---- nothing is refused
 

@@ -1,16 +1,16 @@
 //! The database of a node in its file: a new one has small pages.
 
-ghost use Rattle.std.specs.Prelude.{◌≡◌, [], IsTrue, IfOk, IfErr, Err, codes};
+ghost use Rattle.std.specs.Prelude.{◌≡◌, ⊤, ℕ, List, [], IsTrue, IfOk, IfErr, Err, codes};
 ghost use Rattle.sqlite_trees.specs.View.{IsClean};
 ghost use Rattle.sqlite_store.specs.FileStore.{view, is_shielded};
 ghost use Rattle.sqlite_store.specs.Unopened.{AreUsable, wanted_by};
 ghost use Rattle.sqlite.specs.Steps.{IsFresh};
-ghost use Rattle.sqlite.specs.State.{HasCleanDisk};
-ghost use Rattle.sqlite.specs.Held.{IsNew};
+ghost use Rattle.sqlite.specs.State.{State, HasCleanDisk};
+ghost use Rattle.sqlite.specs.Held.{IsNew, state};
 ghost use Rattle.sqlite.specs.Opening.{is_open_error};
 ghost use Rattle.sqlite.specs.Files.{file_state, IsOpened, IsEmpty};
 
-use sqlite::{Connection, Error, ErrorCode, File, FileStore, Files, Options, Unknown};
+use sqlite::{Alter, Connection, Error, ErrorCode, File, FileStore, Files, Options, Unknown};
 use sqlite_disk::Disk;
 use sqlite_pager::Pager;
 use sqlite_pool::probe_blank;
@@ -175,4 +175,36 @@ pub(crate) fn open_database(
         return Err(CANNOT_OPEN);
     };
     open_files(rt.alloc(), files, Options::new(keys.hash_one(&0u8)))
+}
+
+/// Where a node's store is opened and closed.
+pub(crate) trait Databases<S: Alter> {
+    // the database in the file at this path is in this state
+    ghost holds: { Self → (path : List ℕ) → State → Type 0 };
+
+    // a database was closed in this state
+    ghost closed: { Self → State → Type 0 };
+
+    /// Opens the database in a file, or makes one there.
+    fn open(&self, path: &str) -> Result<Connection<S>, Error>
+        ensures { IfOk result (λ c. holds self.now path.now (state S.Store c)) };
+
+    /// Closes a database.
+    fn close(&self, conn: Connection<S>)
+        ensures { closed self.now (state S.Store conn) };
+}
+
+impl Databases<FileStore<File>> for HostRuntime {
+    // no contract says what is in the file at a path
+    ghost holds = { λ _ _ _. ⊤ };
+
+    ghost closed = { λ _ _. ⊤ };
+
+    fn open(&self, path: &str) -> Result<Connection<FileStore<File>>, Error> {
+        open_database(self, path)
+    }
+
+    fn close(&self, conn: Connection<FileStore<File>>) {
+        let _closed = conn.close();
+    }
 }

@@ -2,7 +2,9 @@
 
 ghost use Rattle.std.specs.Prelude.{◌≡◌, ◌≢◌, ◌<◌, ◌≤◌, ◌⊎◌, ◌↔◌, Err, false, length, IfSome, OnErr, IsSome, IsTrue};
 ghost use Rattle.std.specs.Prelude.{ℕ, Bool, List, [], None, Ok, IfOk, map, option_map, option_and_then, is_some};
-ghost use Rattle.std.specs.Prelude.{◌||◌, ◌++◌, ⊤, codes, string_bytes};
+ghost use Rattle.std.specs.Prelude.{◌||◌, ◌++◌, codes, string_bytes};
+ghost use Rattle.sqlite.specs.Held.{state};
+ghost use Rattle.px_store.specs.View.{connection_of, IsOpened};
 ghost use Rattle.toml.specs.Data.{as_str, get_member};
 ghost use Rattle.px_transport.specs.Wiring.{keys_of, sealer_of};
 ghost use Rattle.node_loop.specs.Lives.{OnFront};
@@ -14,15 +16,16 @@ ghost use Rattle.cli_files.specs.Clusters.{IsClusterKey};
 ghost use Rattle.cli_files.specs.Files.{settings_of};
 ghost use Rattle.cli_files.specs.Settings.{number_of};
 ghost use Rattle.cli_node.specs.declared.outcome.Outcome.TheVariants.{Memory, Refused};
-ghost use Rattle.cli_node.specs.inner.Running.{AnyTurns, EndsAs, EndsNew, EndsNode, EndsWith, IsAlone, IsUnrun, RunsHere};
+ghost use Rattle.cli_node.specs.inner.Running.{Anything, EndsAs, EndsNew, EndsNode, EndsWith, IsAlone, IsUnrun, RunsHere};
 ghost use Rattle.cli_node.specs.inner.Running.{hears_asks, keys_with, sealer_with};
 ghost use Rattle.cli_node.specs.inner.Outcomes.{ComesTo, ComesOpen, ComesOpenOr, IsWireless};
 ghost use Rattle.cli_node.specs.inner.Given.{IsPlaced, text_in};
 ghost use Rattle.cli_node.specs.inner.Secrets.{AreNamed};
-ghost use Rattle.cli_node.specs.inner.Stores.{IsStoreless, is_made};
+ghost use Rattle.cli_node.specs.inner.Stores.{IsKept, IsStoreless, is_made};
 ghost use Rattle.cli_node.specs.declared.store.Found.{Found};
 ghost use Rattle.cli_node.specs.inner.Places.{is_count, has_place, turns_or_all, chosen};
 
+use crate::database::Databases;
 use crate::events::{say_end, say_start};
 use crate::faults::say_place;
 use crate::files::NodeFiles;
@@ -39,7 +42,7 @@ use px_packet::PacketKeys;
 use px_records::Records;
 use px_store::SqlRecords;
 use px_transport::{PacketWire, Wire};
-use sqlite::{File, FileStore};
+use sqlite::{Alter, File, FileStore};
 use std::alloc::{AllocError, Global};
 use std::net::{SocketAddr, UdpSocket};
 
@@ -461,21 +464,23 @@ fn run_member_in<R: Records, T: Timer>(
 
 /// The run of a member over its record, which is closed, whatever came of it; what a node has committed stands also
 /// where closing fails. A node whose store failed ends with that (70, 72), whoever asked for the change.
-fn run_on<T: Timer>(
+fn run_on<S: Alter + Drop, D: Databases<S>, T: Timer>(
     rt: &HostRuntime,
+    dbs: &D,
     alloc: Global,
     words: NodeWords<'_, '_, '_>,
     m: Membership,
-    records: SqlRecords<FileStore<File>>,
+    records: SqlRecords<S>,
     sealing: Option<Sealing>,
     timer: &mut T,
 ) -> Outcome
-    requires members { ⟦<SqlRecords<FileStore<File>> as Records>⟧.members records ≡ m.members }
+    requires members { ⟦<SqlRecords<S> as Records>⟧.members records ≡ m.members }
     requires here { m.me < m.members }
-    requires failed { ⟦<SqlRecords<FileStore<File>> as Records>⟧.failed records ≡ 0 }
+    requires failed { ⟦<SqlRecords<S> as Records>⟧.failed records ≡ 0 }
     requires keyed { is_some sealing ≡ is_some words.key }
-    ensures ran { EndsAs ⟦<SqlRecords<FileStore<File>> as Records>⟧ m sealing
-        (hears_asks words.entry.key words.entry.control) records (λ how.
+    ensures ran { EndsAs ⟦<SqlRecords<S> as Records>⟧ m sealing
+        (hears_asks words.entry.key words.entry.control) records
+        (λ r. D.closed dbs.now (state S.Store (connection_of r))) (λ how.
         OnFront how (MakesTurns words.entry.turns (T.timer_events timer.old) (T.timer_events timer.new))) result }
     ensures why { result ≢ Refused 80 }
     ensures store { (file new : Bool) → IsStoreless file new result }
@@ -484,38 +489,40 @@ fn run_on<T: Timer>(
     let (outcome, records) = run_member_in(rt, alloc, words, m, records, sealing, timer);
     let outcome = ending_of(outcome, records.failures());
     say_end(rt, alloc, words, outcome);
-    let _closed = records.release().close();
+    dbs.close(records.release());
     outcome
 }
 
 /// The run of a member over its record, where its packets can be sealed; else the record is closed: 95.
-fn run_sealed<F: NodeFiles, T: Timer>(
+fn run_sealed<S: Alter + Drop, F: NodeFiles, D: Databases<S>, T: Timer>(
     rt: &HostRuntime,
     files: &F,
+    dbs: &D,
     alloc: Global,
     words: NodeWords<'_, '_, '_>,
     m: Membership,
     found: Found,
-    records: SqlRecords<FileStore<File>>,
+    records: SqlRecords<S>,
     keys: Option<Keys>,
     timer: &mut T,
 ) -> Outcome
-    requires members { ⟦<SqlRecords<FileStore<File>> as Records>⟧.members records ≡ m.members }
+    requires members { ⟦<SqlRecords<S> as Records>⟧.members records ≡ m.members }
     requires here { m.me < m.members }
-    requires failed { ⟦<SqlRecords<FileStore<File>> as Records>⟧.failed records ≡ 0 }
+    requires failed { ⟦<SqlRecords<S> as Records>⟧.failed records ≡ 0 }
     requires keyed { is_some keys ≡ is_some words.key }
-    ensures ran { EndsWith ⟦<SqlRecords<FileStore<File>> as Records>⟧ m keys
+    ensures ran { EndsWith ⟦<SqlRecords<S> as Records>⟧ m keys
         (F.raises files.now (words.entry.store.now ++ codes "-starts") m.members m.me
         (is_made words.entry.is_from_file words.entry.is_new found || words.entry.makes_starts))
-        (hears_asks words.entry.key words.entry.control) records (λ how.
+        (hears_asks words.entry.key words.entry.control) records
+        (λ r. D.closed dbs.now (state S.Store (connection_of r))) (λ how.
         OnFront how (MakesTurns words.entry.turns (T.timer_events timer.old) (T.timer_events timer.new))) result }
     ensures ending { result ≢ Refused 80 }
     ensures store { (file new : Bool) → IsStoreless file new result }
 {
     match sealing_for(rt, files, alloc, words, m, keys, found) {
-        Ok(sealing) => run_on(rt, alloc, words, m, records, sealing, timer),
+        Ok(sealing) => run_on(rt, dbs, alloc, words, m, records, sealing, timer),
         Err(outcome) => {
-            let _closed = records.release().close();
+            dbs.close(records.release());
             outcome
         }
     }
@@ -524,9 +531,10 @@ fn run_sealed<F: NodeFiles, T: Timer>(
 /// What a node over a new store comes to: its file of starts is made before its store, so that no store is without one,
 /// and no store is made where its sockets are refused. 95, the store's refusals, 82, 84, and the first refusal of a
 /// turn, in this order.
-fn run_new<F: NodeFiles, T: Timer>(
+fn run_new<S: Alter + Drop, F: NodeFiles, D: Databases<S>, T: Timer>(
     rt: &HostRuntime,
     files: &F,
+    dbs: &D,
     alloc: Global,
     words: NodeWords<'_, '_, '_>,
     m: Membership,
@@ -536,10 +544,12 @@ fn run_new<F: NodeFiles, T: Timer>(
 ) -> Outcome
     requires here { m.me < m.members }
     requires keyed { is_some keys ≡ is_some words.key }
-    ensures ran { EndsNew ⟦<SqlRecords<FileStore<File>> as Records>⟧ m keys
+    ensures ran { EndsNew ⟦<SqlRecords<S> as Records>⟧ m keys
         (F.raises files.now (words.entry.store.now ++ codes "-starts") m.members m.me
         (is_made words.entry.is_from_file words.entry.is_new found || words.entry.makes_starts))
-        (hears_asks words.entry.key words.entry.control) (λ how.
+        (hears_asks words.entry.key words.entry.control) (λ r. IsKept
+        (D.holds dbs.now words.entry.store.now) (state S.Store (connection_of r)) (IsOpened S.Store r))
+        (λ r. D.closed dbs.now (state S.Store (connection_of r))) (λ how.
         OnFront how (MakesTurns words.entry.turns (T.timer_events timer.old) (T.timer_events timer.new))) result }
     ensures ending { result ≢ Refused 80 }
     ensures store { IsStoreless words.entry.is_from_file words.entry.is_new result }
@@ -548,29 +558,32 @@ fn run_new<F: NodeFiles, T: Timer>(
         Ok(sealing) => sealing,
         Err(outcome) => return outcome,
     };
-    match record_at(rt, alloc, words, m, found) {
-        Ok(records) => run_on(rt, alloc, words, m, records, sealing, timer),
+    match record_at(rt, dbs, alloc, words, m, found) {
+        Ok(records) => run_on(rt, dbs, alloc, words, m, records, sealing, timer),
         Err(outcome) => outcome,
     }
 }
 
 /// The outcome of `node` with this timer, as [`node_outcome`] has it.
-fn run_node<F: NodeFiles, T: Timer>(
+fn run_node<S: Alter + Drop, F: NodeFiles, D: Databases<S>, T: Timer>(
     rt: &HostRuntime,
     files: &F,
+    dbs: &D,
     alloc: Global,
     words: NodeWords<'_, '_, '_>,
     timer: &mut T,
 ) -> Outcome
     ensures place { has_place words.entry.me (length words.entry.members.now) ≡ false → result ≡ Refused 40 }
-    ensures ran { EndsNode ⟦<SqlRecords<FileStore<File>> as Records>⟧
+    ensures ran { EndsNode ⟦<SqlRecords<S> as Records>⟧
         (λ m. (m.cluster ≡ words.entry.cluster) × (m.me ≡ words.entry.me) ×
         (m.members ≡ length words.entry.members.now))
         (AreNamed (F.makes files.now words.entry.cluster (map (λ t. t.now) words.entry.members.now))
         (option_map (λ t. t.now) words.entry.key) (option_map (λ t. t.now) words.entry.other_key))
         (λ m start. (found : Found) × F.raises files.now (words.entry.store.now ++ codes "-starts") m.members m.me
         (is_made words.entry.is_from_file words.entry.is_new found || words.entry.makes_starts) start)
-        (hears_asks words.entry.key words.entry.control) (λ how.
+        (hears_asks words.entry.key words.entry.control) (λ r. IsKept
+        (D.holds dbs.now words.entry.store.now) (state S.Store (connection_of r)) (IsOpened S.Store r))
+        (λ r. D.closed dbs.now (state S.Store (connection_of r))) (λ how.
         OnFront how (MakesTurns words.entry.turns (T.timer_events timer.old) (T.timer_events timer.new))) result }
     ensures ending { result ≢ Refused 80 }
     ensures store { IsStoreless words.entry.is_from_file words.entry.is_new result }
@@ -588,10 +601,10 @@ fn run_node<F: NodeFiles, T: Timer>(
         return Outcome::Memory;
     };
     if is_made(words.is_from_file, words.is_new, found) {
-        return run_new(rt, files, alloc, words, m, found, keys, timer);
+        return run_new(rt, files, dbs, alloc, words, m, found, keys, timer);
     }
-    match record_at(rt, alloc, words, m, found) {
-        Ok(records) => run_sealed(rt, files, alloc, words, m, found, records, keys, timer),
+    match record_at(rt, dbs, alloc, words, m, found) {
+        Ok(records) => run_sealed(rt, files, dbs, alloc, words, m, found, records, keys, timer),
         Err(outcome) => outcome,
     }
 }
@@ -606,11 +619,10 @@ pub(crate) fn node_outcome(rt: &HostRuntime, alloc: Global, words: NodeWords<'_,
         (AreNamed (λ path key. (text : List ℕ) ×
         IsClusterKey text words.entry.cluster (map (λ t. t.now) words.entry.members.now) key)
         (option_map (λ t. t.now) words.entry.key) (option_map (λ t. t.now) words.entry.other_key))
-        (λ m start. Found × ⊤)
-        (hears_asks words.entry.key words.entry.control) AnyTurns result }
+        (λ m. Anything) (hears_asks words.entry.key words.entry.control) Anything Anything Anything result }
     ensures ending { result ≢ Refused 80 }
     ensures store { IsStoreless words.entry.is_from_file words.entry.is_new result }
 {
     let mut timer = TickTimer::new(words.me);
-    run_node(rt, rt, alloc, words, &mut timer)
+    run_node(rt, rt, rt, alloc, words, &mut timer)
 }

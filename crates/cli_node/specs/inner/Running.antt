@@ -50,9 +50,9 @@ RunsHere G m sealing hears given outcome back made =
     (how : Ended) × (outcome ≡ ended_outcome Memory how) × made how
     × (G.is_honest back → (events : List SocketEvent) × RunsWith G m sealing hears given back events)
 
--- whatever turns were made
-abbrev pub AnyTurns : Ended → Type 0
-AnyTurns how = Unit {0}
+-- whatever it is
+abbrev pub Anything : {A : Type 0} → A → Type 0
+Anything x = Unit {0}
 
 -- there is no wire, or no memory: its record is opened alone
 abbrev pub IsAlone : {R : Type 0} → Ghosts R → Membership → (given : R) → Outcome → (back : R) → Type 0
@@ -64,34 +64,36 @@ IsAlone G m given outcome back =
 abbrev pub IsUnrun : {R : Type 0} → Ghosts R → Membership → (given : R) → Outcome → (back : R) → Type 0
 IsUnrun G m given outcome back = IsAlone G m given outcome back ⊎ (IsWireless outcome × (back ≡ given))
 
--- What a run over a record is shown as, which is closed then: a member that had failed ends with what it failed of.
+-- What a run over a record is shown as, of which this holds when it is closed then: a member that had failed ends with
+-- what it failed of.
 abbrev pub EndsAs : {R : Type 0} → Ghosts R → Membership → Option Sealing → (hears : Bool) → (given : R) →
-    (made : Ended → Type 0) → Outcome → Type 0
-EndsAs {R} G m sealing hears given made result =
-    (outcome : Outcome) × (back : R) × (result ≡ ending_of outcome (G.failed back))
+    (is_closed : R → Type 0) → (made : Ended → Type 0) → Outcome → Type 0
+EndsAs {R} G m sealing hears given is_closed made result =
+    (outcome : Outcome) × (back : R) × (result ≡ ending_of outcome (G.failed back)) × is_closed back
     × ComesOpenOr G m given outcome back
     × (IsUnrun G m given outcome back ⊎ RunsHere G m sealing hears given outcome back made)
 
 -- the same with these keys, where the packets of this start can be sealed: else it is out of memory, or 95
 abbrev pub EndsWith : {R : Type 0} → Ghosts R → Membership → Option Keys → (is_start : Start → Type 0) → (hears : Bool) →
-    (given : R) → (made : Ended → Type 0) → Outcome → Type 0
-EndsWith G m keys is_start hears given made result =
+    (given : R) → (is_closed : R → Type 0) → (made : Ended → Type 0) → Outcome → Type 0
+EndsWith G m keys is_start hears given is_closed made result =
     ((sealing : Option Sealing) × (option_map (λ s. s.keys) sealing ≡ keys) × IfSome sealing (λ s. is_start s.start)
-    × EndsAs G m sealing hears given made result)
+    × EndsAs G m sealing hears given is_closed made result)
     ⊎ ((result ≡ Memory) ⊎ (result ≡ Refused 95))
 
--- the same over a record of the member that has not failed, where there is one: else it is refused, or out of memory
+-- the same over such a record of the member that has not failed, where there is one: else it is refused, or out of memory
 abbrev pub EndsNew : {R : Type 0} → Ghosts R → Membership → Option Keys → (is_start : Start → Type 0) → (hears : Bool) →
-    (made : Ended → Type 0) → Outcome → Type 0
-EndsNew {R} G m keys is_start hears made result =
+    (is_record is_closed : R → Type 0) → (made : Ended → Type 0) → Outcome → Type 0
+EndsNew {R} G m keys is_start hears is_record is_closed made result =
     IsRefusal result
-    ⊎ ((given : R) × (G.members given ≡ m.members) × (G.failed given ≡ 0)
-    × EndsWith G m keys is_start hears given made result)
+    ⊎ ((given : R) × (G.members given ≡ m.members) × (G.failed given ≡ 0) × is_record given
+    × EndsWith G m keys is_start hears given is_closed made result)
 
 -- the same of a member, keys and a start of which these hold
 abbrev pub EndsNode : {R : Type 0} → Ghosts R → (is_member : Membership → Type 0) → (are_keys : Option Keys → Type 0) →
-    (is_start : Membership → Start → Type 0) → (hears : Bool) → (made : Ended → Type 0) → Outcome → Type 0
-EndsNode G is_member are_keys is_start hears made result =
+    (is_start : Membership → Start → Type 0) → (hears : Bool) → (is_record is_closed : R → Type 0) →
+    (made : Ended → Type 0) → Outcome → Type 0
+EndsNode G is_member are_keys is_start hears is_record is_closed made result =
     IsRefusal result
     ⊎ ((m : Membership) × (keys : Option Keys) × is_member m × are_keys keys
-    × EndsNew G m keys (is_start m) hears made result)
+    × EndsNew G m keys (is_start m) hears is_record is_closed made result)

@@ -15,6 +15,7 @@ returns-in-Ok-record_at-clause-ran g c = inr (
   c.in-Ok-record_at.records,
   c.in-Ok-record_at.ensures.members,
   c.in-Ok-record_at.ensures.begins,
+  c.in-Ok-record_at.ensures.rows,
   inl (c.in-Ok.sealing, c.in-Ok.ensures.keys, c.in-Ok.ensures.start, c.run_on.ensures.ran),
 )
 

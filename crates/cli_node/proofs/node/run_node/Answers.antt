@@ -1,6 +1,6 @@
 -- what the run ended with, of its member, its keys and its start
 use Rattle.std.proofs.Common.{inl, inr}
-use Rattle.cli_node.proofs.Endings.{refusal_of, new_found, with_found}
+use Rattle.cli_node.proofs.Endings.{refusal_of, new_map, with_map}
 use Rattle.cli_node.proofs.node.run_node.Goals as goal
 
 pub returns-then-is_made-clause-ran : goal.returns-then-is_made-clause-ran
@@ -9,7 +9,8 @@ returns-then-is_made-clause-ran g c = inr (
   c.in-Ok.keys,
   c.in-Some.ensures.some,
   c.in-Ok.ensures.named,
-  new_found _ _ _ _ _ _ _ (λ start raised. (c.in-Ok-found_at.found, raised)) c.run_new.ensures.ran,
+  new_map _ _ _ _ _ _ _ _ _ _ _ _ _ (λ start raised. (c.in-Ok-found_at.found, raised)) (λ r h. h) (λ r h. h) (λ how h. h)
+      c.run_new.ensures.ran,
 )
 
 pub returns-in-Ok-record_at-clause-ran : goal.returns-in-Ok-record_at-clause-ran
@@ -22,7 +23,9 @@ returns-in-Ok-record_at-clause-ran g c = inr (
     c.in-Ok-record_at.records,
     c.in-Ok-record_at.ensures.members,
     c.in-Ok-record_at.ensures.begins,
-    with_found _ _ _ _ _ _ _ _ (λ start raised. (c.in-Ok-found_at.found, raised)) c.run_sealed.ensures.ran,
+    c.in-Ok-record_at.ensures.rows,
+    with_map _ _ _ _ _ _ _ _ _ _ _ _ (λ start raised. (c.in-Ok-found_at.found, raised)) (λ r h. h) (λ how h. h)
+        c.run_sealed.ensures.ran,
   ),
 )
 

@@ -16,6 +16,7 @@ returns-clause-ran g c = (
   c.run_member_in-outcome.result.0,
   c.run_member_in-outcome.result.1,
   c.ending_of-outcome.ensures.is ∙ ap (ending_of c.run_member_in-outcome.result.0) c.failures.ensures,
+  subst (λ (conn : _). _) c.release.ensures c.close.ensures,
   c.run_member_in-outcome.ensures.hosted,
   c.run_member_in-outcome.ensures.ran,
 )
