@@ -195,7 +195,7 @@ fn membership(words: AskWords<'_>) -> Option<Membership>
 }
 
 /// What `ask` comes to: 40 of its numbers, the faults of the action, and 82, in this order; then the answer.
-pub(crate) fn ask_outcome<C: Client, R: Read>(
+pub(crate) fn ask_outcome<C: Client + Drop, R: Read>(
     rt: &HostRuntime,
     client: C,
     alloc: Global,

@@ -200,11 +200,15 @@ impl Databases<FileStore<File>> for HostRuntime {
 
     ghost closed = { λ _ _. ⊤ };
 
-    fn open(&self, path: &str) -> Result<Connection<FileStore<File>>, Error> {
+    fn open(&self, path: &str) -> Result<Connection<FileStore<File>>, Error>
+        ensures { IfOk result (λ _. ⊤) }
+    {
         open_database(self, path)
     }
 
-    fn close(&self, conn: Connection<FileStore<File>>) {
+    fn close(&self, conn: Connection<FileStore<File>>)
+        ensures { ⊤ }
+    {
         let _closed = conn.close();
     }
 }

@@ -4,6 +4,7 @@ ghost use Rattle.std.specs.Prelude.{◌≡◌, ◌≢◌, ◌<◌, ◌≤◌, �
 ghost use Rattle.std.specs.Prelude.{ℕ, Bool, List, [], None, Ok, IfOk, map, option_map, option_and_then, is_some};
 ghost use Rattle.std.specs.Prelude.{◌||◌, ◌++◌, codes, string_bytes};
 ghost use Rattle.sqlite.specs.Held.{state};
+ghost use Rattle.px_store.specs.Formats.{record_at};
 ghost use Rattle.px_store.specs.View.{connection_of, IsOpened};
 ghost use Rattle.toml.specs.Data.{as_str, get_member};
 ghost use Rattle.px_transport.specs.Wiring.{keys_of, sealer_of};
@@ -548,7 +549,8 @@ fn run_new<S: Alter + Drop, F: NodeFiles, D: Databases<S>, T: Timer>(
         (F.raises files.now (words.entry.store.now ++ codes "-starts") m.members m.me
         (is_made words.entry.is_from_file words.entry.is_new found || words.entry.makes_starts))
         (hears_asks words.entry.key words.entry.control) (λ r. IsKept
-        (D.holds dbs.now words.entry.store.now) (state S.Store (connection_of r)) (IsOpened S.Store r))
+        (D.holds dbs.now words.entry.store.now) (state S.Store (connection_of r))
+        (λ f s. IsOpened S.Store r (record_at f s.now.trees)))
         (λ r. D.closed dbs.now (state S.Store (connection_of r))) (λ how.
         OnFront how (MakesTurns words.entry.turns (T.timer_events timer.old) (T.timer_events timer.new))) result }
     ensures ending { result ≢ Refused 80 }
@@ -582,7 +584,8 @@ fn run_node<S: Alter + Drop, F: NodeFiles, D: Databases<S>, T: Timer>(
         (λ m start. (found : Found) × F.raises files.now (words.entry.store.now ++ codes "-starts") m.members m.me
         (is_made words.entry.is_from_file words.entry.is_new found || words.entry.makes_starts) start)
         (hears_asks words.entry.key words.entry.control) (λ r. IsKept
-        (D.holds dbs.now words.entry.store.now) (state S.Store (connection_of r)) (IsOpened S.Store r))
+        (D.holds dbs.now words.entry.store.now) (state S.Store (connection_of r))
+        (λ f s. IsOpened S.Store r (record_at f s.now.trees)))
         (λ r. D.closed dbs.now (state S.Store (connection_of r))) (λ how.
         OnFront how (MakesTurns words.entry.turns (T.timer_events timer.old) (T.timer_events timer.new))) result }
     ensures ending { result ≢ Refused 80 }

@@ -284,7 +284,7 @@ pub(crate) fn record_at<S: Alter + Drop, D: Databases<S>>(
     ensures members { IfOk result (λ r. ⟦<SqlRecords<S> as Records>⟧.members r ≡ m.members) }
     ensures begins { IfOk result (λ r. ⟦<SqlRecords<S> as Records>⟧.failed r ≡ 0) }
     ensures rows { IfOk result (λ r. IsKept (D.holds dbs.now words.entry.store.now)
-        (state S.Store (connection_of r)) (IsOpened S.Store r)) }
+        (state S.Store (connection_of r)) (λ f s. IsOpened S.Store r (record_at f s.now.trees))) }
     ensures refused { IfErr result (IsStoreless words.entry.is_from_file words.entry.is_new) }
     ensures kind { IfErr result IsRefusal }
     ensures unfailed { OnErr result (result ≢ Err (Refused 80)) }

@@ -1,10 +1,7 @@
 -- Whether a node's store is opened or made.
 use Rattle.std.specs.Prelude.{◌≡◌, ◌≢◌, ◌⊎◌, ◌||◌, ⊤, not, ℕ, Bool, true, false}
 use Rattle.sqlite.specs.State.{State, HasCleanDisk}
-use Rattle.px_model.specs.Node.{Record}
-use Rattle.px_model.specs.Spelling.{Bytes}
 use Rattle.px_store.specs.Adopting.{Began}
-use Rattle.px_store.specs.Formats.{record_at}
 use Rattle.px_store.specs.declared.formats.Format.{Format}
 use Rattle.cli_node.specs.declared.outcome.Outcome.{Outcome}
 use Rattle.cli_node.specs.declared.outcome.Outcome.TheVariants.{Front, Stopped, Asked, Key, Refused, RefusedLine}
@@ -45,10 +42,10 @@ pub record IsOpening (is_from_file is_new : Bool) (f : Found) (o : Opening) : Ty
   pub lost : is_from_file ≡ true → is_new ≡ false → IsNone f → o ≡ Refuses NO_STORE
   pub refused : (code : ℕ) → o ≡ Refuses code → IsRefused is_from_file is_new f code
 
--- a database that was in a state of which this holds is now in this one, and the record over it is the one that it held
-abbrev pub IsKept : (held : State → Type 0) → (now : State) → (is_opened : Record Bytes → Type 0) → Type 0
+-- a database that was held in a state is now in this one, and what it held in its format is opened
+abbrev pub IsKept : (held : State → Type 0) → (now : State) → (is_opened : Format → State → Type 0) → Type 0
 IsKept held now is_opened =
-    (was : State) × held was × (HasCleanDisk now → (f : Format) → Began f was → is_opened (record_at f was.now.trees))
+    (was : State) × held was × (HasCleanDisk now → (f : Format) → Began f was → is_opened f was)
 
 -- nothing but out of memory and refusals
 abbrev pub IsRefusal : Outcome → Type 0
