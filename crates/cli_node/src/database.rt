@@ -1,10 +1,11 @@
 //! The database of a node in its file: a new one has small pages.
 
-ghost use Rattle.std.specs.Prelude.{◌≡◌, ⊤, ℕ, List, [], IsTrue, IfOk, IfErr, Err, codes};
+ghost use Rattle.std.specs.Prelude.{◌≡◌, ⊤, ℕ, Bool, List, [], IsTrue, IfOk, IfErr, Err, codes};
 ghost use Rattle.sqlite_trees.specs.View.{IsClean};
 ghost use Rattle.sqlite_store.specs.FileStore.{view, is_shielded};
 ghost use Rattle.sqlite_store.specs.Unopened.{AreUsable, wanted_by};
 ghost use Rattle.sqlite.specs.Steps.{IsFresh};
+ghost use Rattle.sqlite.specs.Effect.{Database};
 ghost use Rattle.sqlite.specs.State.{State, HasCleanDisk};
 ghost use Rattle.sqlite.specs.Held.{IsNew, state};
 ghost use Rattle.sqlite.specs.Opening.{is_open_error};
@@ -179,15 +180,15 @@ pub(crate) fn open_database(
 
 /// Where a node's store is opened and closed.
 pub(crate) trait Databases<S: Alter> {
-    // the database in the file at this path is in this state
-    ghost holds: { Self → (path : List ℕ) → State → Type 0 };
+    // the file at this path has this database, within a transaction or not
+    ghost holds: { Self → (path : List ℕ) → Database → (within : Bool) → Type 0 };
 
     // a database was closed in this state
     ghost closed: { Self → State → Type 0 };
 
     /// Opens the database in a file, or makes one there.
     fn open(&self, path: &str) -> Result<Connection<S>, Error>
-        ensures { IfOk result (λ c. holds self.now path.now (state S.Store c)) };
+        ensures { IfOk result (λ c. holds self.now path.now (state S.Store c).now (state S.Store c).in_transaction) };
 
     /// Closes a database.
     fn close(&self, conn: Connection<S>)
@@ -196,7 +197,7 @@ pub(crate) trait Databases<S: Alter> {
 
 impl Databases<FileStore<File>> for HostRuntime {
     // no contract says what is in the file at a path
-    ghost holds = { λ _ _ _. ⊤ };
+    ghost holds = { λ _ _ _ _. ⊤ };
 
     ghost closed = { λ _ _. ⊤ };
 

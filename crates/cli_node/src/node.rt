@@ -132,7 +132,7 @@ impl<'m, 'w, 'a> NodeWords<'m, 'w, 'a> {
         ensures other_key { IfSome result (λ w. option_map (λ t. t.now) w.other_key ≡ text_in matches.now file.now (codes "other-key")) }
         ensures control { IfSome result (λ w. option_map (λ t. t.now) w.control ≡ text_in matches.now file.now (codes "control")) }
         ensures metrics { IfSome result (λ w. option_map (λ t. t.now) w.metrics ≡ text_in matches.now file.now (codes "metrics")) }
-        ensures members { IfSome result (λ w. w.members ≡ members) }
+        ensures members { IfSome result (λ w. w.members ≡ members.entry) }
     {
         let Some(me) = number_or(matches.get_one::<u32>("me"), file, "me") else {
             return None;
@@ -292,8 +292,8 @@ fn run_at<R: Records, T: Timer>(
     timer: &mut T,
     place: Option<ControlPlace<'_>>,
 ) -> (Outcome, R)
-    requires placed { IsPlaced (λ p. p.path.now) (λ p. p.figures) (option_map (λ t. t.now) words.entry.control)
-        words.entry.metrics place.entry }
+    requires placed { IsPlaced (λ p. p.path.now) (λ p. p.figures) (option_map (λ t. t.now) words.control)
+        words.metrics place }
     requires members { R.members records ≡ m.members }
     requires here { m.me < m.members }
     requires failed { R.failed records ≡ 0 }
@@ -398,7 +398,7 @@ fn run_with_control<R: Records, T: Timer>(
     requires members { R.members records ≡ m.members }
     requires here { m.me < m.members }
     requires failed { R.failed records ≡ 0 }
-    requires control { option_map (λ t. t.now) words.entry.control ≡ Some path.now }
+    requires control { option_map (λ t. t.now) words.control ≡ Some path.now }
     ensures hosted { ComesOpenOr R.Records m records result.0 result.1 }
     ensures ran { IsUnrun R.Records m records result.0 result.1 ⊎
         RunsHere R.Records m sealing (hears_asks words.entry.key words.entry.control) records result.0 result.1 (λ how.
@@ -550,7 +550,7 @@ fn run_new<S: Alter + Drop, F: NodeFiles, D: Databases<S>, T: Timer>(
         (is_made words.entry.is_from_file words.entry.is_new found || words.entry.makes_starts))
         (hears_asks words.entry.key words.entry.control) (λ r. IsKept
         (D.holds dbs.now words.entry.store.now) (state S.Store (connection_of r))
-        (λ f s. IsOpened S.Store r (record_at f s.now.trees)))
+        (λ f db. IsOpened S.Store r (record_at f db.trees)))
         (λ r. D.closed dbs.now (state S.Store (connection_of r))) (λ how.
         OnFront how (MakesTurns words.entry.turns (T.timer_events timer.old) (T.timer_events timer.new))) result }
     ensures ending { result ≢ Refused 80 }
@@ -585,7 +585,7 @@ fn run_node<S: Alter + Drop, F: NodeFiles, D: Databases<S>, T: Timer>(
         (is_made words.entry.is_from_file words.entry.is_new found || words.entry.makes_starts) start)
         (hears_asks words.entry.key words.entry.control) (λ r. IsKept
         (D.holds dbs.now words.entry.store.now) (state S.Store (connection_of r))
-        (λ f s. IsOpened S.Store r (record_at f s.now.trees)))
+        (λ f db. IsOpened S.Store r (record_at f db.trees)))
         (λ r. D.closed dbs.now (state S.Store (connection_of r))) (λ how.
         OnFront how (MakesTurns words.entry.turns (T.timer_events timer.old) (T.timer_events timer.new))) result }
     ensures ending { result ≢ Refused 80 }

@@ -5,12 +5,12 @@ ghost use Rattle.sqlite.specs.Held.{state};
 ghost use Rattle.sqlite.specs.State.{HasCleanDisk};
 ghost use Rattle.px_store.specs.Tables.{no_schema};
 ghost use Rattle.px_store.specs.Formats.{record_at};
-ghost use Rattle.px_store.specs.Adopting.{Began, IsVerdict, IsSame};
+ghost use Rattle.px_store.specs.Adopting.{Began, IsVerdict, IsSame, LeavesOld};
 ghost use Rattle.px_store.specs.View.{connection_of, IsOpened};
 ghost use Rattle.cli_node.specs.declared.outcome.Outcome.TheVariants.{Memory, Refused};
 ghost use Rattle.cli_node.specs.declared.store.TheConstants.{NO_STORE, FILE_IS_THERE};
 ghost use Rattle.cli_node.specs.inner.Outcomes.{adopt_outcome};
-ghost use Rattle.cli_node.specs.inner.Stores.{IsKept, IsOpening, IsRefusal, IsStoreless, IsUnmade, is_made};
+ghost use Rattle.cli_node.specs.inner.Stores.{identity_at, IsKept, IsOpening, IsRefusal, IsStoreless, IsUnmade, is_made};
 
 use crate::database::Databases;
 use crate::faults::{say_closed, say_judged, say_storeless, why_closed};
@@ -122,7 +122,10 @@ pub(crate) fn untaken<S: Alter>(
     fault: AdoptFault,
     conn: &mut Connection<S>,
 ) -> Outcome
-    ensures { result ≡ adopt_outcome fault }
+    ensures is { result ≡ adopt_outcome fault }
+    ensures clean { HasCleanDisk (state S.Store conn.new) → HasCleanDisk (state S.Store conn.old) }
+    ensures stop { HasCleanDisk (state S.Store conn.new) →
+        LeavesOld (state S.Store conn.old) (state S.Store conn.new) }
 {
     say_judged(rt, path, m, fault, conn);
     adopt_outcome(fault)
@@ -130,9 +133,7 @@ pub(crate) fn untaken<S: Alter>(
 
 /// Whom the store of a member belongs to.
 pub(crate) fn identity_of(m: Membership) -> Identity
-    ensures cluster { result.cluster ≡ m.cluster }
-    ensures members { result.members ≡ m.members }
-    ensures node { result.node ≡ m.me }
+    ensures { result ≡ identity_at m }
 {
     Identity {
         cluster: m.cluster(),
@@ -161,7 +162,8 @@ fn open_file<S: Alter, D: Databases<S>>(
     path: &str,
 ) -> Result<Connection<S>, Outcome>
     ensures refused { OnErr result ((result ≡ Err Memory) ⊎ (result ≡ Err (Refused 70))) }
-    ensures held { IfOk result (λ c. D.holds dbs.now path.now (state S.Store c)) }
+    ensures held { IfOk result (λ c.
+        D.holds dbs.now path.now (state S.Store c).now (state S.Store c).in_transaction) }
 {
     match dbs.open(path) {
         Ok(conn) => Ok(conn),
@@ -200,7 +202,8 @@ fn make_store<S: Alter, D: Databases<S>>(
     found: Found,
 ) -> Result<Connection<S>, Outcome>
     ensures refused { IfErr result IsUnmade }
-    ensures held { IfOk result (λ c. D.holds dbs.now words.entry.store.now (state S.Store c)) }
+    ensures held { IfOk result (λ c.
+        D.holds dbs.now words.entry.store.now (state S.Store c).now (state S.Store c).in_transaction) }
 {
     match make_file(rt, words.store, found) {
         Ok(()) => {}
@@ -233,7 +236,8 @@ fn open_store<S: Alter, D: Databases<S>>(
 ) -> Result<Connection<S>, Outcome>
     ensures refused { IfErr result (IsStoreless words.entry.is_from_file words.entry.is_new) }
     ensures kind { IfErr result IsRefusal }
-    ensures at { IfOk result (λ c. D.holds dbs.now words.entry.store.now (state S.Store c)) }
+    ensures at { IfOk result (λ c.
+        D.holds dbs.now words.entry.store.now (state S.Store c).now (state S.Store c).in_transaction) }
     ensures lost { words.entry.is_from_file ≡ true → words.entry.is_new ≡ false →
         (found ≡ Found.Nothing) ⊎ (found ≡ Found.Empty) → result ≡ Err (Refused NO_STORE) }
     ensures held { words.entry.is_new ≡ true → found ≡ Found.Store → result ≡ Err (Refused FILE_IS_THERE) }
@@ -284,7 +288,7 @@ pub(crate) fn record_at<S: Alter + Drop, D: Databases<S>>(
     ensures members { IfOk result (λ r. ⟦<SqlRecords<S> as Records>⟧.members r ≡ m.members) }
     ensures begins { IfOk result (λ r. ⟦<SqlRecords<S> as Records>⟧.failed r ≡ 0) }
     ensures rows { IfOk result (λ r. IsKept (D.holds dbs.now words.entry.store.now)
-        (state S.Store (connection_of r)) (λ f s. IsOpened S.Store r (record_at f s.now.trees))) }
+        (state S.Store (connection_of r)) (λ f db. IsOpened S.Store r (record_at f db.trees))) }
     ensures refused { IfErr result (IsStoreless words.entry.is_from_file words.entry.is_new) }
     ensures kind { IfErr result IsRefusal }
     ensures unfailed { OnErr result (result ≢ Err (Refused 80)) }

@@ -86,7 +86,7 @@ mod taking;
 mod writing;
 
 pub use calls::Identity;
-pub use examining::examine;
+pub use examining::{examine, owner_in};
 pub use fault::AdoptFault;
 pub use formats::Format;
 pub use keeper::SqlRecords;

@@ -10,7 +10,7 @@ returns-in-Ok-bind-clause-asked g c = inr (
   c.in-Ok-bind.wire,
   c.asked_over.new.wire,
   c.in-Some.ensures.some.0,
-  c.in-Some.ensures.some.1.0,
+  c.in-Some.ensures.some.1,
   c.in-Ok-change_in.ensures.change,
   c.in-Ok-bind.ensures.reaches,
   c.asked_over.ensures,
