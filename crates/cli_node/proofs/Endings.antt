@@ -1,5 +1,5 @@
 -- With what a run ends: neither 93 nor 94, which are of a store before it is opened.
-use Rattle.std.proofs.Common.{◌≡◌, ◌⊎◌, ◌↔◌, ℕ, Result, Ok, Err, Bool, true, false, Option, Some, None, refl, sym, subst, ap, inl, inr, arith}
+use Rattle.std.proofs.Common.{◌≡◌, ◌⊎◌, ◌↔◌, ℕ, List, Result, Ok, Err, Bool, true, false, Option, Some, None, refl, sym, subst, ap, inl, inr, arith}
 use Rattle.std.specs.Prelude.{if◌then◌else◌, nat_lt, IsSome, IsTrue, OnErr}
 use Rattle.px_records.specs.declared.records.Records.{Ghosts}
 use Rattle.px_wire.specs.declared.membership.Membership.{Membership}
@@ -192,59 +192,59 @@ place_first place keys store starts addresses control e = ap (λ (o : Outcome). 
 
 -- ---- of which less holds
 
-runs_map : {R : Type 0} (G : Ghosts R) (m : Membership) (s : Option Sealing) (hears : Bool) (given back : R) (o : Outcome)
-    (made made' : Ended → Type 0) → ((how : Ended) → made how → made' how) → RunsHere G m s hears given o back made →
-    RunsHere G m s hears given o back made'
-runs_map G m s hears given back o made made' f (how, is, turns, honest) = (how, is, f how turns, honest)
+runs_map : {R : Type 0} (G : Ghosts R) (m : Membership) (s : Option Sealing) (hears : Bool) (members : List (List ℕ)) (given back : R) (o : Outcome)
+    (made made' : Ended → Type 0) → ((how : Ended) → made how → made' how) → RunsHere G m s hears members given o back made →
+    RunsHere G m s hears members given o back made'
+runs_map G m s hears members given back o made made' f (how, is, turns, honest) = (how, is, f how turns, honest)
 
-as_map : {R : Type 0} (G : Ghosts R) (m : Membership) (s : Option Sealing) (hears : Bool) (given : R)
+as_map : {R : Type 0} (G : Ghosts R) (m : Membership) (s : Option Sealing) (hears : Bool) (members : List (List ℕ)) (given : R)
     (closed closed' : R → Type 0) (made made' : Ended → Type 0) (result : Outcome) → ((r : R) → closed r → closed' r) →
-    ((how : Ended) → made how → made' how) → EndsAs G m s hears given closed made result →
-    EndsAs G m s hears given closed' made' result
-as_map G m s hears given closed closed' made made' result c f (o, back, is, shut, comes, inl unrun) =
+    ((how : Ended) → made how → made' how) → EndsAs G m s hears members given closed made result →
+    EndsAs G m s hears members given closed' made' result
+as_map G m s hears members given closed closed' made made' result c f (o, back, is, shut, comes, inl unrun) =
     (o, back, is, c back shut, comes, inl unrun)
-as_map G m s hears given closed closed' made made' result c f (o, back, is, shut, comes, inr here) =
-    (o, back, is, c back shut, comes, inr (runs_map G m s hears given back o made made' f here))
+as_map G m s hears members given closed closed' made made' result c f (o, back, is, shut, comes, inr here) =
+    (o, back, is, c back shut, comes, inr (runs_map G m s hears members given back o made made' f here))
 
 in_more : (is may : Start → Type 0) (s : Option Sealing) → ((x : Start) → is x → may x) → IfSome s (λ x. is x.start) →
     IfSome s (λ x. may x.start)
 in_more is may None f h = h
 in_more is may (Some s) f h = f s.start h
 
-pub with_map : {R : Type 0} (G : Ghosts R) (m : Membership) (keys : Option Keys) (is may : Start → Type 0) (hears : Bool)
+pub with_map : {R : Type 0} (G : Ghosts R) (m : Membership) (keys : Option Keys) (is may : Start → Type 0) (hears : Bool) (members : List (List ℕ))
     (given : R) (closed closed' : R → Type 0) (made made' : Ended → Type 0) (result : Outcome) →
     ((x : Start) → is x → may x) → ((r : R) → closed r → closed' r) → ((how : Ended) → made how → made' how) →
-    EndsWith G m keys is hears given closed made result → EndsWith G m keys may hears given closed' made' result
-with_map G m keys is may hears given closed closed' made made' result s c f (inl (sealing, same, start, ends)) =
+    EndsWith G m keys is hears members given closed made result → EndsWith G m keys may hears members given closed' made' result
+with_map G m keys is may hears members given closed closed' made made' result s c f (inl (sealing, same, start, ends)) =
     inl (
       sealing,
       same,
       in_more is may sealing s start,
-      as_map G m sealing hears given closed closed' made made' result c f ends,
+      as_map G m sealing hears members given closed closed' made made' result c f ends,
     )
-with_map G m keys is may hears given closed closed' made made' result s c f (inr refused) = inr refused
+with_map G m keys is may hears members given closed closed' made made' result s c f (inr refused) = inr refused
 
-pub new_map : {R : Type 0} (G : Ghosts R) (m : Membership) (keys : Option Keys) (is may : Start → Type 0) (hears : Bool)
+pub new_map : {R : Type 0} (G : Ghosts R) (m : Membership) (keys : Option Keys) (is may : Start → Type 0) (hears : Bool) (members : List (List ℕ))
     (kept kept' closed closed' : R → Type 0) (made made' : Ended → Type 0) (result : Outcome) →
     ((x : Start) → is x → may x) → ((r : R) → kept r → kept' r) → ((r : R) → closed r → closed' r) →
-    ((how : Ended) → made how → made' how) → EndsNew G m keys is hears kept closed made result →
-    EndsNew G m keys may hears kept' closed' made' result
-new_map G m keys is may hears kept kept' closed closed' made made' result s d c f (inl refused) = inl refused
-new_map G m keys is may hears kept kept' closed closed' made made' result s d c f (inr (given, members, whole, at, ends)) =
-    inr (given, members, whole, d given at, with_map G m keys is may hears given closed closed' made made' result s c f ends)
+    ((how : Ended) → made how → made' how) → EndsNew G m keys is hears members kept closed made result →
+    EndsNew G m keys may hears members kept' closed' made' result
+new_map G m keys is may hears members kept kept' closed closed' made made' result s d c f (inl refused) = inl refused
+new_map G m keys is may hears members kept kept' closed closed' made made' result s d c f (inr (given, counted, whole, at, ends)) =
+    inr (given, counted, whole, d given at, with_map G m keys is may hears members given closed closed' made made' result s c f ends)
 
 pub node_any : {R : Type 0} (G : Ghosts R) (is_member : Membership → Type 0) (are_keys : Option Keys → Type 0)
-    (is_start : Membership → Start → Type 0) (hears : Bool) (kept closed : R → Type 0) (made : Ended → Type 0)
-    (result : Outcome) → EndsNode G is_member are_keys is_start hears kept closed made result →
-    EndsNode G is_member are_keys (λ m. Anything) hears Anything Anything Anything result
-node_any G is_member are_keys is_start hears kept closed made result (inl refused) = inl refused
-node_any G is_member are_keys is_start hears kept closed made result (inr (m, keys, is, are, ends)) =
+    (is_start : Membership → Start → Type 0) (hears : Bool) (members : List (List ℕ)) (kept closed : R → Type 0) (made : Ended → Type 0)
+    (result : Outcome) → EndsNode G is_member are_keys is_start hears members kept closed made result →
+    EndsNode G is_member are_keys (λ m. Anything) hears members Anything Anything Anything result
+node_any G is_member are_keys is_start hears members kept closed made result (inl refused) = inl refused
+node_any G is_member are_keys is_start hears members kept closed made result (inr (m, keys, is, are, ends)) =
     inr (
       m,
       keys,
       is,
       are,
-      new_map G m keys (is_start m) Anything hears kept Anything closed Anything made Anything result
+      new_map G m keys (is_start m) Anything hears members kept Anything closed Anything made Anything result
           (λ x h. tt) (λ r h. tt) (λ r h. tt) (λ how h. tt) ends,
     )
 

@@ -7,7 +7,7 @@ ghost use Rattle.sqlite.specs.Held.{state};
 ghost use Rattle.px_store.specs.Formats.{record_at};
 ghost use Rattle.px_store.specs.View.{connection_of, IsOpened};
 ghost use Rattle.toml.specs.Data.{as_str, get_member};
-ghost use Rattle.px_transport.specs.Wiring.{keys_of, sealer_of};
+ghost use Rattle.px_transport.specs.Wiring.{inner_of, keys_of, sealer_of};
 ghost use Rattle.node_loop.specs.Lives.{OnFront};
 ghost use Rattle.node_loop.specs.Timing.{MakesTurns};
 ghost use Rattle.node_udp.specs.Addresses.{AreFound, shown_address};
@@ -246,6 +246,7 @@ fn sealed(
         ⟦<PacketWire<UdpWire<UdpSocket, HostRuntime>, HostRuntime> as Wire>⟧.traffic w []) }
     ensures sealer { IfOk result (λ w. sealer_of w ≡ sealer_with m sealing) }
     ensures keys { IfOk result (λ w. keys_of w ≡ keys_with sealing) }
+    ensures inner { IfOk result (λ w. inner_of w ≡ wire) }
 {
     let keys = sealing.keys;
     let packets = PacketKeys::new(&keys.key, keys.other.as_ref());
@@ -296,13 +297,17 @@ fn run_at<R: Records, T: Timer>(
         words.metrics place }
     requires members { R.members records ≡ m.members }
     requires here { m.me < m.members }
+    requires is { m.me ≡ words.me }
     requires failed { R.failed records ≡ 0 }
     requires refused { OnErr wire ((wire ≡ Err Memory) ⊎ (wire ≡ Err (Refused 82))) }
+    requires peers { IfOk wire (λ w. AreFound (map (λ t. t.now) words.members.now) (peers_of w)) }
+    requires own { IfOk wire (λ w. me_of w ≡ words.me) }
     requires new { IfOk wire (λ w. ⟦<UdpWire<UdpSocket, HostRuntime> as Wire>⟧.traffic w []) }
     ensures hosted { ComesOpen R.Records m records result.0 result.1 }
     ensures turns { place.entry ≡ None → ComesTo R.Records m records result.0 result.1 }
     ensures ran { IsAlone R.Records m records result.0 result.1 ⊎
-        RunsHere R.Records m sealing (hears_asks words.entry.key words.entry.control) records result.0 result.1 (λ how.
+        RunsHere R.Records m sealing (hears_asks words.entry.key words.entry.control)
+        (map (λ t. t.now) words.entry.members.now) records result.0 result.1 (λ how.
         OnFront how (MakesTurns words.entry.turns (T.timer_events timer.old) (T.timer_events timer.new))) }
 {
     let wire = match wire {
@@ -397,11 +402,13 @@ fn run_with_control<R: Records, T: Timer>(
 ) -> (Outcome, R)
     requires members { R.members records ≡ m.members }
     requires here { m.me < m.members }
+    requires is { m.me ≡ words.me }
     requires failed { R.failed records ≡ 0 }
     requires control { option_map (λ t. t.now) words.control ≡ Some path.now }
     ensures hosted { ComesOpenOr R.Records m records result.0 result.1 }
     ensures ran { IsUnrun R.Records m records result.0 result.1 ⊎
-        RunsHere R.Records m sealing (hears_asks words.entry.key words.entry.control) records result.0 result.1 (λ how.
+        RunsHere R.Records m sealing (hears_asks words.entry.key words.entry.control)
+        (map (λ t. t.now) words.entry.members.now) records result.0 result.1 (λ how.
         OnFront how (MakesTurns words.entry.turns (T.timer_events timer.old) (T.timer_events timer.new))) }
 {
     let wire = match bind(rt, alloc, words) {
@@ -446,12 +453,14 @@ fn run_member_in<R: Records, T: Timer>(
 ) -> (Outcome, R)
     requires members { R.members records ≡ m.members }
     requires here { m.me < m.members }
+    requires is { m.me ≡ words.me }
     requires failed { R.failed records ≡ 0 }
     requires keyed { is_some sealing ≡ is_some words.key }
     ensures hosted { ComesOpenOr R.Records m records result.0 result.1 }
     ensures turns { words.entry.control ≡ None → ComesTo R.Records m records result.0 result.1 }
     ensures ran { IsUnrun R.Records m records result.0 result.1 ⊎
-        RunsHere R.Records m sealing (hears_asks words.entry.key words.entry.control) records result.0 result.1 (λ how.
+        RunsHere R.Records m sealing (hears_asks words.entry.key words.entry.control)
+        (map (λ t. t.now) words.entry.members.now) records result.0 result.1 (λ how.
         OnFront how (MakesTurns words.entry.turns (T.timer_events timer.old) (T.timer_events timer.new))) }
 {
     match words.control {
@@ -477,10 +486,11 @@ fn run_on<S: Alter + Drop, D: Databases<S>, T: Timer>(
 ) -> Outcome
     requires members { ⟦<SqlRecords<S> as Records>⟧.members records ≡ m.members }
     requires here { m.me < m.members }
+    requires is { m.me ≡ words.me }
     requires failed { ⟦<SqlRecords<S> as Records>⟧.failed records ≡ 0 }
     requires keyed { is_some sealing ≡ is_some words.key }
     ensures ran { EndsAs ⟦<SqlRecords<S> as Records>⟧ m sealing
-        (hears_asks words.entry.key words.entry.control) records
+        (hears_asks words.entry.key words.entry.control) (map (λ t. t.now) words.entry.members.now) records
         (λ r. D.closed dbs.now (state S.Store (connection_of r))) (λ how.
         OnFront how (MakesTurns words.entry.turns (T.timer_events timer.old) (T.timer_events timer.new))) result }
     ensures why { result ≢ Refused 80 }
@@ -509,12 +519,13 @@ fn run_sealed<S: Alter + Drop, F: NodeFiles, D: Databases<S>, T: Timer>(
 ) -> Outcome
     requires members { ⟦<SqlRecords<S> as Records>⟧.members records ≡ m.members }
     requires here { m.me < m.members }
+    requires is { m.me ≡ words.me }
     requires failed { ⟦<SqlRecords<S> as Records>⟧.failed records ≡ 0 }
     requires keyed { is_some keys ≡ is_some words.key }
     ensures ran { EndsWith ⟦<SqlRecords<S> as Records>⟧ m keys
         (F.raises files.now (words.entry.store.now ++ codes "-starts") m.members m.me
         (is_made words.entry.is_from_file words.entry.is_new found || words.entry.makes_starts))
-        (hears_asks words.entry.key words.entry.control) records
+        (hears_asks words.entry.key words.entry.control) (map (λ t. t.now) words.entry.members.now) records
         (λ r. D.closed dbs.now (state S.Store (connection_of r))) (λ how.
         OnFront how (MakesTurns words.entry.turns (T.timer_events timer.old) (T.timer_events timer.new))) result }
     ensures ending { result ≢ Refused 80 }
@@ -544,11 +555,12 @@ fn run_new<S: Alter + Drop, F: NodeFiles, D: Databases<S>, T: Timer>(
     timer: &mut T,
 ) -> Outcome
     requires here { m.me < m.members }
+    requires is { m.me ≡ words.me }
     requires keyed { is_some keys ≡ is_some words.key }
     ensures ran { EndsNew ⟦<SqlRecords<S> as Records>⟧ m keys
         (F.raises files.now (words.entry.store.now ++ codes "-starts") m.members m.me
         (is_made words.entry.is_from_file words.entry.is_new found || words.entry.makes_starts))
-        (hears_asks words.entry.key words.entry.control) (λ r. IsKept
+        (hears_asks words.entry.key words.entry.control) (map (λ t. t.now) words.entry.members.now) (λ r. IsKept
         (D.holds dbs.now words.entry.store.now) (state S.Store (connection_of r))
         (λ f db. IsOpened S.Store r (record_at f db.trees)))
         (λ r. D.closed dbs.now (state S.Store (connection_of r))) (λ how.
@@ -583,7 +595,7 @@ fn run_node<S: Alter + Drop, F: NodeFiles, D: Databases<S>, T: Timer>(
         (option_map (λ t. t.now) words.entry.key) (option_map (λ t. t.now) words.entry.other_key))
         (λ m start. (found : Found) × F.raises files.now (words.entry.store.now ++ codes "-starts") m.members m.me
         (is_made words.entry.is_from_file words.entry.is_new found || words.entry.makes_starts) start)
-        (hears_asks words.entry.key words.entry.control) (λ r. IsKept
+        (hears_asks words.entry.key words.entry.control) (map (λ t. t.now) words.entry.members.now) (λ r. IsKept
         (D.holds dbs.now words.entry.store.now) (state S.Store (connection_of r))
         (λ f db. IsOpened S.Store r (record_at f db.trees)))
         (λ r. D.closed dbs.now (state S.Store (connection_of r))) (λ how.
@@ -622,7 +634,8 @@ pub(crate) fn node_outcome(rt: &HostRuntime, alloc: Global, words: NodeWords<'_,
         (AreNamed (λ path key. (text : List ℕ) ×
         IsClusterKey text words.entry.cluster (map (λ t. t.now) words.entry.members.now) key)
         (option_map (λ t. t.now) words.entry.key) (option_map (λ t. t.now) words.entry.other_key))
-        (λ m. Anything) (hears_asks words.entry.key words.entry.control) Anything Anything Anything result }
+        (λ m. Anything) (hears_asks words.entry.key words.entry.control)
+        (map (λ t. t.now) words.entry.members.now) Anything Anything Anything result }
     ensures ending { result ≢ Refused 80 }
     ensures store { IsStoreless words.entry.is_from_file words.entry.is_new result }
 {

@@ -1,5 +1,5 @@
 -- What a wire over UDP was made with.
-use Rattle.std.specs.Prelude.{◌≡◌, ◌⊎◌, ℕ, Bool, List, Option, Some}
+use Rattle.std.specs.Prelude.{◌≡◌, ◌⊎◌, ℕ, Bool, List, Option, Some, map}
 use Rattle.std.specs.declared.net.socket_addr.SocketAddr.{SocketAddr}
 use Rattle.std.specs.declared.net.ip_addr.IpAddr.{IpAddr}
 use Rattle.std.specs.declared.net.ip_addr.IpAddr.TheVariants as ips
@@ -8,6 +8,7 @@ use Rattle.std.specs.Net.Socket.{socket_ip, socket_port}
 use Rattle.pf_addr.specs.declared.addr.Addr.{Addr}
 use Rattle.pf_addr.specs.declared.addr.Addr.TheVariants.{V4, V6}
 use Rattle.px_transport.specs.Wires.{one_more}
+use Rattle.node_udp.specs.Addresses.{shown_address}
 use Rattle.node_udp.specs.declared.address.Address.{Address}
 use Rattle.node_udp.specs.declared.udp.UdpWire.{UdpWire}
 
@@ -22,6 +23,10 @@ peers_of w = w.peers.items
 -- a member, or 255 for who is none
 abbrev pub me_of : {S C : Type 0} → UdpWire S C → ℕ
 me_of w = w.me
+
+-- the members' addresses, as they are shown, and which member this is
+abbrev pub route_of : List Address → (me : ℕ) → List (List ℕ) × ℕ
+route_of peers me = (map shown_address peers, me)
 
 -- where the last datagram came from of which it gave any byte
 abbrev pub last_of : {S C : Type 0} → UdpWire S C → Option SocketAddr

@@ -4,10 +4,10 @@ ghost use Rattle.std.specs.Prelude.{◌≡◌, ◌⊎◌, ◌<◌, ◌≤◌, �
 ghost use Rattle.std.specs.Prelude.{ℕ, [], ◌∷◌, ◌≢◌, map, length, option_map, take, true, false};
 ghost use Rattle.std.specs.List.{list_any};
 ghost use Rattle.pf_entry.specs.declared.limits.TheConstants.{CLIENT};
-ghost use Rattle.px_transport.specs.Identities.{plain};
+ghost use Rattle.px_transport.specs.Identities.{plain, with_route};
 ghost use Rattle.px_transport.specs.Wires.{Adds, Counts, Handed, IsQuiet, gives, one_more};
 ghost use Rattle.node_udp.specs.declared.udp.BindFault.TheVariants.{Memory};
-ghost use Rattle.node_udp.specs.Addresses.{AreFound};
+ghost use Rattle.node_udp.specs.Addresses.{AreFound, shown_address};
 ghost use Rattle.px_wire.specs.Message.{Group, Message, DatagramBytes};
 ghost use Rattle.node_udp.specs.Members.{socket_of, peers_of, me_of, last_of, hears_of, strangers_of, Drops};
 ghost use Rattle.node_udp.specs.Members.{address_at};
@@ -459,12 +459,14 @@ impl<S: Socket, C: Clock> Wire for UdpWire<S, C> {
 
     ghost failed = { λ w. w.failures };
 
-    ghost identity = { λ w. plain };
+    ghost identity = { λ w. with_route (map shown_address (peers_of w)) (me_of w) plain };
 
     fn recv(&mut self, into: &mut [u8]) -> Option<usize>
         ensures dropped { Drops (strangers_of self.old) result (strangers_of self.new) }
         ensures fits { IfSome result (λ n. n ≤ length into.new) }
         ensures hears { hears_of self.new ≡ hears_of self.old }
+        ensures same { with_route (map shown_address (peers_of self.new)) (me_of self.new) plain ≡
+            with_route (map shown_address (peers_of self.old)) (me_of self.old) plain }
         ensures members { hears_of self.old ≡ false → IfSome result (λ n. 0 < n → option_map (λ there.
             list_any (λ a. ⟦<Address as PartialEq>⟧.eq a (address_at there)) (peers_of self.old)) (last_of self.new)
             ≡ Some true) }
@@ -495,6 +497,8 @@ impl<S: Socket, C: Clock> Wire for UdpWire<S, C> {
         ensures dropped { Drops (strangers_of self.old) result (strangers_of self.new) }
         ensures fits { IfSome result (λ n. n ≤ length into.new) }
         ensures hears { hears_of self.new ≡ hears_of self.old }
+        ensures same { with_route (map shown_address (peers_of self.new)) (me_of self.new) plain ≡
+            with_route (map shown_address (peers_of self.old)) (me_of self.old) plain }
         ensures members { hears_of self.old ≡ false → IfSome result (λ n. 0 < n → option_map (λ there.
             list_any (λ a. ⟦<Address as PartialEq>⟧.eq a (address_at there)) (peers_of self.old)) (last_of self.new)
             ≡ Some true) }
@@ -516,6 +520,8 @@ impl<S: Socket, C: Clock> Wire for UdpWire<S, C> {
 
     fn wait(&mut self, milliseconds: u32)
         ensures hears { hears_of self.new ≡ hears_of self.old }
+        ensures same { with_route (map shown_address (peers_of self.new)) (me_of self.new) plain ≡
+            with_route (map shown_address (peers_of self.old)) (me_of self.old) plain }
         ensures quiet { IsQuiet (WentOver (S.traffic (socket_of self.old)) self.old)
             (WentOver (S.traffic (socket_of self.new)) self.new) }
         ensures counts { self.old.failures ≤ self.new.failures }
@@ -539,6 +545,8 @@ impl<S: Socket, C: Clock> Wire for UdpWire<S, C> {
 
     fn send(&mut self, to: u8, bytes: &[u8]) -> bool
         ensures hears { hears_of self.new ≡ hears_of self.old }
+        ensures same { with_route (map shown_address (peers_of self.new)) (me_of self.new) plain ≡
+            with_route (map shown_address (peers_of self.old)) (me_of self.old) plain }
         ensures handed { Adds (WentOver (S.traffic (socket_of self.old)) self.old)
             (WentOver (S.traffic (socket_of self.new)) self.new) (Handed to bytes.now ∷ []) }
         ensures counts { Counts result self.old.failures self.new.failures }
