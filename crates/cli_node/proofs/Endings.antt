@@ -1,6 +1,6 @@
 -- With what a run ends: neither 93 nor 94, which are of a store before it is opened.
 use Rattle.std.proofs.Common.{◌≡◌, ◌⊎◌, ◌↔◌, ℕ, List, Result, Ok, Err, Bool, true, false, Option, Some, None, refl, sym, subst, ap, inl, inr, arith}
-use Rattle.std.specs.Prelude.{if◌then◌else◌, nat_lt, IsSome, IsTrue, OnErr}
+use Rattle.std.specs.Prelude.{if◌then◌else◌, nat_lt, IfSome, IsSome, IsTrue, OnErr}
 use Rattle.px_records.specs.declared.records.Records.{Ghosts}
 use Rattle.px_wire.specs.declared.membership.Membership.{Membership}
 use Rattle.px_replica.specs.declared.fault.NodeFault.{NodeFault}

@@ -230,7 +230,7 @@ fn of_key<F: NodeFiles>(
         return Outcome::Sound;
     };
     match key_in(rt, files, alloc, words, path) {
-        Ok(_) => Outcome::Sound,
+        Ok(_key) => Outcome::Sound,
         Err(outcome) => outcome,
     }
 }

@@ -179,7 +179,9 @@ pub(crate) fn open_database(
 }
 
 /// Where a node's store is opened and closed.
-pub(crate) trait Databases<S: Alter> {
+pub(crate) trait Databases {
+    type Db: Alter + Drop;
+
     // the file at this path has this database, within a transaction or not
     ghost holds: { Self → (path : List ℕ) → Database → (within : Bool) → Type 0 };
 
@@ -187,29 +189,27 @@ pub(crate) trait Databases<S: Alter> {
     ghost closed: { Self → State → Type 0 };
 
     /// Opens the database in a file, or makes one there.
-    fn open(&self, path: &str) -> Result<Connection<S>, Error>
-        ensures { IfOk result (λ c. holds self.now path.now (state S.Store c).now (state S.Store c).in_transaction) };
+    fn open(&self, path: &str) -> Result<Connection<Self::Db>, Error>
+        ensures { IfOk result (λ c. holds self.now path.now (state Self.Db.Store c).now (state Self.Db.Store c).in_transaction) };
 
     /// Closes a database.
-    fn close(&self, conn: Connection<S>)
-        ensures { closed self.now (state S.Store conn) };
+    fn close(&self, conn: Connection<Self::Db>)
+        ensures { closed self.now (state Self.Db.Store conn) };
 }
 
-impl Databases<FileStore<File>> for HostRuntime {
+impl Databases for HostRuntime {
+    type Db = FileStore<File>;
+
     // no contract says what is in the file at a path
     ghost holds = { λ _ _ _ _. ⊤ };
 
     ghost closed = { λ _ _. ⊤ };
 
-    fn open(&self, path: &str) -> Result<Connection<FileStore<File>>, Error>
-        ensures { IfOk result (λ _. ⊤) }
-    {
+    fn open(&self, path: &str) -> Result<Connection<FileStore<File>>, Error> {
         open_database(self, path)
     }
 
-    fn close(&self, conn: Connection<FileStore<File>>)
-        ensures { ⊤ }
-    {
+    fn close(&self, conn: Connection<FileStore<File>>) {
         let _closed = conn.close();
     }
 }

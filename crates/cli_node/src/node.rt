@@ -43,7 +43,7 @@ use px_packet::PacketKeys;
 use px_records::Records;
 use px_store::SqlRecords;
 use px_transport::{PacketWire, Wire};
-use sqlite::{Alter, File, FileStore};
+use sqlite::{File, FileStore};
 use std::alloc::{AllocError, Global};
 use std::net::{SocketAddr, UdpSocket};
 
@@ -474,24 +474,24 @@ fn run_member_in<R: Records, T: Timer>(
 
 /// The run of a member over its record, which is closed, whatever came of it; what a node has committed stands also
 /// where closing fails. A node whose store failed ends with that (70, 72), whoever asked for the change.
-fn run_on<S: Alter + Drop, D: Databases<S>, T: Timer>(
+fn run_on<D: Databases, T: Timer>(
     rt: &HostRuntime,
     dbs: &D,
     alloc: Global,
     words: NodeWords<'_, '_, '_>,
     m: Membership,
-    records: SqlRecords<S>,
+    records: SqlRecords<D::Db>,
     sealing: Option<Sealing>,
     timer: &mut T,
 ) -> Outcome
-    requires members { ⟦<SqlRecords<S> as Records>⟧.members records ≡ m.members }
+    requires members { ⟦<SqlRecords<D::Db> as Records>⟧.members records ≡ m.members }
     requires here { m.me < m.members }
     requires is { m.me ≡ words.me }
-    requires failed { ⟦<SqlRecords<S> as Records>⟧.failed records ≡ 0 }
+    requires failed { ⟦<SqlRecords<D::Db> as Records>⟧.failed records ≡ 0 }
     requires keyed { is_some sealing ≡ is_some words.key }
-    ensures ran { EndsAs ⟦<SqlRecords<S> as Records>⟧ m sealing
+    ensures ran { EndsAs ⟦<SqlRecords<D::Db> as Records>⟧ m sealing
         (hears_asks words.entry.key words.entry.control) (map (λ t. t.now) words.entry.members.now) records
-        (λ r. D.closed dbs.now (state S.Store (connection_of r))) (λ how.
+        (λ r. D.closed dbs.now (state D.Db.Store (connection_of r))) (λ how.
         OnFront how (MakesTurns words.entry.turns (T.timer_events timer.old) (T.timer_events timer.new))) result }
     ensures why { result ≢ Refused 80 }
     ensures store { (file new : Bool) → IsStoreless file new result }
@@ -505,7 +505,7 @@ fn run_on<S: Alter + Drop, D: Databases<S>, T: Timer>(
 }
 
 /// The run of a member over its record, where its packets can be sealed; else the record is closed: 95.
-fn run_sealed<S: Alter + Drop, F: NodeFiles, D: Databases<S>, T: Timer>(
+fn run_sealed<F: NodeFiles, D: Databases, T: Timer>(
     rt: &HostRuntime,
     files: &F,
     dbs: &D,
@@ -513,20 +513,20 @@ fn run_sealed<S: Alter + Drop, F: NodeFiles, D: Databases<S>, T: Timer>(
     words: NodeWords<'_, '_, '_>,
     m: Membership,
     found: Found,
-    records: SqlRecords<S>,
+    records: SqlRecords<D::Db>,
     keys: Option<Keys>,
     timer: &mut T,
 ) -> Outcome
-    requires members { ⟦<SqlRecords<S> as Records>⟧.members records ≡ m.members }
+    requires members { ⟦<SqlRecords<D::Db> as Records>⟧.members records ≡ m.members }
     requires here { m.me < m.members }
     requires is { m.me ≡ words.me }
-    requires failed { ⟦<SqlRecords<S> as Records>⟧.failed records ≡ 0 }
+    requires failed { ⟦<SqlRecords<D::Db> as Records>⟧.failed records ≡ 0 }
     requires keyed { is_some keys ≡ is_some words.key }
-    ensures ran { EndsWith ⟦<SqlRecords<S> as Records>⟧ m keys
+    ensures ran { EndsWith ⟦<SqlRecords<D::Db> as Records>⟧ m keys
         (F.raises files.now (words.entry.store.now ++ codes "-starts") m.members m.me
         (is_made words.entry.is_from_file words.entry.is_new found || words.entry.makes_starts))
         (hears_asks words.entry.key words.entry.control) (map (λ t. t.now) words.entry.members.now) records
-        (λ r. D.closed dbs.now (state S.Store (connection_of r))) (λ how.
+        (λ r. D.closed dbs.now (state D.Db.Store (connection_of r))) (λ how.
         OnFront how (MakesTurns words.entry.turns (T.timer_events timer.old) (T.timer_events timer.new))) result }
     ensures ending { result ≢ Refused 80 }
     ensures store { (file new : Bool) → IsStoreless file new result }
@@ -543,7 +543,7 @@ fn run_sealed<S: Alter + Drop, F: NodeFiles, D: Databases<S>, T: Timer>(
 /// What a node over a new store comes to: its file of starts is made before its store, so that no store is without one,
 /// and no store is made where its sockets are refused. 95, the store's refusals, 82, 84, and the first refusal of a
 /// turn, in this order.
-fn run_new<S: Alter + Drop, F: NodeFiles, D: Databases<S>, T: Timer>(
+fn run_new<F: NodeFiles, D: Databases, T: Timer>(
     rt: &HostRuntime,
     files: &F,
     dbs: &D,
@@ -557,13 +557,13 @@ fn run_new<S: Alter + Drop, F: NodeFiles, D: Databases<S>, T: Timer>(
     requires here { m.me < m.members }
     requires is { m.me ≡ words.me }
     requires keyed { is_some keys ≡ is_some words.key }
-    ensures ran { EndsNew ⟦<SqlRecords<S> as Records>⟧ m keys
+    ensures ran { EndsNew ⟦<SqlRecords<D::Db> as Records>⟧ m keys
         (F.raises files.now (words.entry.store.now ++ codes "-starts") m.members m.me
         (is_made words.entry.is_from_file words.entry.is_new found || words.entry.makes_starts))
         (hears_asks words.entry.key words.entry.control) (map (λ t. t.now) words.entry.members.now) (λ r. IsKept
-        (D.holds dbs.now words.entry.store.now) (state S.Store (connection_of r))
-        (λ f db. IsOpened S.Store r (record_at f db.trees)))
-        (λ r. D.closed dbs.now (state S.Store (connection_of r))) (λ how.
+        (D.holds dbs.now words.entry.store.now) (state D.Db.Store (connection_of r))
+        (λ f db. IsOpened D.Db.Store r (record_at f db.trees)))
+        (λ r. D.closed dbs.now (state D.Db.Store (connection_of r))) (λ how.
         OnFront how (MakesTurns words.entry.turns (T.timer_events timer.old) (T.timer_events timer.new))) result }
     ensures ending { result ≢ Refused 80 }
     ensures store { IsStoreless words.entry.is_from_file words.entry.is_new result }
@@ -579,7 +579,7 @@ fn run_new<S: Alter + Drop, F: NodeFiles, D: Databases<S>, T: Timer>(
 }
 
 /// The outcome of `node` with this timer, as [`node_outcome`] has it.
-fn run_node<S: Alter + Drop, F: NodeFiles, D: Databases<S>, T: Timer>(
+fn run_node<F: NodeFiles, D: Databases, T: Timer>(
     rt: &HostRuntime,
     files: &F,
     dbs: &D,
@@ -588,7 +588,7 @@ fn run_node<S: Alter + Drop, F: NodeFiles, D: Databases<S>, T: Timer>(
     timer: &mut T,
 ) -> Outcome
     ensures place { has_place words.entry.me (length words.entry.members.now) ≡ false → result ≡ Refused 40 }
-    ensures ran { EndsNode ⟦<SqlRecords<S> as Records>⟧
+    ensures ran { EndsNode ⟦<SqlRecords<D::Db> as Records>⟧
         (λ m. (m.cluster ≡ words.entry.cluster) × (m.me ≡ words.entry.me) ×
         (m.members ≡ length words.entry.members.now))
         (AreNamed (F.makes files.now words.entry.cluster (map (λ t. t.now) words.entry.members.now))
@@ -596,9 +596,9 @@ fn run_node<S: Alter + Drop, F: NodeFiles, D: Databases<S>, T: Timer>(
         (λ m start. (found : Found) × F.raises files.now (words.entry.store.now ++ codes "-starts") m.members m.me
         (is_made words.entry.is_from_file words.entry.is_new found || words.entry.makes_starts) start)
         (hears_asks words.entry.key words.entry.control) (map (λ t. t.now) words.entry.members.now) (λ r. IsKept
-        (D.holds dbs.now words.entry.store.now) (state S.Store (connection_of r))
-        (λ f db. IsOpened S.Store r (record_at f db.trees)))
-        (λ r. D.closed dbs.now (state S.Store (connection_of r))) (λ how.
+        (D.holds dbs.now words.entry.store.now) (state D.Db.Store (connection_of r))
+        (λ f db. IsOpened D.Db.Store r (record_at f db.trees)))
+        (λ r. D.closed dbs.now (state D.Db.Store (connection_of r))) (λ how.
         OnFront how (MakesTurns words.entry.turns (T.timer_events timer.old) (T.timer_events timer.new))) result }
     ensures ending { result ≢ Refused 80 }
     ensures store { IsStoreless words.entry.is_from_file words.entry.is_new result }

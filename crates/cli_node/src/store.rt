@@ -156,14 +156,14 @@ pub(crate) fn failed_outcome(rt: &HostRuntime, path: &str, error: Error) -> Outc
 }
 
 /// The database in a file.
-fn open_file<S: Alter, D: Databases<S>>(
+fn open_file<D: Databases>(
     rt: &HostRuntime,
     dbs: &D,
     path: &str,
-) -> Result<Connection<S>, Outcome>
+) -> Result<Connection<D::Db>, Outcome>
     ensures refused { OnErr result ((result ≡ Err Memory) ⊎ (result ≡ Err (Refused 70))) }
     ensures held { IfOk result (λ c.
-        D.holds dbs.now path.now (state S.Store c).now (state S.Store c).in_transaction) }
+        D.holds dbs.now path.now (state D.Db.Store c).now (state D.Db.Store c).in_transaction) }
 {
     match dbs.open(path) {
         Ok(conn) => Ok(conn),
@@ -194,16 +194,16 @@ fn make_file(rt: &HostRuntime, path: &str, found: Found) -> Result<(), Outcome>
 
 /// The database of a store that is made. Its file is made first (70), and then its node's sockets are tried (82, 84): a
 /// refusal leaves a file without a byte, which is no store.
-fn make_store<S: Alter, D: Databases<S>>(
+fn make_store<D: Databases>(
     rt: &HostRuntime,
     dbs: &D,
     alloc: Global,
     words: NodeWords<'_, '_, '_>,
     found: Found,
-) -> Result<Connection<S>, Outcome>
+) -> Result<Connection<D::Db>, Outcome>
     ensures refused { IfErr result IsUnmade }
     ensures held { IfOk result (λ c.
-        D.holds dbs.now words.entry.store.now (state S.Store c).now (state S.Store c).in_transaction) }
+        D.holds dbs.now words.entry.store.now (state D.Db.Store c).now (state D.Db.Store c).in_transaction) }
 {
     match make_file(rt, words.store, found) {
         Ok(()) => {}
@@ -227,17 +227,17 @@ pub(crate) fn is_made(is_from_file: bool, is_new: bool, found: Found) -> bool
 
 /// The database where a store is named, by what becomes of what is there.
 #[tactic(auto, using(crate::proofs::Stores::by_opening, crate::proofs::Stores::by_file, crate::proofs::Stores::by_making))]
-fn open_store<S: Alter, D: Databases<S>>(
+fn open_store<D: Databases>(
     rt: &HostRuntime,
     dbs: &D,
     alloc: Global,
     words: NodeWords<'_, '_, '_>,
     found: Found,
-) -> Result<Connection<S>, Outcome>
+) -> Result<Connection<D::Db>, Outcome>
     ensures refused { IfErr result (IsStoreless words.entry.is_from_file words.entry.is_new) }
     ensures kind { IfErr result IsRefusal }
     ensures at { IfOk result (λ c.
-        D.holds dbs.now words.entry.store.now (state S.Store c).now (state S.Store c).in_transaction) }
+        D.holds dbs.now words.entry.store.now (state D.Db.Store c).now (state D.Db.Store c).in_transaction) }
     ensures lost { words.entry.is_from_file ≡ true → words.entry.is_new ≡ false →
         (found ≡ Found.Nothing) ⊎ (found ≡ Found.Empty) → result ≡ Err (Refused NO_STORE) }
     ensures held { words.entry.is_new ≡ true → found ≡ Found.Store → result ≡ Err (Refused FILE_IS_THERE) }
@@ -277,18 +277,18 @@ fn record_in<S: Alter>(
 
 /// The record of a member in the store that its words name, where that was found: 93, 94, 70, 73, 72 and 71, in this
 /// order; where it is made 70, 82 and 84.
-pub(crate) fn record_at<S: Alter + Drop, D: Databases<S>>(
+pub(crate) fn record_at<D: Databases>(
     rt: &HostRuntime,
     dbs: &D,
     alloc: Global,
     words: NodeWords<'_, '_, '_>,
     m: Membership,
     found: Found,
-) -> Result<SqlRecords<S>, Outcome>
-    ensures members { IfOk result (λ r. ⟦<SqlRecords<S> as Records>⟧.members r ≡ m.members) }
-    ensures begins { IfOk result (λ r. ⟦<SqlRecords<S> as Records>⟧.failed r ≡ 0) }
+) -> Result<SqlRecords<D::Db>, Outcome>
+    ensures members { IfOk result (λ r. ⟦<SqlRecords<D::Db> as Records>⟧.members r ≡ m.members) }
+    ensures begins { IfOk result (λ r. ⟦<SqlRecords<D::Db> as Records>⟧.failed r ≡ 0) }
     ensures rows { IfOk result (λ r. IsKept (D.holds dbs.now words.entry.store.now)
-        (state S.Store (connection_of r)) (λ f db. IsOpened S.Store r (record_at f db.trees))) }
+        (state D.Db.Store (connection_of r)) (λ f db. IsOpened D.Db.Store r (record_at f db.trees))) }
     ensures refused { IfErr result (IsStoreless words.entry.is_from_file words.entry.is_new) }
     ensures kind { IfErr result IsRefusal }
     ensures unfailed { OnErr result (result ≢ Err (Refused 80)) }

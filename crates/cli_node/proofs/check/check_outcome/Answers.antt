@@ -19,8 +19,8 @@ returns-clause-store g c =
 
 pub returns-clause-key : goal.returns-clause-key
 returns-clause-key g c = λ e. c.of_key-key.ensures.sound
-    (keys_sound _ _ c.of_key-other.result _ _ _ _ (sym (c.checked.ensures ∙ ap (λ (o : Outcome). checked c.of_place-place.result o c.of_store-store.result c.starts_of-starts.result c.of_addresses-addresses.result c.of_control-control.result) c.first_of.ensures) ∙ e)).0
+    (keys_sound c.of_place-place.result c.of_key-key.result c.of_key-other.result c.of_store-store.result c.starts_of-starts.result c.of_addresses-addresses.result c.of_control-control.result (sym (c.checked.ensures ∙ ap (λ (o : Outcome). checked c.of_place-place.result o c.of_store-store.result c.starts_of-starts.result c.of_addresses-addresses.result c.of_control-control.result) c.first_of.ensures) ∙ e)).0
 
 pub returns-clause-other : goal.returns-clause-other
 returns-clause-other g c = λ e. c.of_key-other.ensures.sound
-    (keys_sound _ c.of_key-key.result _ _ _ _ _ (sym (c.checked.ensures ∙ ap (λ (o : Outcome). checked c.of_place-place.result o c.of_store-store.result c.starts_of-starts.result c.of_addresses-addresses.result c.of_control-control.result) c.first_of.ensures) ∙ e)).1
+    (keys_sound c.of_place-place.result c.of_key-key.result c.of_key-other.result c.of_store-store.result c.starts_of-starts.result c.of_addresses-addresses.result c.of_control-control.result (sym (c.checked.ensures ∙ ap (λ (o : Outcome). checked c.of_place-place.result o c.of_store-store.result c.starts_of-starts.result c.of_addresses-addresses.result c.of_control-control.result) c.first_of.ensures) ∙ e)).1
