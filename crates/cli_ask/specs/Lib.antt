@@ -1,8 +1,10 @@
 pub mod Sending
 pub mod Calls
 pub mod Replies
+pub mod Showing
 pub mod Asking
 pub mod Checking
+pub mod Scripts
 pub mod Scripting
 pub mod Answers
 pub mod Outcomes

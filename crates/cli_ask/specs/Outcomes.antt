@@ -1,5 +1,5 @@
 -- What a run of `ask` asks and writes, and how it ends.
-use Rattle.std.specs.Prelude.{◌≡◌, ◌⊎◌, ℕ, ◌==◌, Bool, true, List, [], Option, Some, None, Ok, Err, IfSome}
+use Rattle.std.specs.Prelude.{◌≡◌, ◌⊎◌, ℕ, Bool, true, List, [], Option, Some, None, Ok, Err, IfSome}
 use Rattle.std.specs.Prelude.{codes, bytes_eq}
 use Rattle.std.specs.Prelude.{is_some, option_and_then, unwrap_or, if◌then◌else◌}
 use Rattle.std.specs.Io.KnownBytes.{Appends}
@@ -8,7 +8,7 @@ use Rattle.cli_io.specs.declared.status.Status.TheVariants as status
 use Rattle.pf_scripts.specs.Lines.{line, refused_line}
 use Rattle.clap.specs.Words.{Row, Text, first_of, one_of}
 use Rattle.cli_ask.specs.Answers.{is_done}
-use Rattle.cli_ask.specs.Asking.{Answered as Answer, Exchange, Adds, AskedAt}
+use Rattle.cli_ask.specs.Asking.{Answered as Answer, Event, Adds, AskedAt}
 use Rattle.cli_ask.specs.Calls.{Request, call_of}
 use Rattle.cli_ask.specs.Checking.{by_code, refusal_of}
 use Rattle.cli_ask.specs.Replies.{number_of, reply_value}
@@ -82,18 +82,18 @@ Replied k (Err fault.BadAnswer) outcome = outcome ≡ refusal 86
 abbrev pub call_for : List Row → (text : List ℕ) → Option Request
 call_for rows text = call_of rows text (unwrap_or (number_at rows (codes "at")) 0)
 
--- it is made once, unless `--wait` says for how long
-abbrev pub is_once : List Row → Bool
-is_once rows = unwrap_or (number_at rows (codes "wait")) 0 == 0
+-- for how many seconds it is waited, by `--wait`
+abbrev pub seconds_of : List Row → ℕ
+seconds_of rows = unwrap_or (number_at rows (codes "wait")) 0
 
 -- The request that the arguments spell is made, and gives this.
 pub record IsMade
-    (given now : List Exchange → Type 0) (rows : List Row) (text : List ℕ) (outcome : Outcome) : Type 0 where
+    (given now : List Event → Type 0) (rows : List Row) (text : List ℕ) (outcome : Outcome) : Type 0 where
   pub call : Request
   pub answer : Answer
   pub spelled : call_for rows text ≡ Some call
   pub good : refusal_of call.kind rows text ≡ None
-  pub asked : AskedAt given now call (is_once rows) answer
+  pub asked : AskedAt given now call (seconds_of rows) answer
   pub replied : Replied call.kind answer outcome
 
 -- what a request that isn't made is refused with: 40 where the arguments spell none
@@ -108,17 +108,17 @@ IsWhy rows text (Refused r) = IsRefusedWith (call_for rows text) rows text r
 IsWhy rows text Memory = Unit {0}
 IsWhy rows text Unread = ⊥
 
-abbrev pub AsksWith : (given now : List Exchange → Type 0) → List Row → (text : List ℕ) → Outcome → Type 0
+abbrev pub AsksWith : (given now : List Event → Type 0) → List Row → (text : List ℕ) → Outcome → Type 0
 AsksWith given now rows text outcome =
     IsMade given now rows text outcome ⊎ (Adds given now [] × IsWhy rows text outcome)
 
 -- nothing is asked: `--from` is there without a script, or there is no text
-abbrev pub AsksNothing : (given now : List Exchange → Type 0) → List Row → Outcome → Type 0
+abbrev pub AsksNothing : (given now : List Event → Type 0) → List Row → Outcome → Type 0
 AsksNothing given now rows outcome = Adds given now []
     × (((is_some (number_at rows (codes "from")) ≡ true) × (outcome ≡ refusal 40))
     ⊎ HasNoText (first_of (codes "file") rows) outcome)
 
 -- What a run asks, and what that gives: the request that the arguments and the text spell, or nothing.
-abbrev pub Asks : (given now : List Exchange → Type 0) → List Row → (input : Option (List ℕ)) → Outcome → Type 0
+abbrev pub Asks : (given now : List Event → Type 0) → List Row → (input : Option (List ℕ)) → Outcome → Type 0
 Asks given now rows input outcome = AsksNothing given now rows outcome
     ⊎ ((text : List ℕ) × (IsText (first_of (codes "file") rows) input text × AsksWith given now rows text outcome))

@@ -1,8 +1,11 @@
 //! Whoever answers at a control socket.
 
-ghost use Rattle.std.specs.Prelude.{List, [], ◌∷◌, ⊤};
+ghost use Rattle.std.specs.Prelude.{◌≡◌, List, [], ◌∷◌, Some, Err, IfOk, ⊤};
 ghost use Rattle.cli_ask.specs.Calls.{call_value};
-ghost use Rattle.cli_ask.specs.Asking.{Exchange, Adds, asked, answer_value};
+ghost use Rattle.cli_ask.specs.Replies.{reply_value};
+ghost use Rattle.cli_ask.specs.Asking.{Event, Asked, Looked, Adds, answer_value};
+ghost use Rattle.cli_ask.specs.Showing.{printable};
+ghost use Rattle.cli_ask.specs.declared.exchange.AskFault.TheVariants as fault;
 
 use crate::call::Call;
 use crate::exchange::{AskFault, Deadline, Reply, exchange};
@@ -13,13 +16,17 @@ use std::time::Clock;
 
 /// Whoever answers as a node does at its control socket.
 pub(crate) trait Control {
-    // these requests were made and answered so far, in order
-    ghost exchanged: { Self → List Exchange → Type 0 };
+    // these requests were made and answered, and the clock was read, so far, in order
+    ghost exchanged: { Self → List Event → Type 0 };
 
     /// Makes a request once, and waits for the answer until the deadline.
     fn ask(&mut self, alloc: Global, call: &Call, deadline: Deadline) -> Result<Reply, AskFault>
         ensures { Adds (exchanged self.old) (exchanged self.new)
-            (asked (call_value call.now) (answer_value result) ∷ []) };
+            (Asked deadline.seconds (call_value call.now) (answer_value result) ∷ []) };
+
+    /// Whether the time until the deadline is over, by the clock.
+    fn is_over(&mut self, deadline: Deadline) -> bool
+        ensures { Adds (exchanged self.old) (exchanged self.new) (Looked deadline.seconds result ∷ []) };
 }
 
 /// A control socket.
@@ -30,7 +37,11 @@ pub(crate) struct ControlSocket<'a, RT> {
 }
 
 /// An answer as it is printed.
-fn printable(alloc: Global, reply: Reply) -> Result<Reply, AskFault> {
+fn printable(alloc: Global, reply: Reply) -> Result<Reply, AskFault>
+    ensures value { IfOk result (λ r. printable (reply_value reply) ≡ Some (reply_value r)) }
+    ensures none { result ≡ Err fault.BadAnswer → printable (reply_value reply) ≡ None }
+    ensures some { result ≡ Err fault.NoAnswer → ⊥ }
+{
     match shown(alloc, reply.body.as_slice())? {
         Some(text) => Ok(Reply {
             code: reply.code,
@@ -49,5 +60,9 @@ impl<RT: Net + Clock> Control for ControlSocket<'_, RT> {
     fn ask(&mut self, alloc: Global, call: &Call, deadline: Deadline) -> Result<Reply, AskFault> {
         let reply = exchange(self.rt, alloc, self.path, call, deadline)?;
         printable(alloc, reply)
+    }
+
+    fn is_over(&mut self, deadline: Deadline) -> bool {
+        deadline.left(self.rt).is_err()
     }
 }

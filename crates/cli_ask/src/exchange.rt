@@ -50,15 +50,17 @@ pub struct Reply {
 pub(crate) struct Deadline {
     /// When that began; none where the clock can't be read, and then the time is over.
     start: Option<Instant>,
-    limit: Duration,
+    seconds: u32,
 }
 
 impl Deadline {
     /// The given number of seconds from now on.
-    pub(crate) fn new<RT: Clock>(rt: &RT, seconds: u32) -> Deadline {
+    pub(crate) fn new<RT: Clock>(rt: &RT, seconds: u32) -> Deadline
+        ensures { result.seconds ≡ seconds }
+    {
         Deadline {
             start: Instant::now(rt).ok(),
-            limit: Duration::from_secs(u64::from(seconds)),
+            seconds,
         }
     }
 
@@ -67,9 +69,8 @@ impl Deadline {
         let Some(start) = self.start else {
             return Err(io::Error::from(ErrorKind::TimedOut));
         };
-        let left = self
-            .limit
-            .saturating_sub(Instant::now(rt)?.duration_since(start));
+        let limit = Duration::from_secs(u64::from(self.seconds));
+        let left = limit.saturating_sub(Instant::now(rt)?.duration_since(start));
         if left.is_zero() {
             Err(io::Error::from(ErrorKind::TimedOut))
         } else {
