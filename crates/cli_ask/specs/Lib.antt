@@ -2,6 +2,7 @@ pub mod Sending
 pub mod Calls
 pub mod Replies
 pub mod Showing
+pub mod Telling
 pub mod Asking
 pub mod Checking
 pub mod Scripts

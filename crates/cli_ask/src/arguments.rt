@@ -321,7 +321,7 @@ fn has_ruleset_option(matches: &ArgMatches<'_>) -> bool
 }
 
 /// Whether the arguments have an option of pfctl's.
-fn has_option(matches: &ArgMatches<'_>) -> bool
+pub(crate) fn has_option(matches: &ArgMatches<'_>) -> bool
     ensures { result ≡ has_option (rows_of (found_of matches.now)) }
 {
     has_table_option(matches) || has_ruleset_option(matches)

@@ -71,7 +71,7 @@ fn make<RT: Net + Clock, C: Control, E: Write>(
     };
     match ask_at(rt, alloc, control, &call, seconds) {
         Ok(reply) => {
-            tell_left(reply.front, errors);
+            let _said = tell_left(reply.front, errors);
             Ok(went_by(alloc, reply)?)
         }
         Err(fault) => Err(fault),
@@ -145,7 +145,7 @@ pub(crate) fn ask_script<RT: Net + Clock, C: Control, W: Write, E: Write>(
         };
         if change.line >= request.from {
             if request.is_terminal {
-                tell_line(change.line, errors);
+                let _said = tell_line(change.line, errors);
             }
             if let Some(status) = ask_one(
                 rt,
