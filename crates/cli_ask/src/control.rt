@@ -8,7 +8,7 @@ ghost use Rattle.cli_ask.specs.Showing.{printable};
 ghost use Rattle.cli_ask.specs.declared.exchange.AskFault.TheVariants as fault;
 
 use crate::call::Call;
-use crate::exchange::{AskFault, Deadline, Reply, exchange};
+use crate::exchange::{AskFault, ControlSocket, Deadline, Reply, exchange};
 use crate::showing::shown;
 use std::alloc::Global;
 use std::net::Net;
@@ -27,13 +27,6 @@ pub(crate) trait Control {
     /// Whether the time until the deadline is over, by the clock.
     fn is_over(&mut self, deadline: Deadline) -> bool
         ensures { Adds (exchanged self.old) (exchanged self.new) (Looked deadline.seconds result ∷ []) };
-}
-
-/// A control socket.
-#[derive(Clone, Copy)]
-pub(crate) struct ControlSocket<'a, RT> {
-    pub(crate) rt: &'a RT,
-    pub(crate) path: &'a str,
 }
 
 /// An answer as it is printed.
@@ -58,7 +51,7 @@ impl<RT: Net + Clock> Control for ControlSocket<'_, RT> {
     ghost exchanged = { λ _ _. ⊤ };
 
     fn ask(&mut self, alloc: Global, call: &Call, deadline: Deadline) -> Result<Reply, AskFault> {
-        let reply = exchange(self.rt, alloc, self.path, call, deadline)?;
+        let reply = exchange(alloc, self, call, deadline)?;
         printable(alloc, reply)
     }
 
