@@ -1,6 +1,6 @@
 -- Verdicts in parts.
-use Rattle.std.proofs.Common.{◌≡◌, ◌==◌, ◌∙◌, ℕ, suc, ◌+◌, ◌-◌, ◌<◌, Bool, true, false, List, [], ◌∷◌, ◌++◌, length, drop, Option, Some, None, Result, Ok, Err, refl, sym, ap, subst, append_assoc, append-nil, inl, inr, arith}
-use Rattle.std.specs.Prelude.{◌⊎◌, if◌then◌else◌}
+use Rattle.std.proofs.Common.{◌≡◌, ◌==◌, ◌∙◌, ℕ, suc, ◌+◌, ◌-◌, ◌<◌, Bool, true, false, List, [], ◌∷◌, ◌++◌, length, drop, Option, Some, None, Ok, Err, refl, sym, ap, subst, append_assoc, append-nil, inl, inr, arith}
+use Rattle.std.specs.Prelude.{if◌then◌else◌}
 use Rattle.std.specs.List.{flat_map}
 use Rattle.std.proofs.lemmas.Bool.{eqb-true}
 use Rattle.std.proofs.lemmas.Grind.{flat_map-append}
@@ -9,8 +9,8 @@ use Rattle.std.proofs.Math.Seq.{drop-nil}
 use Rattle.pf_scripts.specs.Lines.{ScriptLine, lines, at_front, bytes_of}
 use Rattle.cli_ask.specs.Calls.{Request}
 use Rattle.cli_ask.specs.Replies.{Answer}
-use Rattle.cli_ask.specs.Asking.{Answered, Event, Adds, IsSeries, AskedOn, behind_lines, left_by, is_whole, with_more, IsOfOne, Part, PartsEnd, IsPart, AreParts}
-use Rattle.cli_ask.specs.Asking.{IsBeginning, AreAnew, AreVerdicts, BegunParts, AskedVerdicts}
+use Rattle.cli_ask.specs.Asking.{Answered, Event, Adds, IsSeries, AskedOn, behind_lines, left_by, is_whole, with_more, Part, AreParts}
+use Rattle.cli_ask.specs.Asking.{AreAnew, BegunParts, AskedVerdicts}
 use Rattle.cli_ask.specs.declared.exchange.AskFault.{AskFault}
 use Rattle.cli_ask.specs.declared.exchange.AskFault.TheVariants as fault
 use Rattle.cli_ask.proofs.Series.{adds_more, adds_nothing}

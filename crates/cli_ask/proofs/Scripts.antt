@@ -13,7 +13,7 @@ use Rattle.cli_ask.specs.Calls.{Request}
 use Rattle.cli_ask.specs.declared.exchange.AskFault.{AskFault}
 use Rattle.cli_ask.specs.declared.exchange.AskFault.TheVariants as fault
 use Rattle.cli_ask.specs.Scripting.{Printed, GoesAs, unsent, Makes, call_for, Shows}
-use Rattle.cli_ask.specs.Scripting.{RanOut, Ended, end_text, AsksOne, Then, AsksFirst, AsksFrom, AsksAll, AskedOne, AskedAll}
+use Rattle.cli_ask.specs.Scripting.{RanOut, Ended, end_text, AsksFirst, AsksFrom, AsksAll, AskedOne, AskedAll}
 use Rattle.cli_ask.proofs.Series.{adds_more, adds_nothing}
 
 -- ---- what is written

@@ -35,6 +35,11 @@ pub data Event : Type 0 where
   Asked : (limit : ℕ) → Request → Answered → Event
   Looked : (limit : ℕ) → (is_over : Bool) → Event
 
+abbrev pub asked_count : List Event → ℕ
+asked_count [] = 0
+asked_count (Asked limit r a ∷ es) = asked_count es + 1
+asked_count (Looked limit is_over ∷ es) = asked_count es
+
 -- where these events came so far, those are with these more
 -- Example: what is asked twice is there twice.
 abbrev pub Adds : (List Event → Type 0) → (List Event → Type 0) → List Event → Type 0

@@ -1,5 +1,5 @@
 -- The changes of a script in the form of `ctl`'s.
-use Rattle.std.specs.Prelude.{◌≡◌, ℕ, ◌+◌, ◌-◌, ◌^◌, Bool, true, false, List, [], ◌∷◌, ◌++◌, map, min, Option, Some, None}
+use Rattle.std.specs.Prelude.{◌≡◌, ℕ, ◌+◌, ◌-◌, ◌^◌, Bool, false, List, [], ◌∷◌, ◌++◌, map, min, Option, Some, None}
 use Rattle.std.specs.Prelude.{Result, Ok, Err, bytes_eq, codes, nat_lt, option_map, if◌then◌else◌}
 use Rattle.clap.specs.Words.{Text}
 use Rattle.pf_entry.specs.Entry.{Command}

@@ -1,17 +1,16 @@
 //! Whoever answers at a control socket.
 
-ghost use Rattle.std.specs.Prelude.{◌≡◌, List, [], ◌∷◌, Some, Err, IfOk, ⊤};
+ghost use Rattle.std.specs.Prelude.{◌≡◌, ◌≤◌, ℕ, List, [], ◌∷◌, Some, Err, IfOk};
 ghost use Rattle.cli_ask.specs.Calls.{call_value};
 ghost use Rattle.cli_ask.specs.Replies.{reply_value};
-ghost use Rattle.cli_ask.specs.Asking.{Event, Asked, Looked, Adds, answer_value};
+ghost use Rattle.cli_ask.specs.Asking.{Event, Asked, Looked, Adds, answer_value, asked_count};
 ghost use Rattle.cli_ask.specs.Showing.{printable};
 ghost use Rattle.cli_ask.specs.declared.exchange.AskFault.TheVariants as fault;
 
 use crate::call::Call;
-use crate::exchange::{AskFault, ControlSocket, Deadline, Reply, exchange};
+use crate::exchange::{AskFault, Deadline, Dial, Reply, exchange};
 use crate::showing::shown;
 use std::alloc::Global;
-use std::net::Net;
 use std::time::Clock;
 
 /// Whoever answers as a node does at its control socket.
@@ -46,13 +45,22 @@ fn printable(alloc: Global, reply: Reply) -> Result<Reply, AskFault>
     }
 }
 
-impl<RT: Net + Clock> Control for ControlSocket<'_, RT> {
-    // no contract can say what a socket gives
-    ghost exchanged = { λ _ _. ⊤ };
+/// Whoever is reached over connections, by a clock.
+#[derive(Drop)]
+pub(crate) struct Reached<'a, D, RT> {
+    pub(crate) dial: D,
+    pub(crate) rt: &'a RT,
+}
+
+impl<D: Dial, RT: Clock> Control for Reached<'_, D, RT> {
+    // no more connections were asked for than requests were made
+    ghost exchanged = { λ r es. (n : ℕ) × (D.dialed r.dial n × (n ≤ asked_count es)) };
 
     fn ask(&mut self, alloc: Global, call: &Call, deadline: Deadline) -> Result<Reply, AskFault> {
-        let reply = exchange(alloc, self, call, deadline)?;
-        printable(alloc, reply)
+        match exchange(alloc, &mut self.dial, call, deadline) {
+            Ok(reply) => printable(alloc, reply),
+            Err(fault) => Err(fault),
+        }
     }
 
     fn is_over(&mut self, deadline: Deadline) -> bool {

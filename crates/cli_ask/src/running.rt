@@ -13,7 +13,7 @@ use crate::asking::ask_at;
 use crate::call::Kind;
 use crate::checking::{Refused, refusal_of};
 use crate::commands::is_command;
-use crate::control::Control;
+use crate::control::{Control, Reached};
 use crate::exchange::{AskFault, ControlSocket, Reply};
 use crate::outcome::{Outcome, refused, write_outcome};
 use crate::script::refused_script;
@@ -328,7 +328,10 @@ pub fn run_control_ask<RT: Files + Net + Clock, S: AsStr, R: Read, W: Write, E: 
                 rt,
                 alloc,
                 inner,
-                &mut ControlSocket { rt, path },
+                &mut Reached {
+                    dial: ControlSocket { rt, path },
+                    rt,
+                },
                 reader,
                 writer,
                 errors,

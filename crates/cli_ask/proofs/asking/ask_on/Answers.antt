@@ -1,4 +1,4 @@
-use Rattle.std.proofs.Common.{◌≡◌, ◌∙◌, sym, refl, true, arith}
+use Rattle.std.proofs.Common.{◌∙◌, sym, arith}
 use Rattle.cli_ask.specs.Calls.{call_value}
 use Rattle.cli_ask.specs.Asking.{answer_value}
 use Rattle.cli_ask.proofs.Series.{asked_never, asked_more, ended_answered, ended_over, ended_at_last, ok_value}

@@ -1,4 +1,4 @@
-use Rattle.std.proofs.Common.{List, ℕ, None, codes, subst, sym}
+use Rattle.std.proofs.Common.{ℕ, None, codes, subst, sym}
 use Rattle.cli_ask.specs.Scripts.{change_value, items_in, items_left}
 use Rattle.cli_ask.specs.Scripting.{Ended, end_text}
 use Rattle.cli_ask.proofs.Scripts.{all_begin, all_done, all_bad, all_out, all_ended, all_made, all_skip, ran_out, is_before, isnt_before, AllSo}

@@ -1,7 +1,4 @@
-use Rattle.std.proofs.Common.{◌≡◌, ◌∙◌, Err, ap, sym, inl, rules, map, option_map}
-use Rattle.cli_ask.specs.Calls.{call_value}
-use Rattle.cli_ask.specs.Scripting.{call_for, went_value}
-use Rattle.cli_ask.specs.declared.exchange.AskFault.TheVariants as fault
+use Rattle.std.proofs.Common.{rules}
 use Rattle.cli_ask.proofs.Scripts.{makes_unsent, makes_nothing}
 use Rattle.cli_ask.proofs.scripting.make.Goals as goal
 

@@ -1,4 +1,4 @@
-use Rattle.std.proofs.Common.{◌≡◌, ◌++◌, ◌∷◌, [], ◌∙◌, codes, decimal, List, ℕ, inl, subst}
+use Rattle.std.proofs.Common.{◌≡◌, ◌++◌, ◌∙◌, codes, decimal, List, ℕ, inl, subst}
 use Rattle.cli_io.specs.Written.{line, AppendsFront}
 use Rattle.cli_ask.proofs.Scripts.{front_more, front_behind}
 use Rattle.cli_ask.proofs.scripting.write_end.Goals as goal

@@ -1,5 +1,5 @@
 use Rattle.std.proofs.Common.{◌≡◌, ◌∙◌, ℕ, ◌+◌, List, Option, Some, Err, ap, subst, sym, arith, rules}
-use Rattle.cli_ask.specs.Calls.{Request, call_value}
+use Rattle.cli_ask.specs.Calls.{call_value}
 use Rattle.cli_ask.specs.Replies.{Answer, reply_value}
 use Rattle.cli_ask.specs.Asking.{Answered, BegunParts, parts_value, with_more}
 use Rattle.cli_ask.specs.declared.exchange.AskFault.TheVariants as fault

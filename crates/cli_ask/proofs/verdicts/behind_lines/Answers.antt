@@ -1,4 +1,4 @@
-use Rattle.std.proofs.Common.{refl, arith}
+use Rattle.std.proofs.Common.{arith}
 use Rattle.cli_ask.proofs.Parts.{behind_more, behind_none, behind_all}
 use Rattle.cli_ask.proofs.verdicts.behind_lines.Goals as goal
 
