@@ -2,4 +2,6 @@ pub mod Lines
 pub mod Numbers
 pub mod Names
 pub mod Series
+pub mod Parts
+pub mod Scripts
 pub mod Fronts

@@ -1,12 +1,13 @@
 -- Requests one after the other.
-use Rattle.std.proofs.Common.{◌≡◌, ◌∙◌, ℕ, Bool, true, false, List, [], ◌∷◌, ◌++◌, map, Option, Some, None, Result, Ok, Err, refl, sym, ap, subst, append_assoc, append-nil, inl, inr}
+use Rattle.std.proofs.Common.{◌≡◌, ◌∙◌, ℕ, ◌+◌, ◌≤◌, Bool, true, false, List, [], ◌∷◌, ◌++◌, length, not, Option, Some, None, Result, Ok, Err, refl, sym, ap, subst, append_assoc, append-nil, inl, inr, arith}
 use Rattle.std.specs.Prelude.{◌⊎◌, is_ok}
-use Rattle.std.specs.List.{list_all}
-use Rattle.std.proofs.lemmas.Bool.{and_from, and_parts}
+use Rattle.std.specs.List.{list_all, flat_map}
+use Rattle.std.proofs.lemmas.Bool.{and_from, and_parts, or_parts}
+use Rattle.std.proofs.lemmas.List.{length_push}
 use Rattle.cli_ask.specs.Calls.{Request}
 use Rattle.cli_ask.specs.Replies.{Answer}
-use Rattle.cli_ask.specs.Asking.{Answered, Exchange, Adds, asked, answer_value, is_open, ends_answered, in_time, OrMemory, IsSeries, IsAsked, IsFollowedBy}
-use Rattle.cli_ask.specs.Asking.{AreParts, IsAskedAt, AskedOn, FollowedUp, AskedParts, AskedAt, outcome_call, outcome_of}
+use Rattle.cli_ask.specs.Asking.{Answered, Event, Asked, Looked, asked_count, Adds, asked_again, answer_value, is_open, is_last, ends_answered, in_time, OrMemory, SeriesEnds, IsSeries, IsAsked, IsFollowedBy}
+use Rattle.cli_ask.specs.Asking.{IsAskedAs, AskedOn, FollowedUp, AskedVerdicts, outcome_call, outcome_of}
 use Rattle.cli_ask.specs.declared.call.Kind.{Kind}
 use Rattle.cli_ask.specs.declared.call.Kind.TheVariants as kind
 use Rattle.cli_ask.specs.declared.exchange.AskFault.{AskFault}
@@ -15,15 +16,16 @@ use Rattle.cli_ask.specs.declared.exchange.Reply.{Reply}
 
 -- ---- lists
 
-pub adds_more : (x y z : List Exchange → Type 0) (es fs : List Exchange) → Adds x y es → Adds y z fs → Adds x z (es ++ fs)
+pub adds_more : (x y z : List Event → Type 0) (es fs : List Event) → Adds x y es → Adds y z fs → Adds x z (es ++ fs)
 adds_more x y z es fs p q = λ ds h. subst z (append_assoc ds es fs) (q (ds ++ es) (p ds h))
 
-pub adds_nothing : (x : List Exchange → Type 0) → Adds x x []
+pub adds_nothing : (x : List Event → Type 0) → Adds x x []
 adds_nothing x = λ ds h. subst x (sym (append-nil ds)) h
 
-map_more : (r : Request) (before : List Answered) (last : Answered) → map (asked r) (before ++ last ∷ []) ≡ map (asked r) before ++ asked r last ∷ []
-map_more r [] last = refl
-map_more r (a ∷ before) last = ap (λ (es : List Exchange). asked r a ∷ es) (map_more r before last)
+again_more : (limit : ℕ) (r : Request) (before : List Answered) (last : Answered) →
+    flat_map (asked_again limit r) (before ++ last ∷ []) ≡ flat_map (asked_again limit r) before ++ asked_again limit r last
+again_more limit r [] last = refl
+again_more limit r (a ∷ before) last = ap (λ (es : List Event). Asked limit r a ∷ Looked limit false ∷ es) (again_more limit r before last)
 
 all_more : (r : Request) (before : List Answered) (last : Answered) → list_all (is_open r) before ≡ true → is_open r last ≡ true → list_all (is_open r) (before ++ last ∷ []) ≡ true
 all_more r [] last h e = and_from (is_open r last) true e refl
@@ -42,94 +44,163 @@ pub ok_value : (r : Result Reply AskFault) → is_ok r ≡ is_ok (answer_value r
 ok_value (Ok reply) = refl
 ok_value (Err f) = refl
 
+true_not : (b : Bool) → not b ≡ false → b ≡ true
+true_not true e = refl
+true_not false e = cc
+
+-- ---- connections
+
+count_more : (es : List Event) (limit : ℕ) (r : Request) (a : Answered) → asked_count (es ++ Asked limit r a ∷ []) ≡ asked_count es + 1
+count_more [] limit r a = refl
+count_more (Asked l q b ∷ es) limit r a = ap (λ (n : ℕ). n + 1) (count_more es limit r a)
+count_more (Looked l b ∷ es) limit r a = count_more es limit r a
+
+count_same : (es : List Event) (limit : ℕ) (over : Bool) → asked_count (es ++ Looked limit over ∷ []) ≡ asked_count es
+count_same [] limit over = refl
+count_same (Asked l q b ∷ es) limit over = ap (λ (n : ℕ). n + 1) (count_same es limit over)
+count_same (Looked l b ∷ es) limit over = count_same es limit over
+
+-- so many connections or fewer were asked for
+abbrev pub Dialed : (ℕ → Type 0) → List Event → Type 0
+Dialed dialed es = (n : ℕ) × (dialed n × (n ≤ asked_count es))
+
+pub dialed_once : (old new : ℕ → Type 0) (limit : ℕ) (r : Request) (a : Answered) → ((n : ℕ) → old n → new n ⊎ new (n + 1)) → Adds (Dialed old) (Dialed new) (Asked limit r a ∷ [])
+dialed_once old new limit r a h = λ es so.
+    let e : asked_count (es ++ Asked limit r a ∷ []) ≡ asked_count es + 1 = count_more es limit r a in
+    let l : so.0 ≤ asked_count es = so.1.1 in
+    elim (h so.0 so.1.0) [
+      | inl k ↦ (so.0, (k, omega (arith, e, l)))
+      | inr k ↦ (so.0 + 1, (k, omega (arith, e, l)))
+    ]
+
+pub dialed_never : (old : ℕ → Type 0) (limit : ℕ) (over : Bool) → Adds (Dialed old) (Dialed old) (Looked limit over ∷ [])
+dialed_never old limit over = λ es so.
+    let e : asked_count (es ++ Looked limit over ∷ []) ≡ asked_count es = count_same es limit over in
+    let l : so.0 ≤ asked_count es = so.1.1 in
+    (so.0, (so.1.0, omega (arith, e, l)))
+
 -- ---- one request
 
--- it was made, and each answer so far leaves it open
-pub record OpenSo (r : Request) (once waits : Bool) (before : List Answered) : Type 0 where
+-- it was made so many times, and each answer so far leaves it open
+pub record OpenSo (r : Request) (once waits : Bool) (count : ℕ) (before : List Answered) : Type 0 where
   pub asks_again : list_all (is_open r) before ≡ true
   pub single : once ≡ true → before ≡ []
   pub waits_is : waits ≡ ends_answered before
+  pub many : length before ≡ count
 
-abbrev pub AskedSo : (given now : List Exchange → Type 0) → Request → (once waits : Bool) → Type 0
-AskedSo given now r once waits = (before : List Answered) × (Adds given now (map (asked r) before) × OpenSo r once waits before)
+abbrev pub AskedSo : (given now : List Event → Type 0) → Request → (once : Bool) → (limit : ℕ) → (waits : Bool) → (count : ℕ) → Type 0
+AskedSo given now r once limit waits count =
+    (before : List Answered) × (Adds given now (flat_map (asked_again limit r) before) × OpenSo r once waits count before)
 
-pub asked_never : (x : List Exchange → Type 0) (r : Request) (once : Bool) → AskedSo x x r once false
-asked_never x r once = ([], (adds_nothing x, record { asks_again = refl; single = λ e. refl; waits_is = refl }))
+pub asked_never : (x : List Event → Type 0) (r : Request) (once : Bool) (limit : ℕ) → AskedSo x x r once limit false 0
+asked_never x r once limit = ([], (adds_nothing x, record { asks_again = refl; single = λ e. refl; waits_is = refl; many = refl }))
 
-pub asked_again : (x y z : List Exchange → Type 0) (r : Request) (once waits waits_now : Bool) (last : Answered) → AskedSo x y r once waits →
-    Adds y z (asked r last ∷ []) → once ≡ false → is_open r last ≡ true → waits_now ≡ is_ok last → AskedSo x z r once waits_now
-asked_again x y z r once waits waits_now last (before, (adds, so)) more many again w = (
-  before ++ last ∷ [],
+pub asked_more : (x y m z : List Event → Type 0) (r : Request) (once : Bool) (limit : ℕ) (waits waits_now : Bool) (count : ℕ) (last : Answered) →
+    AskedSo x y r once limit waits count → Adds y m (Asked limit r last ∷ []) → Adds m z (Looked limit false ∷ []) →
+    is_last r once last ≡ false → waits_now ≡ is_ok last → AskedSo x z r once limit waits_now (count + 1)
+asked_more x y m z r once limit waits waits_now count last (before, (adds, so)) made looked left w =
+    let p = or_parts once (not (is_open r last)) left in (
+      before ++ last ∷ [],
+      (
+        subst (λ (es : List Event). Adds x z es) (sym (again_more limit r before last))
+            (adds_more x y z (flat_map (asked_again limit r) before) (asked_again limit r last) adds
+            (adds_more y m z (Asked limit r last ∷ []) (Looked limit false ∷ []) made looked)),
+        record {
+          asks_again = all_more r before last so.asks_again (true_not (is_open r last) p.1);
+          single = λ e. let other = p.0 in absurd cc;
+          waits_is = w ∙ sym (ends_more before last);
+          many = length_push before last ∙ ap (λ (n : ℕ). n + 1) so.many;
+        },
+      ),
+    )
+
+pub ended : (x y z : List Event → Type 0) (r : Request) (once : Bool) (limit : ℕ) (waits : Bool) (count : ℕ) (last : Answered) (looks : List Event) (answer : Answered) →
+    AskedSo x y r once limit waits count → Adds y z (Asked limit r last ∷ looks) →
+    ((before : List Answered) → waits ≡ ends_answered before → length before ≡ count → SeriesEnds r once limit before last looks answer) →
+    AskedOn x z r once limit answer
+ended x y z r once limit waits count last looks answer (before, (adds, so)) more ends = (
+  flat_map (asked_again limit r) before ++ Asked limit r last ∷ looks,
   (
-    subst (λ (es : List Exchange). Adds x z es) (sym (map_more r before last)) (adds_more x y z (map (asked r) before) (asked r last ∷ []) adds more),
-    record {
-      asks_again = all_more r before last so.asks_again again;
-      single = λ e. absurd cc;
-      waits_is = w ∙ sym (ends_more before last);
-    },
-  ),
-)
-
-pub ended : (x y z : List Exchange → Type 0) (r : Request) (once waits : Bool) (last answer : Answered) → AskedSo x y r once waits →
-    Adds y z (asked r last ∷ []) → (answer ≡ last) ⊎ ((is_open r last ≡ true) × ((once ≡ false) × OrMemory (in_time waits last) answer)) →
-    AskedOn x z r once answer
-ended x y z r once waits last answer (before, (adds, so)) more is = (
-  map (asked r) before ++ asked r last ∷ [],
-  (
-    adds_more x y z (map (asked r) before) (asked r last ∷ []) adds more,
+    adds_more x y z (flat_map (asked_again limit r) before) (Asked limit r last ∷ looks) adds more,
     record {
       before = before;
       last = last;
+      looks = looks;
       are = refl;
       asks_again = so.asks_again;
       single = so.single;
-      is = subst (λ (w : Bool). (answer ≡ last) ⊎ ((is_open r last ≡ true) × ((once ≡ false) × OrMemory (in_time w last) answer))) so.waits_is is;
+      ends = ends before so.waits_is so.many;
     },
   ),
 )
 
+-- it was answered, or is made once
+pub ended_answered : (x y z : List Event → Type 0) (r : Request) (once : Bool) (limit : ℕ) (waits : Bool) (count : ℕ) (last : Answered) →
+    AskedSo x y r once limit waits count → Adds y z (Asked limit r last ∷ []) → is_last r once last ≡ true → AskedOn x z r once limit last
+ended_answered x y z r once limit waits count last so more e =
+    ended x y z r once limit waits count last [] last so more (λ before w m. inl (refl, (refl, e)))
+
+-- the time is over
+pub ended_over : (x y m z : List Event → Type 0) (r : Request) (once : Bool) (limit : ℕ) (waits : Bool) (count : ℕ) (last answer : Answered) →
+    AskedSo x y r once limit waits count → Adds y m (Asked limit r last ∷ []) → Adds m z (Looked limit true ∷ []) → is_last r once last ≡ false →
+    OrMemory (in_time waits last) answer → AskedOn x z r once limit answer
+ended_over x y m z r once limit waits count last answer so made looked e is =
+    ended x y z r once limit waits count last (Looked limit true ∷ []) answer so (adds_more y m z (Asked limit r last ∷ []) (Looked limit true ∷ []) made looked)
+    (λ before w n. inr (inl (refl, (e, subst (λ (b : Bool). OrMemory (in_time b last) answer) w is))))
+
+-- the last request of all
+pub ended_at_last : (x y z : List Event → Type 0) (r : Request) (once : Bool) (limit : ℕ) (waits : Bool) (count : ℕ) (last : Answered) →
+    AskedSo x y r once limit waits count → Adds y z (Asked limit r last ∷ []) → count ≡ 18446744073709551615 → AskedOn x z r once limit last
+ended_at_last x y z r once limit waits count last so more e =
+    ended x y z r once limit waits count last [] last so more (λ before w n. inr (inr (refl, (refl, n ∙ e))))
+
 -- ---- what follows
 
-abbrev pub FollowedBy : (given now : List Exchange → Type 0) → Option (List ℕ) → Kind → Answer → Answered → Type 0
-FollowedBy given now number k first answer = (es : List Exchange) × (Adds given now es × IsFollowedBy number k first es answer)
+abbrev pub FollowedBy : (given now : List Event → Type 0) → Option (List ℕ) → Kind → (limit : ℕ) → Answer → Answered → Type 0
+FollowedBy given now number k limit first answer = (es : List Event) × (Adds given now es × IsFollowedBy number k limit first es answer)
 
-pub by_nothing : (x : List Exchange → Type 0) (n : Option (List ℕ)) (k : Kind) (first : Answer) (answer : Answered) → n ≡ None → answer ≡ Ok first →
-    FollowedBy x x n k first answer
-by_nothing x n k first answer none is =
-    subst (λ (o : Option (List ℕ)). FollowedBy x x o k first answer) (sym none) ([], (adds_nothing x, (refl, is)))
+pub by_nothing : (x : List Event → Type 0) (n : Option (List ℕ)) (k : Kind) (limit : ℕ) (first : Answer) (answer : Answered) → n ≡ None → answer ≡ Ok first →
+    FollowedBy x x n k limit first answer
+by_nothing x n k limit first answer none is =
+    subst (λ (o : Option (List ℕ)). FollowedBy x x o k limit first answer) (sym none) ([], (adds_nothing x, (refl, is)))
 
-pub by_no_memory : (x : List Exchange → Type 0) (n : Option (List ℕ)) (number : List ℕ) (k : Kind) (first : Answer) (answer : Answered) → n ≡ Some number →
-    answer ≡ Err fault.Memory → FollowedBy x x n k first answer
-by_no_memory x n number k first answer some is =
-    subst (λ (o : Option (List ℕ)). FollowedBy x x o k first answer) (sym some) ([], (adds_nothing x, inl (refl, is)))
+pub by_no_memory : (x : List Event → Type 0) (n : Option (List ℕ)) (number : List ℕ) (k : Kind) (limit : ℕ) (first : Answer) (answer : Answered) → n ≡ Some number →
+    answer ≡ Err fault.Memory → FollowedBy x x n k limit first answer
+by_no_memory x n number k limit first answer some is =
+    subst (λ (o : Option (List ℕ)). FollowedBy x x o k limit first answer) (sym some) ([], (adds_nothing x, inl (refl, is)))
 
-pub by_outcome : (x y : List Exchange → Type 0) (n : Option (List ℕ)) (number : List ℕ) (k : Kind) (first : Answer) (r : Request) (second answer : Answered) →
-    n ≡ Some number → r ≡ outcome_call number → AskedOn x y r false second → OrMemory (outcome_of k first second) answer → FollowedBy x y n k first answer
-by_outcome x y n number k first r second answer some same (es, (adds, series)) is =
-    subst (λ (o : Option (List ℕ)). FollowedBy x y o k first answer) (sym some)
-    (es, (adds, inr (second, subst (λ (q : Request). IsSeries q false es second) same series, is)))
+pub by_outcome : (x y : List Event → Type 0) (n : Option (List ℕ)) (number : List ℕ) (k : Kind) (limit : ℕ) (first : Answer) (r : Request) (second answer : Answered) →
+    n ≡ Some number → r ≡ outcome_call number → AskedOn x y r false limit second → OrMemory (outcome_of k first second) answer → FollowedBy x y n k limit first answer
+by_outcome x y n number k limit first r second answer some same (es, (adds, series)) is =
+    subst (λ (o : Option (List ℕ)). FollowedBy x y o k limit first answer) (sym some)
+    (es, (adds, inr (second, subst (λ (q : Request). IsSeries q false limit es second) same series, is)))
 
 -- ---- any request
 
-any_kind : (k : Kind) (r : Request) (once : Bool) (es : List Exchange) (answer : Answered) → (k ≡ kind.Test → ⊥) → IsAsked r once es answer → IsAskedAt k r once es answer
-any_kind kind.Read r once es answer other h = h
-any_kind kind.List r once es answer other h = h
-any_kind kind.TableTest r once es answer other h = h
-any_kind kind.Test r once es answer other h = absurd (other refl)
-any_kind kind.Sync r once es answer other h = h
-any_kind kind.Change r once es answer other h = h
+abbrev pub AskedAs : (given now : List Event → Type 0) → Request → (once : Bool) → (limit : ℕ) → Answered → Type 0
+AskedAs given now r once limit answer = (es : List Event) × (Adds given now es × IsAskedAs r.kind r once limit es answer)
 
-pub at_parts : (x y : List Exchange → Type 0) (r : Request) (once : Bool) (answer : Answered) → r.kind ≡ kind.Test → AskedParts x y r → AskedAt x y r once answer
-at_parts x y r once answer test (es, (adds, parts)) =
-    (es, (adds, subst (λ (k : Kind). IsAskedAt k r once es answer) (sym test) parts))
+any_kind : (k : Kind) (r : Request) (once : Bool) (limit : ℕ) (es : List Event) (answer : Answered) → (k ≡ kind.Test → ⊥) → IsAsked r once limit es answer →
+    IsAskedAs k r once limit es answer
+any_kind kind.Read r once limit es answer other h = h
+any_kind kind.List r once limit es answer other h = h
+any_kind kind.TableTest r once limit es answer other h = h
+any_kind kind.Test r once limit es answer other h = absurd (other refl)
+any_kind kind.Sync r once limit es answer other h = h
+any_kind kind.Change r once limit es answer other h = h
 
-pub at_fault : (x y : List Exchange → Type 0) (r : Request) (once : Bool) (f : AskFault) → (r.kind ≡ kind.Test → ⊥) → AskedOn x y r once (Err f) →
-    AskedAt x y r once (Err f)
-at_fault x y r once f other (es, (adds, series)) = (
+pub at_verdicts : (x y : List Event → Type 0) (r : Request) (once : Bool) (limit : ℕ) (answer : Answered) → r.kind ≡ kind.Test →
+    AskedVerdicts x y r once limit answer → AskedAs x y r once limit answer
+at_verdicts x y r once limit answer test (es, (adds, verdicts)) =
+    (es, (adds, subst (λ (k : Kind). IsAskedAs k r once limit es answer) (sym test) verdicts))
+
+pub at_fault : (x y : List Event → Type 0) (r : Request) (once : Bool) (limit : ℕ) (f : AskFault) → (r.kind ≡ kind.Test → ⊥) → AskedOn x y r once limit (Err f) →
+    AskedAs x y r once limit (Err f)
+at_fault x y r once limit f other (es, (adds, series)) = (
   es,
   (
     adds,
-    any_kind r.kind r once es (Err f) other (record {
+    any_kind r.kind r once limit es (Err f) other (record {
       front = es;
       rest = [];
       first = Err f;
@@ -140,13 +211,13 @@ at_fault x y r once f other (es, (adds, series)) = (
   ),
 )
 
-pub at_last : (x y z : List Exchange → Type 0) (r : Request) (once : Bool) (first : Answer) (answer : Answered) → (r.kind ≡ kind.Test → ⊥) →
-    AskedOn x y r once (Ok first) → FollowedUp y z r.kind once first answer → AskedAt x z r once answer
-at_last x y z r once first answer other (es, (adds, series)) (fs, (more, follows)) = (
+pub at_last : (x y z : List Event → Type 0) (r : Request) (once : Bool) (limit : ℕ) (first : Answer) (answer : Answered) → (r.kind ≡ kind.Test → ⊥) →
+    AskedOn x y r once limit (Ok first) → FollowedUp y z r.kind once limit first answer → AskedAs x z r once limit answer
+at_last x y z r once limit first answer other (es, (adds, series)) (fs, (more, follows)) = (
   es ++ fs,
   (
     adds_more x y z es fs adds more,
-    any_kind r.kind r once (es ++ fs) answer other (record {
+    any_kind r.kind r once limit (es ++ fs) answer other (record {
       front = es;
       rest = fs;
       first = Ok first;
@@ -156,26 +227,3 @@ at_last x y z r once first answer other (es, (adds, series)) (fs, (more, follows
     }),
   ),
 )
-
--- ---- verdicts
-
-parts_append : (r : Request) (es fs : List Exchange) → AreParts r es → AreParts r fs → AreParts r (es ++ fs)
-parts_append r [] fs h k = k
-parts_append r (e ∷ es) fs h k = (h.0, parts_append r es fs h.1 k)
-
-parts_asked : (r s : Request) (body : List ℕ) → s ≡ record r { body = body } → (answers : List Answered) → AreParts r (map (asked s) answers)
-parts_asked r s body same [] = tt
-parts_asked r s body same (a ∷ answers) = ((body, same), parts_asked r s body same answers)
-
-pub parts_nothing : (x : List Exchange → Type 0) (r : Request) → AskedParts x x r
-parts_nothing x r = ([], (adds_nothing x, tt))
-
-pub parts_then : (x y z : List Exchange → Type 0) (r : Request) → AskedParts x y r → AskedParts y z r → AskedParts x z r
-parts_then x y z r (es, (adds, parts)) (fs, (more, others)) = (es ++ fs, (adds_more x y z es fs adds more, parts_append r es fs parts others))
-
-pub parts_of : (x y : List Exchange → Type 0) (r s : Request) (once : Bool) (answer : Answered) (body : List ℕ) → s ≡ record r { body = body } → AskedOn x y s once answer →
-    AskedParts x y r
-parts_of x y r s once answer body same (es, (adds, series)) =
-    let all : AreParts r (map (asked s) series.before ++ asked s series.last ∷ []) =
-    parts_append r (map (asked s) series.before) (asked s series.last ∷ []) (parts_asked r s body same series.before) ((body, same), tt) in
-    (es, (adds, subst (λ (l : List Exchange). AreParts r l) (sym series.are) all))

@@ -1,8 +1,9 @@
 -- What is asked at a control socket, and how often.
-use Rattle.std.specs.Prelude.{◌≡◌, ◌⊎◌, ◌+◌, ℕ, Bool, true, false, ◌&&◌, List, [], ◌∷◌, ◌++◌, map, take, drop}
-use Rattle.std.specs.Prelude.{min, not, Option, Some, None}
+use Rattle.std.specs.Prelude.{◌≡◌, ◌⊎◌, ◌+◌, ◌-◌, ◌^◌, ◌<◌, ◌==◌, ℕ, Bool, true, false, ◌&&◌, ◌||◌, List, [], ◌∷◌, ◌++◌}
+use Rattle.std.specs.Prelude.{length, take, drop, count_by, min, not, Option, Some, None}
 use Rattle.std.specs.Prelude.{Result, Ok, Err, bytes_eq, codes, decimal, if◌then◌else◌}
-use Rattle.std.specs.List.{list_all}
+use Rattle.std.specs.List.{list_all, flat_map}
+use Rattle.pf_scripts.specs.Lines.{lines, bytes_of}
 use Rattle.cli_ask.specs.Answers.{begins, behind_first, line_len}
 use Rattle.cli_ask.specs.Calls.{Request, get}
 use Rattle.cli_ask.specs.Replies.{Answer, number, reply_value, text_of}
@@ -11,6 +12,8 @@ use Rattle.cli_ask.specs.declared.call.Kind.TheVariants as kind
 use Rattle.cli_ask.specs.declared.exchange.AskFault.{AskFault}
 use Rattle.cli_ask.specs.declared.exchange.AskFault.TheVariants as fault
 use Rattle.cli_ask.specs.declared.exchange.Reply.{Reply}
+use Rattle.cli_ask.specs.declared.exchange.TheConstants.{PATIENCE}
+use Rattle.cli_ask.specs.declared.verdicts.TheConstants.{BEGINNINGS}
 
 -- an answer, or why there is none
 abbrev pub Answered : Type 0
@@ -20,18 +23,27 @@ abbrev pub answer_value : Result Reply AskFault → Answered
 answer_value (Ok reply) = Ok (reply_value reply)
 answer_value (Err f) = Err f
 
--- a request and its answer
-pub record Exchange : Type 0 where
-  pub request : Request
-  pub answer : Answered
+-- the same of verdicts, which are none where the position changed
+abbrev pub parts_value : Result (Option Reply) AskFault → Option Answered
+parts_value (Ok (Some reply)) = Some (Ok (reply_value reply))
+parts_value (Ok None) = None
+parts_value (Err f) = Some (Err f)
 
-abbrev pub asked : Request → Answered → Exchange
-asked request answer = record { request = request; answer = answer }
+-- A request and its answer, which was waited for until the limit, in seconds; or the clock was read, and the time up to
+-- the limit is over or isn't.
+pub data Event : Type 0 where
+  Asked : (limit : ℕ) → Request → Answered → Event
+  Looked : (limit : ℕ) → (is_over : Bool) → Event
 
--- where these were exchanged so far, those are with these more
+abbrev pub asked_count : List Event → ℕ
+asked_count [] = 0
+asked_count (Asked limit r a ∷ es) = asked_count es + 1
+asked_count (Looked limit is_over ∷ es) = asked_count es
+
+-- where these events came so far, those are with these more
 -- Example: what is asked twice is there twice.
-abbrev pub Adds : (List Exchange → Type 0) → (List Exchange → Type 0) → List Exchange → Type 0
-Adds old new more = (es : List Exchange) → old es → new (es ++ more)
+abbrev pub Adds : (List Event → Type 0) → (List Event → Type 0) → List Event → Type 0
+Adds old new more = (es : List Event) → old es → new (es ++ more)
 
 -- ---- one request, until it is answered
 
@@ -46,6 +58,10 @@ is_open r (Ok a) = is_waiting a.body
 is_open r (Err fault.Memory) = false
 is_open r (Err fault.NoAnswer) = r.is_repeatable
 is_open r (Err fault.BadAnswer) = r.is_repeatable
+
+-- it isn't asked again: it was answered, or is made once
+abbrev pub is_last : Request → (once : Bool) → Answered → Bool
+is_last r once a = once || not (is_open r a)
 
 -- what replaces an answer to an accepted request that never came
 abbrev pub waiting : Answer
@@ -68,16 +84,30 @@ in_time false a = a
 abbrev pub OrMemory : Answered → Answered → Type 0
 OrMemory wanted got = (got ≡ wanted) ⊎ (got ≡ Err fault.Memory)
 
--- A request is made, and again while its answer leaves it open and time is left; once, it is made a single time. It is
--- answered as it was last; where the time is over in the midst of a request that may be sent again, as it was before.
-pub record IsSeries (r : Request) (once : Bool) (es : List Exchange) (answer : Answered) : Type 0 where
+-- a request that is made again, since the clock says that time is left
+abbrev pub asked_again : (limit : ℕ) → Request → Answered → List Event
+asked_again limit r a = Asked limit r a ∷ Looked limit false ∷ []
+
+-- How it ends: as it was answered last. Or the clock said that the time is over: then, where it wasn't answered last, as
+-- it was before. Or it was made 2^64 times.
+abbrev pub SeriesEnds : Request → (once : Bool) → (limit : ℕ) → (before : List Answered) → (last : Answered) →
+    (looks : List Event) → (answer : Answered) → Type 0
+SeriesEnds r once limit before last looks answer =
+    ((looks ≡ []) × ((answer ≡ last) × (is_last r once last ≡ true)))
+    ⊎ (((looks ≡ Looked limit true ∷ []) × ((is_last r once last ≡ false)
+    × OrMemory (in_time (ends_answered before) last) answer))
+    ⊎ ((looks ≡ []) × ((answer ≡ last) × (length before ≡ 2 ^ 64 - 1))))
+
+-- A request is made, and again while its answer leaves it open and the clock says that time is left; once, it is made a
+-- single time.
+pub record IsSeries (r : Request) (once : Bool) (limit : ℕ) (es : List Event) (answer : Answered) : Type 0 where
   pub before : List Answered
   pub last : Answered
-  pub are : es ≡ map (asked r) before ++ asked r last ∷ []
+  pub looks : List Event
+  pub are : es ≡ flat_map (asked_again limit r) before ++ Asked limit r last ∷ looks
   pub asks_again : list_all (is_open r) before ≡ true
   pub single : once ≡ true → before ≡ []
-  pub is : (answer ≡ last) ⊎ ((is_open r last ≡ true) × ((once ≡ false)
-      × OrMemory (in_time (ends_answered before) last) answer))
+  pub ends : SeriesEnds r once limit before last looks answer
 
 -- ---- commands
 
@@ -143,49 +173,134 @@ outcome_of k first (Err fault.NoAnswer) = Ok (outcome_in k first waiting)
 outcome_of k first (Err fault.BadAnswer) = Ok (outcome_in k first waiting)
 
 -- What follows the first answer. Behind a command that was accepted it is asked what became of it.
-abbrev pub IsFollowedBy : Option (List ℕ) → Kind → Answer → List Exchange → Answered → Type 0
-IsFollowedBy None k first es answer = (es ≡ []) × (answer ≡ Ok first)
-IsFollowedBy (Some number) k first es answer = ((es ≡ []) × (answer ≡ Err fault.Memory))
-    ⊎ ((second : Answered) × IsSeries (outcome_call number) false es second
+abbrev pub IsFollowedBy : Option (List ℕ) → Kind → (limit : ℕ) → Answer → List Event → Answered → Type 0
+IsFollowedBy None k limit first es answer = (es ≡ []) × (answer ≡ Ok first)
+IsFollowedBy (Some number) k limit first es answer = ((es ≡ []) × (answer ≡ Err fault.Memory))
+    ⊎ ((second : Answered) × IsSeries (outcome_call number) false limit es second
     × OrMemory (outcome_of k first second) answer)
 
-abbrev pub Follows : Kind → (once : Bool) → Answered → List Exchange → Answered → Type 0
-Follows k once (Err f) es answer = (es ≡ []) × (answer ≡ Err f)
-Follows k once (Ok first) es answer = IsFollowedBy (number_after k once first.body) k first es answer
+abbrev pub Follows : Kind → (once : Bool) → (limit : ℕ) → Answered → List Event → Answered → Type 0
+Follows k once limit (Err f) es answer = (es ≡ []) × (answer ≡ Err f)
+Follows k once limit (Ok first) es answer = IsFollowedBy (number_after k once first.body) k limit first es answer
 
 -- The request, until it is answered, and what follows its answer. So a change is made again only where the node answers
 -- that it is waiting.
-pub record IsAsked (r : Request) (once : Bool) (es : List Exchange) (answer : Answered) : Type 0 where
-  pub front : List Exchange
-  pub rest : List Exchange
+pub record IsAsked (r : Request) (once : Bool) (limit : ℕ) (es : List Event) (answer : Answered) : Type 0 where
+  pub front : List Event
+  pub rest : List Event
   pub first : Answered
   pub are : es ≡ front ++ rest
-  pub series : IsSeries r once front first
-  pub follows : Follows r.kind once first rest answer
+  pub series : IsSeries r once limit front first
+  pub follows : Follows r.kind once limit first rest answer
 
 -- ---- verdicts
 
--- requests that differ in their bodies alone
-abbrev pub AreParts : Request → List Exchange → Type 0
-AreParts r [] = Unit {0}
-AreParts r (e ∷ es) = ((body : List ℕ) × (e.request ≡ record r { body = body })) × AreParts r es
+abbrev pub line_count : (text : List ℕ) → ℕ
+line_count text = count_by (λ b. b == 10) text
+
+-- what is behind the first lines of a text
+-- Example: behind 1 line of the lines a, b and c: b and c.
+abbrev pub behind_lines : (count : ℕ) → (text : List ℕ) → List ℕ
+behind_lines count text = flat_map bytes_of (drop count (lines text))
+
+-- the packets, each a line, behind those that have a verdict so far
+abbrev pub left_by : Option Answer → (packets : List ℕ) → List ℕ
+left_by None packets = packets
+left_by (Some so_far) packets = behind_lines (line_count so_far.body) packets
+
+-- nothing is asked behind it: the last answer isn't one of verdicts, or no packet is left
+abbrev pub is_whole : Option Answer → (packets : List ℕ) → Bool
+is_whole None packets = false
+is_whole (Some so_far) packets = not (so_far.code == 200)
+    || (length (behind_lines (line_count so_far.body) packets) == 0)
+
+-- an answer behind those so far: the bodies one behind the other, with the status of the last
+abbrev pub with_more : Option Answer → Answer → Answer
+with_more None a = a
+with_more (Some so_far) a = record so_far { code = a.code; body = so_far.body ++ a.body }
+
+-- the node has applied as many positions as before
+abbrev pub IsOfOne : Option Answer → Answer → Type 0
+IsOfOne None a = Unit {0}
+IsOfOne (Some so_far) a = a.applied ≡ so_far.applied
+
+-- a part of the packets is asked for, and how that was answered
+pub record Part : Type 0 where
+  pub events : List Event
+  pub answer : Answered
+
+-- What parts give behind which no other is asked for: the answers as one; or no memory was left; or as many parts were
+-- asked for as the packets allow.
+abbrev pub PartsEnd : Option Answer → (packets : List ℕ) → (allowed : ℕ) → Option Answered → Type 0
+PartsEnd None packets allowed gives = ⊥
+PartsEnd (Some so_far) packets allowed gives = (gives ≡ Some (Err fault.Memory))
+    ⊎ (((is_whole (Some so_far) packets ≡ true) × (gives ≡ Some (Ok so_far)))
+    ⊎ ((allowed ≡ 0) × (gives ≡ Some (Err fault.BadAnswer))))
+
+-- what a part gives: more parts, unless there is no answer, or one of another position
+abbrev pub IsPart : Option Answer → Answered → (later : List Part) → Option Answered → (Answer → Type 0) → Type 0
+IsPart so_far (Err f) later gives more = (later ≡ []) × (gives ≡ Some (Err f))
+IsPart so_far (Ok a) later gives more =
+    (IsOfOne so_far a × more a) ⊎ ((IsOfOne so_far a → ⊥) × ((later ≡ []) × (gives ≡ None)))
+
+-- The parts in their order, each the packets behind those that have a verdict by then. They give no answer where one is
+-- of another position.
+abbrev pub AreParts : Request → (once : Bool) → (limit allowed : ℕ) → Option Answer → List Part → Option Answered →
+    Type 0
+AreParts r once limit allowed so_far [] gives = PartsEnd so_far r.body allowed gives
+AreParts r once limit allowed so_far (p ∷ ps) gives = (is_whole so_far r.body ≡ false)
+    × (IsSeries (record r { body = left_by so_far r.body }) once limit p.events p.answer
+    × IsPart so_far p.answer ps gives (λ a. AreParts r once limit (allowed - 1) (Some (with_more so_far a)) ps gives))
+
+-- all parts from the first packet on
+abbrev pub IsBeginning : Request → (once : Bool) → (limit : ℕ) → List Event → Option Answered → Type 0
+IsBeginning r once limit es gives = (parts : List Part) × ((es ≡ flat_map (λ p. p.events) parts)
+    × AreParts r once limit (length r.body + 1) None parts gives)
+
+-- beginnings in which the position changed
+abbrev pub AreAnew : Request → (once : Bool) → (limit : ℕ) → List (List Event) → Type 0
+AreAnew r once limit [] = Unit {0}
+AreAnew r once limit (begun ∷ more) = IsBeginning r once limit begun None × AreAnew r once limit more
+
+-- Verdicts are asked for anew where the position changed meanwhile, up to three times in all.
+pub record AreVerdicts (r : Request) (once : Bool) (limit : ℕ) (es : List Event) (answer : Answered) : Type 0 where
+  pub anew : List (List Event)
+  pub rest : List Event
+  pub are : es ≡ flat_map (λ begun. begun) anew ++ rest
+  pub changed : AreAnew r once limit anew
+  pub ends : ((length anew < BEGINNINGS) × IsBeginning r once limit rest (Some answer))
+      ⊎ ((length anew ≡ BEGINNINGS) × ((rest ≡ []) × (answer ≡ Err fault.BadAnswer)))
 
 -- ---- any request
 
 -- Verdicts are asked for in parts, anything else as a whole.
-abbrev pub IsAskedAt : Kind → Request → (once : Bool) → List Exchange → Answered → Type 0
-IsAskedAt kind.Test r once es answer = AreParts r es
-IsAskedAt k r once es answer = IsAsked r once es answer
+abbrev pub IsAskedAs : Kind → Request → (once : Bool) → (limit : ℕ) → List Event → Answered → Type 0
+IsAskedAs kind.Test r once limit es answer = AreVerdicts r once limit es answer
+IsAskedAs k r once limit es answer = IsAsked r once limit es answer
 
-abbrev pub AskedOn : (given now : List Exchange → Type 0) → Request → (once : Bool) → Answered → Type 0
-AskedOn given now r once answer = (es : List Exchange) × (Adds given now es × IsSeries r once es answer)
+-- for how many seconds it is waited in all where this is asked for: with 0 it is asked once
+abbrev pub limit_of : (seconds : ℕ) → ℕ
+limit_of seconds = if seconds == 0 then PATIENCE else seconds
 
-abbrev pub FollowedUp : (given now : List Exchange → Type 0) → Kind → (once : Bool) → Answer → Answered → Type 0
-FollowedUp given now k once first answer =
-    (es : List Exchange) × (Adds given now es × IsFollowedBy (number_after k once first.body) k first es answer)
+abbrev pub IsAskedAt : Request → (seconds : ℕ) → List Event → Answered → Type 0
+IsAskedAt r seconds es answer = IsAskedAs r.kind r (seconds == 0) (limit_of seconds) es answer
 
-abbrev pub AskedParts : (given now : List Exchange → Type 0) → Request → Type 0
-AskedParts given now r = (es : List Exchange) × (Adds given now es × AreParts r es)
+abbrev pub AskedOn : (given now : List Event → Type 0) → Request → (once : Bool) → (limit : ℕ) → Answered → Type 0
+AskedOn given now r once limit answer = (es : List Event) × (Adds given now es × IsSeries r once limit es answer)
 
-abbrev pub AskedAt : (given now : List Exchange → Type 0) → Request → (once : Bool) → Answered → Type 0
-AskedAt given now r once answer = (es : List Exchange) × (Adds given now es × IsAskedAt r.kind r once es answer)
+abbrev pub FollowedUp : (given now : List Event → Type 0) → Kind → (once : Bool) → (limit : ℕ) → Answer → Answered →
+    Type 0
+FollowedUp given now k once limit first answer = (es : List Event)
+    × (Adds given now es × IsFollowedBy (number_after k once first.body) k limit first es answer)
+
+abbrev pub BegunParts : (given now : List Event → Type 0) → Request → (once : Bool) → (limit : ℕ) → Option Answered →
+    Type 0
+BegunParts given now r once limit gives = (es : List Event) × (Adds given now es × IsBeginning r once limit es gives)
+
+abbrev pub AskedVerdicts : (given now : List Event → Type 0) → Request → (once : Bool) → (limit : ℕ) → Answered →
+    Type 0
+AskedVerdicts given now r once limit answer =
+    (es : List Event) × (Adds given now es × AreVerdicts r once limit es answer)
+
+abbrev pub AskedAt : (given now : List Event → Type 0) → Request → (seconds : ℕ) → Answered → Type 0
+AskedAt given now r seconds answer = (es : List Event) × (Adds given now es × IsAskedAt r seconds es answer)

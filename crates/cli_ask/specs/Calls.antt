@@ -103,14 +103,15 @@ shown_path show =
 abbrev pub list_call : List Row → (at : ℕ) → (path : List ℕ) → Request
 list_call rows at path = get (target_in path rows at) kind.List
 
-abbrev pub table_test : List Row → (rest : List Text) → (at : ℕ) → Request
-table_test rows rest at = post (target_in (codes "/v1/table-test") rows at) (lines_of rest) kind.TableTest
+-- words are sent to a path, each in a line of its own
+abbrev pub lines_call : List Row → (at : ℕ) → (path : List ℕ) → (words : List Text) → Kind → Request
+lines_call rows at path words k = post (target_in path rows at) (lines_of words) k
 
 -- what `-T` reads: the table, or whether addresses are in it
 abbrev pub table_call : List Row → (rest : List Text) → (at : ℕ) → (change : Text) → Option Request
 table_call rows rest at change =
     if bytes_eq change (codes "show") then Some (list_call rows at (codes "/v1/table"))
-    else if bytes_eq change (codes "test") then Some (table_test rows rest at)
+    else if bytes_eq change (codes "test") then Some (lines_call rows at (codes "/v1/table-test") rest kind.TableTest)
     else None
 
 abbrev pub table_listing : List Row → (rest : List Text) → (at : ℕ) → (change : Option Text) → Option Request
@@ -156,14 +157,12 @@ abbrev pub single_call : (word value : Text) → (more : List Text) → (at : �
 single_call word value [] at = valued_call word value at
 single_call word value (v ∷ vs) at = None
 
-abbrev pub verdicts_call : List Row → (packets : List Text) → (at : ℕ) → Request
-verdicts_call rows packets at = post (target_in (codes "/v1/test") rows at) (lines_of packets) kind.Test
-
 -- one with arguments or without
 abbrev pub subcommand_call : List Row → (word : Text) → (values : List Text) → (at : ℕ) → Option Request
 subcommand_call rows word [] at = plain_call rows word at
 subcommand_call rows word (v ∷ vs) at =
-    if bytes_eq word (codes "test") then Some (verdicts_call rows (v ∷ vs) at) else single_call word v vs at
+    if bytes_eq word (codes "test") then Some (lines_call rows at (codes "/v1/test") (v ∷ vs) kind.Test)
+    else single_call word v vs at
 
 -- none where there is no such subcommand
 abbrev pub own_call : List Row → (rest : List Text) → (at : ℕ) → Option Request

@@ -1,8 +1,11 @@
 pub mod Sending
 pub mod Calls
 pub mod Replies
+pub mod Showing
+pub mod Telling
 pub mod Asking
 pub mod Checking
+pub mod Scripts
 pub mod Scripting
 pub mod Answers
 pub mod Outcomes

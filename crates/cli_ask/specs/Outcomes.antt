@@ -1,17 +1,21 @@
 -- What a run of `ask` asks and writes, and how it ends.
-use Rattle.std.specs.Prelude.{◌≡◌, ◌⊎◌, ℕ, ◌==◌, Bool, true, List, [], Option, Some, None, Ok, Err, IfSome}
+use Rattle.std.specs.Prelude.{◌≡◌, ◌⊎◌, ℕ, Bool, true, false, ◌||◌, List, [], ◌∷◌, Option, Some, None, Ok, Err, IfSome}
 use Rattle.std.specs.Prelude.{codes, bytes_eq}
-use Rattle.std.specs.Prelude.{is_some, option_and_then, unwrap_or, if◌then◌else◌}
+use Rattle.std.specs.Prelude.{nat_lt, is_some, option_and_then, unwrap_or, if◌then◌else◌}
 use Rattle.std.specs.Io.KnownBytes.{Appends}
 use Rattle.cli_io.specs.declared.status.Status.{Status}
 use Rattle.cli_io.specs.declared.status.Status.TheVariants as status
-use Rattle.pf_scripts.specs.Lines.{line, refused_line}
-use Rattle.clap.specs.Words.{Row, Text, first_of, one_of}
+use Rattle.cli_io.specs.Written.{line, AppendsFront}
+use Rattle.pf_scripts.specs.Lines.{refused_line}
+use Rattle.pf_arguments.specs.Asked.{is_given}
+use Rattle.clap.specs.Words.{Row, Text, all_of, first_of, one_of}
 use Rattle.cli_ask.specs.Answers.{is_done}
-use Rattle.cli_ask.specs.Asking.{Answered as Answer, Exchange, Adds, AskedAt}
-use Rattle.cli_ask.specs.Calls.{Request, call_of}
+use Rattle.cli_ask.specs.Asking.{Answered as Answer, Event, Adds, AskedAt}
+use Rattle.cli_ask.specs.Calls.{Request, call_of, has_option}
 use Rattle.cli_ask.specs.Checking.{by_code, refusal_of}
 use Rattle.cli_ask.specs.Replies.{number_of, reply_value}
+use Rattle.cli_ask.specs.Scripts.{items_in, script_refusal}
+use Rattle.cli_ask.specs.Scripting.{AskedAll}
 use Rattle.cli_ask.specs.declared.checking.Refused as checking
 use Rattle.cli_ask.specs.declared.exchange.AskFault.TheVariants as fault
 use Rattle.cli_ask.specs.declared.call.Kind.{Kind}
@@ -45,10 +49,11 @@ status_of (Refused refused) = status.Refused
 status_of Memory = status.Memory
 status_of Unread = status.Failed
 
--- the outcome's text is written; when out of memory `memory` alone; of a write that failed nothing is said
+-- the outcome's text is written; when out of memory `memory` alone; where a write failed a front of either
 abbrev pub Wrote : Status → Outcome → Option (List ℕ) → Option (List ℕ) → Type 0
 Wrote status.Memory outcome old new = Appends old new (line (codes "memory"))
-Wrote status.Failed outcome old new = Unit {0}
+Wrote status.Failed outcome old new =
+    AppendsFront old new (line (codes "memory")) ⊎ AppendsFront old new (text_of outcome)
 Wrote ending outcome old new = (ending ≡ status_of outcome) × Appends old new (text_of outcome)
 
 -- ---- what is asked
@@ -82,18 +87,18 @@ Replied k (Err fault.BadAnswer) outcome = outcome ≡ refusal 86
 abbrev pub call_for : List Row → (text : List ℕ) → Option Request
 call_for rows text = call_of rows text (unwrap_or (number_at rows (codes "at")) 0)
 
--- it is made once, unless `--wait` says for how long
-abbrev pub is_once : List Row → Bool
-is_once rows = unwrap_or (number_at rows (codes "wait")) 0 == 0
+-- for how many seconds it is waited, by `--wait`
+abbrev pub seconds_of : List Row → ℕ
+seconds_of rows = unwrap_or (number_at rows (codes "wait")) 0
 
 -- The request that the arguments spell is made, and gives this.
 pub record IsMade
-    (given now : List Exchange → Type 0) (rows : List Row) (text : List ℕ) (outcome : Outcome) : Type 0 where
+    (given now : List Event → Type 0) (rows : List Row) (text : List ℕ) (outcome : Outcome) : Type 0 where
   pub call : Request
   pub answer : Answer
   pub spelled : call_for rows text ≡ Some call
   pub good : refusal_of call.kind rows text ≡ None
-  pub asked : AskedAt given now call (is_once rows) answer
+  pub asked : AskedAt given now call (seconds_of rows) answer
   pub replied : Replied call.kind answer outcome
 
 -- what a request that isn't made is refused with: 40 where the arguments spell none
@@ -108,17 +113,81 @@ IsWhy rows text (Refused r) = IsRefusedWith (call_for rows text) rows text r
 IsWhy rows text Memory = Unit {0}
 IsWhy rows text Unread = ⊥
 
-abbrev pub AsksWith : (given now : List Exchange → Type 0) → List Row → (text : List ℕ) → Outcome → Type 0
+abbrev pub AsksWith : (given now : List Event → Type 0) → List Row → (text : List ℕ) → Outcome → Type 0
 AsksWith given now rows text outcome =
     IsMade given now rows text outcome ⊎ (Adds given now [] × IsWhy rows text outcome)
 
 -- nothing is asked: `--from` is there without a script, or there is no text
-abbrev pub AsksNothing : (given now : List Exchange → Type 0) → List Row → Outcome → Type 0
+abbrev pub AsksNothing : (given now : List Event → Type 0) → List Row → Outcome → Type 0
 AsksNothing given now rows outcome = Adds given now []
     × (((is_some (number_at rows (codes "from")) ≡ true) × (outcome ≡ refusal 40))
     ⊎ HasNoText (first_of (codes "file") rows) outcome)
 
 -- What a run asks, and what that gives: the request that the arguments and the text spell, or nothing.
-abbrev pub Asks : (given now : List Exchange → Type 0) → List Row → (input : Option (List ℕ)) → Outcome → Type 0
+abbrev pub Asks : (given now : List Event → Type 0) → List Row → (input : Option (List ℕ)) → Outcome → Type 0
 Asks given now rows input outcome = AsksNothing given now rows outcome
     ⊎ ((text : List ℕ) × (IsText (first_of (codes "file") rows) input text × AsksWith given now rows text outcome))
+
+-- ---- a script
+
+abbrev pub are_there : List Text → Bool
+are_there [] = false
+are_there (w ∷ ws) = true
+
+-- arguments are there beside a script that are none of it: an option of pfctl's, an address, `--at`
+abbrev pub has_others : List Row → Bool
+has_others rows = has_option rows || are_there (unwrap_or (all_of (codes "address") rows) [])
+    || is_some (number_at rows (codes "at"))
+
+-- what a script is refused for before a node is asked, unless `--unchecked` says that it isn't looked at
+abbrev pub refusal_in : List Row → (script : List ℕ) → Option checking.Refused
+refusal_in rows script = if is_given (first_of (codes "unchecked") rows) then None
+    else script_refusal (unwrap_or (number_at rows (codes "from")) 1) (items_in script)
+
+-- for how many seconds it is waited for what comes of a change, by `--wait`: 60 without it, and 1 at least
+abbrev pub seconds_by : (wait : Option ℕ) → ℕ
+seconds_by None = 60
+seconds_by (Some seconds) = if nat_lt 0 seconds then seconds else 1
+
+-- the script is asked
+pub record IsScript (rows : List Row) (file : Text) (input : Option (List ℕ)) (script : List ℕ) : Type 0 where
+  pub alone : has_others rows ≡ false
+  pub text : IsText (Some file) input script
+  pub good : refusal_in rows script ≡ None
+
+-- why a script isn't asked that was read
+abbrev pub IsRefusedFor : List Row → (script : List ℕ) → Outcome → Type 0
+IsRefusedFor rows script (Answered kind reply) = ⊥
+IsRefusedFor rows script (Refused r) = refusal_in rows script ≡ Some r
+IsRefusedFor rows script Memory = Unit {0}
+IsRefusedFor rows script Unread = ⊥
+
+-- why no change of a script is asked
+abbrev pub IsNoScript : List Row → (file : Text) → (input : Option (List ℕ)) → Outcome → Type 0
+IsNoScript rows file input outcome = ((has_others rows ≡ true) × (outcome ≡ refusal 40))
+    ⊎ (HasNoText (Some file) outcome
+    ⊎ ((script : List ℕ) × (IsText (Some file) input script × IsRefusedFor rows script outcome)))
+
+-- What a run with a script asks and writes: its changes from a line on; or nothing is asked, and this is written.
+abbrev pub RunsScript : (given now : List Event → Type 0) → List Row → (file : Text) → (input : Option (List ℕ)) →
+    Status → (old new : Option (List ℕ)) → Type 0
+RunsScript given now rows file input ending old new = ((script : List ℕ) × (IsScript rows file input script
+    × AskedAll given now (unwrap_or (number_at rows (codes "from")) 1) (seconds_by (number_at rows (codes "wait")))
+    (items_in script) ending old new))
+    ⊎ (Adds given now [] × ((outcome : Outcome) × (IsNoScript rows file input outcome × Wrote ending outcome old new)))
+
+-- what a run without a script asks, and writes
+abbrev pub RunsAlone : (given now : List Event → Type 0) → List Row → (input : Option (List ℕ)) → Status →
+    (old new : Option (List ℕ)) → Type 0
+RunsAlone given now rows input ending old new =
+    (outcome : Outcome) × (Asks given now rows input outcome × Wrote ending outcome old new)
+
+abbrev pub RunsFor : (file : Option Text) → (given now : List Event → Type 0) → List Row → (input : Option (List ℕ)) →
+    Status → (old new : Option (List ℕ)) → Type 0
+RunsFor None given now rows input ending old new = RunsAlone given now rows input ending old new
+RunsFor (Some file) given now rows input ending old new = RunsScript given now rows file input ending old new
+
+-- what a run at a control socket asks and writes, with `--script` or without
+abbrev pub Runs : (given now : List Event → Type 0) → List Row → (input : Option (List ℕ)) → Status →
+    (old new : Option (List ℕ)) → Type 0
+Runs given now rows input ending old new = RunsFor (first_of (codes "script") rows) given now rows input ending old new

@@ -1,9 +1,14 @@
 -- A change of a script, as it is asked at a control socket.
-use Rattle.std.specs.Prelude.{◌≡◌, ◌⊎◌, ℕ, Bool, true, false, List, [], ◌∷◌, Option, Some, None, Result, Ok, Err, codes}
-use Rattle.std.specs.Prelude.{if◌then◌else◌}
+use Rattle.std.specs.Prelude.{◌≡◌, ◌⊎◌, ℕ, Bool, true, false, List, [], ◌∷◌, ◌++◌, Option, Some, None, Result, Ok, Err}
+use Rattle.std.specs.Prelude.{codes, decimal, nat_lt, if◌then◌else◌}
+use Rattle.std.specs.Io.KnownBytes.{Appends}
+use Rattle.cli_io.specs.declared.status.Status.{Status}
+use Rattle.cli_io.specs.declared.status.Status.TheVariants as status
+use Rattle.cli_io.specs.Written.{line, AppendsFront}
 use Rattle.cli_ask.specs.Answers.{begins, outcome_behind}
-use Rattle.cli_ask.specs.Asking.{Answered, Exchange, Adds, AskedAt}
+use Rattle.cli_ask.specs.Asking.{Answered, Event, Adds, IsAskedAt}
 use Rattle.cli_ask.specs.Calls.{Request, change_call}
+use Rattle.cli_ask.specs.Scripts.{ScriptChange, Item, Bad, Found}
 use Rattle.cli_ask.specs.declared.exchange.AskFault.{AskFault}
 use Rattle.cli_ask.specs.declared.exchange.AskFault.TheVariants as fault
 use Rattle.cli_ask.specs.declared.scripting.Went.{Went}
@@ -46,8 +51,111 @@ abbrev pub unsent : Printed
 unsent = record { is_made = false; bytes = codes "refused 40\n" }
 
 -- The change is asked, and goes as the answer says; one that can't be sent is refused.
-abbrev pub Makes : (given now : List Exchange → Type 0) → Option Request → (once : Bool) →
-    Result Printed AskFault → Type 0
-Makes given now None once r = Adds given now [] × GoesAs (Ok unsent) r
-Makes given now (Some call) once r = (Adds given now [] × (r ≡ Err fault.Memory))
-    ⊎ ((answer : Answered) × (AskedAt given now call once answer × GoesAs (went_by answer) r))
+abbrev pub IsMade : Option Request → (seconds : ℕ) → List Event → Result Printed AskFault → Type 0
+IsMade None seconds es went = (es ≡ []) × GoesAs (Ok unsent) went
+IsMade (Some call) seconds es went = ((es ≡ []) × (went ≡ Err fault.Memory))
+    ⊎ ((answer : Answered) × (IsAskedAt call seconds es answer × GoesAs (went_by answer) went))
+
+abbrev pub Makes : (given now : List Event → Type 0) → Option Request → (seconds : ℕ) → Result Printed AskFault →
+    Type 0
+Makes given now call seconds went = (es : List Event) × (Adds given now es × IsMade call seconds es went)
+
+-- ---- what is written
+
+-- memory ran out, and that is written, or a front of it where a write failed
+abbrev pub RanOut : Status → (old new : Option (List ℕ)) → Type 0
+RanOut status.Done old new = ⊥
+RanOut status.Refused old new = ⊥
+RanOut status.Usage old new = ⊥
+RanOut status.Memory old new = Appends old new (line (codes "memory"))
+RanOut status.Failed old new = AppendsFront old new (line (codes "memory"))
+
+-- a script ends with this; out of memory that is written in its place; where a write failed a front of either
+abbrev pub Ended : (text : List ℕ) → Status → (old new : Option (List ℕ)) → Type 0
+Ended text status.Done old new = ⊥
+Ended text status.Refused old new = Appends old new text
+Ended text status.Usage old new = ⊥
+Ended text status.Memory old new = Appends old new (line (codes "memory"))
+Ended text status.Failed old new = AppendsFront old new text ⊎ AppendsFront old new (line (codes "memory"))
+
+-- what ends a script, and the line at which it ended
+-- Example: refused 85, and line 7.
+abbrev pub end_text : (said : List ℕ) → (at : ℕ) → List ℕ
+end_text said at = said ++ line (codes "line " ++ decimal at)
+
+-- a script ends, and so
+abbrev pub Ends : Option Status → (Status → Type 0) → Type 0
+Ends None so = ⊥
+Ends (Some ending) so = so ending
+
+-- what is written of a change that was made; the script goes on unless that fails
+abbrev pub ShowsMade : List ℕ → Option Status → (old new : Option (List ℕ)) → Type 0
+ShowsMade bytes None old new = Appends old new bytes
+ShowsMade bytes (Some ending) old new = (ending ≡ status.Failed) × AppendsFront old new bytes
+
+abbrev pub ShowsPrinted : (is_made : Bool) → List ℕ → (at : ℕ) → Option Status → (old new : Option (List ℕ)) → Type 0
+ShowsPrinted true bytes at ended old new = ShowsMade bytes ended old new
+ShowsPrinted false bytes at ended old new = Ends ended (λ ending. Ended (end_text bytes at) ending old new)
+
+-- What is written of how the change of a line went: what is printed of it, where it was made; else that and the line,
+-- with which the script ends.
+abbrev pub Shows : Result Printed AskFault → (at : ℕ) → Option Status → (old new : Option (List ℕ)) → Type 0
+Shows (Ok p) at ended old new = ShowsPrinted p.is_made p.bytes at ended old new
+Shows (Err fault.Memory) at ended old new = Ends ended (λ ending. RanOut ending old new)
+Shows (Err fault.NoAnswer) at ended old new =
+    Ends ended (λ ending. Ended (end_text (codes "refused 85\n") at) ending old new)
+Shows (Err fault.BadAnswer) at ended old new =
+    Ends ended (λ ending. Ended (end_text (codes "refused 86\n") at) ending old new)
+
+-- The change is asked, and this is written of how it went; none is how the script ends where it goes on.
+pub record AsksOne (c : ScriptChange) (seconds : ℕ) (es : List Event) (ended : Option Status)
+    (old new : Option (List ℕ)) : Type 0 where
+  pub went : Result Printed AskFault
+  pub made : IsMade (call_for c.words c.text) seconds es went
+  pub shown : Shows went c.line ended old new
+
+-- ---- a script
+
+-- what comes then, where the script goes on
+abbrev pub Then : Option Status → (List Event → Status → Option (List ℕ) → Type 0) → List Event → Status →
+    (old new : Option (List ℕ)) → Type 0
+Then None later es ending old new = later es ending new
+Then (Some ended) later es ending old new = (es ≡ []) × ((ending ≡ ended) × (new ≡ old))
+
+-- a change is asked, and then what is behind it
+pub record AsksFirst (c : ScriptChange) (seconds : ℕ)
+    (later : List Event → Status → Option (List ℕ) → Option (List ℕ) → Type 0)
+    (es : List Event) (ending : Status) (old new : Option (List ℕ)) : Type 0 where
+  pub front : List Event
+  pub rest : List Event
+  pub ended : Option Status
+  pub written : Option (List ℕ)
+  pub are : es ≡ front ++ rest
+  pub one : AsksOne c seconds front ended old written
+  pub goes_on : Then ended (λ es ending new. later es ending written new) rest ending written new
+
+-- a change before the first line that is asked is passed over
+abbrev pub AsksFrom : (is_before : Bool) → ScriptChange → (seconds : ℕ) →
+    (later : List Event → Status → Option (List ℕ) → Option (List ℕ) → Type 0) →
+    List Event → Status → (old new : Option (List ℕ)) → Type 0
+AsksFrom true c seconds later es ending old new = later es ending old new
+AsksFrom false c seconds later es ending old new = AsksFirst c seconds later es ending old new
+
+-- The changes of a script are asked in their order, each once what came of the one before it is known and written. It
+-- ends with the last, or at the first that isn't made; at a line that asks for no change with 40.
+abbrev pub AsksAll : (from seconds : ℕ) → List Item → List Event → Status → (old new : Option (List ℕ)) → Type 0
+AsksAll from seconds [] es ending old new =
+    (es ≡ []) × (RanOut ending old new ⊎ ((ending ≡ status.Done) × (new ≡ old)))
+AsksAll from seconds (Bad at ∷ items) es ending old new =
+    (es ≡ []) × Ended (end_text (codes "refused 40\n") at) ending old new
+AsksAll from seconds (Found c ∷ items) es ending old new = ((es ≡ []) × RanOut ending old new)
+    ⊎ AsksFrom (nat_lt c.line from) c seconds (AsksAll from seconds items) es ending old new
+
+abbrev pub AskedOne : (given now : List Event → Type 0) → ScriptChange → (seconds : ℕ) → Option Status →
+    (old new : Option (List ℕ)) → Type 0
+AskedOne given now c seconds ended old new = (es : List Event) × (Adds given now es × AsksOne c seconds es ended old new)
+
+abbrev pub AskedAll : (given now : List Event → Type 0) → (from seconds : ℕ) → List Item → Status →
+    (old new : Option (List ℕ)) → Type 0
+AskedAll given now from seconds items ending old new =
+    (es : List Event) × (Adds given now es × AsksAll from seconds items es ending old new)

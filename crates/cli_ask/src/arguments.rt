@@ -5,9 +5,9 @@ ghost use Rattle.std.specs.List.{list_any};
 ghost use Rattle.clap.specs.Words.{found_of, rows_of, first_of};
 ghost use Rattle.pf_arguments.specs.Asked.{is_given};
 ghost use Rattle.cli_ask.specs.Sending.{has_control};
-ghost use Rattle.cli_ask.specs.Calls.{call_value, given, text_args, change_args, shown_path, list_call, table_test};
+ghost use Rattle.cli_ask.specs.Calls.{call_value, given, text_args, change_args, shown_path, list_call, lines_call};
 ghost use Rattle.cli_ask.specs.Calls.{table_call};
-ghost use Rattle.cli_ask.specs.Calls.{listing, read, sync, plain_call, valued_call, verdicts_call, subcommand_call};
+ghost use Rattle.cli_ask.specs.Calls.{listing, read, sync, plain_call, valued_call, subcommand_call};
 ghost use Rattle.cli_ask.specs.Calls.{own_call, has_control_in, options_have_control, has_table_option};
 ghost use Rattle.cli_ask.specs.Calls.{has_ruleset_option, has_option, own_unless, call_with, call_of};
 
@@ -117,20 +117,22 @@ fn list_call(
     Ok(Call::get(alloc, target, Kind::List))
 }
 
-/// What looks addresses up in a table.
-fn table_test(
+/// What posts words to a path, each in a line of its own.
+fn lines_call(
     alloc: Global,
+    path: &str,
     matches: &ArgMatches<'_>,
-    rest: &[&str],
+    words: &[&str],
     at: u32,
+    kind: Kind,
 ) -> Result<Call, AllocError>
-    requires { list_any has_control (map (λ w. w.now) rest.now) ≡ false }
+    requires { list_any has_control (map (λ w. w.now) words.now) ≡ false }
     ensures { IfOk result (λ c. call_value c
-        ≡ table_test (rows_of (found_of matches.now)) (map (λ r. r.now) rest.now) at) }
+        ≡ lines_call (rows_of (found_of matches.now)) at path.now (map (λ w. w.now) words.now) kind) }
 {
-    let target = target_in(alloc, "/v1/table-test", matches, at)?;
-    let body = lines_of(alloc, rest)?;
-    Call::post(alloc, target.as_str(), body, Kind::TableTest)
+    let target = target_in(alloc, path, matches, at)?;
+    let body = lines_of(alloc, words)?;
+    Call::post(alloc, target.as_str(), body, kind)
 }
 
 /// What `-T` reads: the table, or whether addresses are in it.
@@ -149,7 +151,7 @@ fn table_call(
         return Ok(Some(list_call(alloc, "/v1/table", matches, at)?));
     }
     if change == "test" {
-        return Ok(Some(table_test(alloc, matches, rest, at)?));
+        return Ok(Some(lines_call(alloc, "/v1/table-test", matches, rest, at, Kind::TableTest)?));
     }
     Ok(None)
 }
@@ -236,22 +238,6 @@ fn valued_call(alloc: Global, word: &str, value: &str, at: u32) -> Result<Option
     Ok(None)
 }
 
-/// What reads the verdicts for packets.
-fn verdicts_call(
-    alloc: Global,
-    matches: &ArgMatches<'_>,
-    packets: &[&str],
-    at: u32,
-) -> Result<Call, AllocError>
-    requires { list_any has_control (map (λ w. w.now) packets.now) ≡ false }
-    ensures { IfOk result (λ c. call_value c
-        ≡ verdicts_call (rows_of (found_of matches.now)) (map (λ p. p.now) packets.now) at) }
-{
-    let target = target_in(alloc, "/v1/test", matches, at)?;
-    let body = lines_of(alloc, packets)?;
-    Call::post(alloc, target.as_str(), body, Kind::Test)
-}
-
 /// What one sends with arguments or without.
 fn subcommand_call(
     alloc: Global,
@@ -268,7 +254,7 @@ fn subcommand_call(
         [] => plain_call(alloc, matches, word, at),
         [value, more @ ..] => {
             if word == "test" {
-                return Ok(Some(verdicts_call(alloc, matches, values, at)?));
+                return Ok(Some(lines_call(alloc, "/v1/test", matches, values, at, Kind::Test)?));
             }
             if more.is_empty() {
                 return valued_call(alloc, word, value, at);
@@ -335,7 +321,7 @@ fn has_ruleset_option(matches: &ArgMatches<'_>) -> bool
 }
 
 /// Whether the arguments have an option of pfctl's.
-fn has_option(matches: &ArgMatches<'_>) -> bool
+pub(crate) fn has_option(matches: &ArgMatches<'_>) -> bool
     ensures { result ≡ has_option (rows_of (found_of matches.now)) }
 {
     has_table_option(matches) || has_ruleset_option(matches)

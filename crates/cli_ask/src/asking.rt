@@ -1,9 +1,10 @@
 //! How often it is asked at a control socket: once, or until what was asked is there.
 
-ghost use Rattle.std.specs.Prelude.{◌≡◌, ◌==◌};
+ghost use Rattle.std.specs.Prelude.{◌≡◌};
 ghost use Rattle.cli_ask.specs.Calls.{call_value};
 ghost use Rattle.cli_ask.specs.Replies.{reply_value};
-ghost use Rattle.cli_ask.specs.Asking.{answer_value, is_open, in_time, OrMemory, AskedOn, FollowedUp, AskedAt};
+ghost use Rattle.cli_ask.specs.Asking.{answer_value, is_open, is_last, in_time, OrMemory, AskedOn, FollowedUp, limit_of};
+ghost use Rattle.cli_ask.specs.Asking.{AskedAt};
 
 use crate::call::{Call, Kind};
 use crate::commands::{is_waiting, number_after, outcome_call, outcome_of, waiting};
@@ -48,6 +49,13 @@ fn is_open(call: &Call, found: &Result<Reply, AskFault>) -> bool
     }
 }
 
+/// Whether it isn't asked again.
+fn is_last(call: &Call, found: &Result<Reply, AskFault>, is_once: bool) -> bool
+    ensures { result ≡ is_last (call_value call.now) is_once (answer_value found.now) }
+{
+    is_once || !is_open(call, found)
+}
+
 /// What is answered once the time is over: the answer, or where there is none the one before.
 fn in_time(
     alloc: Global,
@@ -69,7 +77,7 @@ fn in_time(
 
 /// Asks again while that is to be done and time is left, if it may be asked again at all. Where the time is over behind
 /// an answer, that is the answer; in the midst of an ask that may be made again, the one before.
-pub(crate) fn ask_on<RT: Net + Clock, C: Control>(
+pub(crate) fn ask_on<RT: Net, C: Control>(
     rt: &RT,
     alloc: Global,
     control: &mut C,
@@ -78,18 +86,18 @@ pub(crate) fn ask_on<RT: Net + Clock, C: Control>(
     is_once: bool,
 ) -> Result<Reply, AskFault>
     ensures { AskedOn (C.exchanged control.old) (C.exchanged control.new) (call_value call.now) is_once
-        (answer_value result) }
+        deadline.seconds (answer_value result) }
 {
     let mut is_waiting = false;
     for ask in 0..u64::MAX {
         let found = control.ask(alloc, call, deadline);
-        if is_once || !is_open(call, &found) {
+        if is_last(call, &found, is_once) {
             return found;
         }
         if ask >= AT_ONCE {
             pause(rt, PAUSE);
         }
-        if deadline.left(rt).is_err() {
+        if control.is_over(deadline) {
             return in_time(alloc, is_waiting, found);
         }
         is_waiting = found.is_ok();
@@ -98,7 +106,7 @@ pub(crate) fn ask_on<RT: Net + Clock, C: Control>(
 }
 
 /// Behind a command that was accepted, asks what became of it.
-fn follow_up<RT: Net + Clock, C: Control>(
+fn follow_up<RT: Net, C: Control>(
     rt: &RT,
     alloc: Global,
     control: &mut C,
@@ -107,8 +115,8 @@ fn follow_up<RT: Net + Clock, C: Control>(
     is_once: bool,
     first: Reply,
 ) -> Result<Reply, AskFault>
-    ensures { FollowedUp (C.exchanged control.old) (C.exchanged control.new) kind is_once (reply_value first)
-        (answer_value result) }
+    ensures { FollowedUp (C.exchanged control.old) (C.exchanged control.new) kind is_once deadline.seconds
+        (reply_value first) (answer_value result) }
 {
     let Some(number) = number_after(kind, is_once, first.body.as_slice()) else {
         return Ok(first);
@@ -116,6 +124,13 @@ fn follow_up<RT: Net + Clock, C: Control>(
     let call = outcome_call(alloc, number)?;
     let second = ask_on(rt, alloc, control, &call, deadline, false);
     outcome_of(alloc, kind, first, second)
+}
+
+/// For how many seconds it is waited in all.
+fn limit_of(seconds: u32) -> u32
+    ensures { result ≡ limit_of seconds }
+{
+    if seconds == 0 { PATIENCE } else { seconds }
 }
 
 /// Asks, and waits for the given number of seconds in all: for a node that isn't so far yet, and for what comes of a
@@ -130,11 +145,11 @@ pub(crate) fn ask_at<RT: Net + Clock, C: Control>(
     call: &Call,
     seconds: u32,
 ) -> Result<Reply, AskFault>
-    ensures { AskedAt (C.exchanged control.old) (C.exchanged control.new) (call_value call.now) (seconds == 0)
+    ensures { AskedAt (C.exchanged control.old) (C.exchanged control.new) (call_value call.now) seconds
         (answer_value result) }
 {
     let is_once = seconds == 0;
-    let deadline = Deadline::new(rt, if is_once { PATIENCE } else { seconds });
+    let deadline = Deadline::new(rt, limit_of(seconds));
     match call.kind {
         Kind::Test => verdicts(rt, alloc, control, call, deadline, is_once),
         kind => match ask_on(rt, alloc, control, call, deadline, is_once) {

@@ -1,36 +1,39 @@
 //! Whoever answers at a control socket.
 
-ghost use Rattle.std.specs.Prelude.{List, [], ◌∷◌, ⊤};
+ghost use Rattle.std.specs.Prelude.{◌≡◌, ◌≤◌, ℕ, List, [], ◌∷◌, Some, Err, IfOk};
 ghost use Rattle.cli_ask.specs.Calls.{call_value};
-ghost use Rattle.cli_ask.specs.Asking.{Exchange, Adds, asked, answer_value};
+ghost use Rattle.cli_ask.specs.Replies.{reply_value};
+ghost use Rattle.cli_ask.specs.Asking.{Event, Asked, Looked, Adds, answer_value, asked_count};
+ghost use Rattle.cli_ask.specs.Showing.{printable};
+ghost use Rattle.cli_ask.specs.declared.exchange.AskFault.TheVariants as fault;
 
 use crate::call::Call;
-use crate::exchange::{AskFault, Deadline, Reply, exchange};
+use crate::exchange::{AskFault, Deadline, Dial, Reply, exchange};
 use crate::showing::shown;
 use std::alloc::Global;
-use std::net::Net;
 use std::time::Clock;
 
 /// Whoever answers as a node does at its control socket.
 pub(crate) trait Control {
-    // these requests were made and answered so far, in order
-    ghost exchanged: { Self → List Exchange → Type 0 };
+    // these requests were made and answered, and the clock was read, so far, in order
+    ghost exchanged: { Self → List Event → Type 0 };
 
     /// Makes a request once, and waits for the answer until the deadline.
     fn ask(&mut self, alloc: Global, call: &Call, deadline: Deadline) -> Result<Reply, AskFault>
         ensures { Adds (exchanged self.old) (exchanged self.new)
-            (asked (call_value call.now) (answer_value result) ∷ []) };
-}
+            (Asked deadline.seconds (call_value call.now) (answer_value result) ∷ []) };
 
-/// A control socket.
-#[derive(Clone, Copy)]
-pub(crate) struct ControlSocket<'a, RT> {
-    pub(crate) rt: &'a RT,
-    pub(crate) path: &'a str,
+    /// Whether the time until the deadline is over, by the clock.
+    fn is_over(&mut self, deadline: Deadline) -> bool
+        ensures { Adds (exchanged self.old) (exchanged self.new) (Looked deadline.seconds result ∷ []) };
 }
 
 /// An answer as it is printed.
-fn printable(alloc: Global, reply: Reply) -> Result<Reply, AskFault> {
+fn printable(alloc: Global, reply: Reply) -> Result<Reply, AskFault>
+    ensures value { IfOk result (λ r. printable (reply_value reply) ≡ Some (reply_value r)) }
+    ensures none { result ≡ Err fault.BadAnswer → printable (reply_value reply) ≡ None }
+    ensures some { result ≡ Err fault.NoAnswer → ⊥ }
+{
     match shown(alloc, reply.body.as_slice())? {
         Some(text) => Ok(Reply {
             code: reply.code,
@@ -42,12 +45,25 @@ fn printable(alloc: Global, reply: Reply) -> Result<Reply, AskFault> {
     }
 }
 
-impl<RT: Net + Clock> Control for ControlSocket<'_, RT> {
-    // no contract can say what a socket gives
-    ghost exchanged = { λ _ _. ⊤ };
+/// Whoever is reached over connections, by a clock.
+#[derive(Drop)]
+pub(crate) struct Reached<'a, D, RT> {
+    pub(crate) dial: D,
+    pub(crate) rt: &'a RT,
+}
+
+impl<D: Dial, RT: Clock> Control for Reached<'_, D, RT> {
+    // no more connections were asked for than requests were made
+    ghost exchanged = { λ r es. (n : ℕ) × (D.dialed r.dial n × (n ≤ asked_count es)) };
 
     fn ask(&mut self, alloc: Global, call: &Call, deadline: Deadline) -> Result<Reply, AskFault> {
-        let reply = exchange(self.rt, alloc, self.path, call, deadline)?;
-        printable(alloc, reply)
+        match exchange(alloc, &mut self.dial, call, deadline) {
+            Ok(reply) => printable(alloc, reply),
+            Err(fault) => Err(fault),
+        }
+    }
+
+    fn is_over(&mut self, deadline: Deadline) -> bool {
+        deadline.left(self.rt).is_err()
     }
 }

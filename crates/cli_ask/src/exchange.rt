@@ -1,6 +1,6 @@
 //! One request and its answer over a Unix socket.
 
-ghost use Rattle.std.specs.Prelude.{◌≡◌};
+ghost use Rattle.std.specs.Prelude.{◌≡◌, ◌⊎◌, ℕ, ◌+◌, ⊤};
 
 use crate::call::{Call, Kind};
 use crate::reply::{reply_in, request_bytes};
@@ -50,15 +50,17 @@ pub struct Reply {
 pub(crate) struct Deadline {
     /// When that began; none where the clock can't be read, and then the time is over.
     start: Option<Instant>,
-    limit: Duration,
+    seconds: u32,
 }
 
 impl Deadline {
     /// The given number of seconds from now on.
-    pub(crate) fn new<RT: Clock>(rt: &RT, seconds: u32) -> Deadline {
+    pub(crate) fn new<RT: Clock>(rt: &RT, seconds: u32) -> Deadline
+        ensures { result.seconds ≡ seconds }
+    {
         Deadline {
             start: Instant::now(rt).ok(),
-            limit: Duration::from_secs(u64::from(seconds)),
+            seconds,
         }
     }
 
@@ -67,9 +69,8 @@ impl Deadline {
         let Some(start) = self.start else {
             return Err(io::Error::from(ErrorKind::TimedOut));
         };
-        let left = self
-            .limit
-            .saturating_sub(Instant::now(rt)?.duration_since(start));
+        let limit = Duration::from_secs(u64::from(self.seconds));
+        let left = limit.saturating_sub(Instant::now(rt)?.duration_since(start));
         if left.is_zero() {
             Err(io::Error::from(ErrorKind::TimedOut))
         } else {
@@ -78,9 +79,21 @@ impl Deadline {
     }
 }
 
+/// Whoever answers at a control socket, each request over a connection of its own.
+pub(crate) trait Dial {
+    type Stream: Read + Write + Drop;
+
+    // so many connections were asked for so far
+    ghost dialed: { Self → ℕ → Type 0 };
+
+    /// A connection, written and read until the deadline.
+    fn dial(&mut self, deadline: Deadline) -> io::Result<Self::Stream>
+        ensures { (n : ℕ) → dialed self.old n → dialed self.new (n + 1) };
+}
+
 /// A stream that is read until the deadline.
 #[derive(Drop)]
-struct Timed<'a, RT> {
+pub(crate) struct Timed<'a, RT> {
     rt: &'a RT,
     stream: UnixStream,
     deadline: Deadline,
@@ -94,33 +107,56 @@ impl<RT: Clock> Read for Timed<'_, RT> {
     }
 }
 
-/// The stream to whoever answers at the control socket.
-fn connect<RT: Net + Clock>(rt: &RT, control: &str, deadline: Deadline) -> io::Result<UnixStream> {
-    let stream = UnixStream::connect(rt, control)?;
-    stream.set_write_timeout(Some(deadline.left(rt)?))?;
-    Ok(stream)
+impl<RT: Clock> Write for Timed<'_, RT> {
+    fn write(&mut self, bytes: &[u8]) -> io::Result<usize> {
+        self.stream.write(bytes)
+    }
+
+    fn flush(&mut self) -> io::Result<()> {
+        self.stream.flush()
+    }
 }
 
-/// Asks once at the control socket, over a connection of its own.
-pub(crate) fn exchange<RT: Net + Clock>(
-    rt: &RT,
+/// A control socket.
+#[derive(Clone, Copy)]
+pub(crate) struct ControlSocket<'a, RT> {
+    pub(crate) rt: &'a RT,
+    pub(crate) path: &'a str,
+}
+
+impl<'a, RT: Net + Clock> Dial for ControlSocket<'a, RT> {
+    type Stream = Timed<'a, RT>;
+
+    // no contract can count what the system does
+    ghost dialed = { λ _ _. ⊤ };
+
+    fn dial(&mut self, deadline: Deadline) -> io::Result<Timed<'a, RT>> {
+        let stream = UnixStream::connect(self.rt, self.path)?;
+        stream.set_write_timeout(Some(deadline.left(self.rt)?))?;
+        Ok(Timed {
+            rt: self.rt,
+            stream,
+            deadline,
+        })
+    }
+}
+
+/// Asks once, over one connection.
+pub(crate) fn exchange<D: Dial>(
     alloc: Global,
-    control: &str,
+    control: &mut D,
     call: &Call,
     deadline: Deadline,
-) -> Result<Reply, AskFault> {
+) -> Result<Reply, AskFault>
+    ensures { (n : ℕ) → D.dialed control.old n → D.dialed control.new n ⊎ D.dialed control.new (n + 1) }
+{
     let bytes = request_bytes(alloc, call)?;
-    let Ok(mut stream) = connect(rt, control, deadline) else {
+    let Ok(mut stream) = control.dial(deadline) else {
         return Err(AskFault::NoAnswer);
     };
     // an answer may come before all is sent
     let _sent = stream.write_all(bytes.as_slice());
-    let mut answers = Timed {
-        rt,
-        stream,
-        deadline,
-    };
-    match read_all(alloc, &mut answers) {
+    match read_all(alloc, &mut stream) {
         Ok(answer) => reply_in(alloc, answer.as_slice()),
         Err(InputFault::Memory) => Err(AskFault::Memory),
         Err(InputFault::Failed | InputFault::TooLong) => Err(AskFault::BadAnswer),
@@ -136,7 +172,8 @@ pub fn read_at<RT: Net + Clock>(
 ) -> Result<Reply, AskFault> {
     let deadline = Deadline::new(rt, PATIENCE);
     let call = Call::get(alloc, target, Kind::Read);
-    let reply = exchange(rt, alloc, control, &call, deadline)?;
+    let mut socket = ControlSocket { rt, path: control };
+    let reply = exchange(alloc, &mut socket, &call, deadline)?;
     if reply.code == 200 {
         Ok(reply)
     } else {

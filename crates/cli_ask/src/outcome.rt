@@ -8,7 +8,7 @@ use crate::answers::is_done;
 use crate::call::Kind;
 use crate::checking::Refused;
 use crate::exchange::Reply;
-use cli_io::{Status, out_of_memory};
+use cli_io::{Status, out_of_memory, write_bytes};
 use pf_scripts::push_refusal;
 use std::alloc::{AllocError, Global};
 use std::io::Write;
@@ -58,7 +58,7 @@ pub(crate) fn write_outcome<W: Write>(alloc: Global, outcome: Outcome, writer: &
     ensures { Wrote result outcome (W.contents writer.old) (W.contents writer.new) }
 {
     match outcome {
-        Outcome::Answered(kind, reply) => match writer.write_all(reply.body.as_slice()) {
+        Outcome::Answered(kind, reply) => match write_bytes(writer, reply.body.as_slice()) {
             Ok(()) => answer_status(kind, &reply),
             Err(_) => Status::Failed,
         },
@@ -66,7 +66,7 @@ pub(crate) fn write_outcome<W: Write>(alloc: Global, outcome: Outcome, writer: &
             let Ok(line) = refusal_line(alloc, refused) else {
                 return out_of_memory(writer);
             };
-            match writer.write_all(line.as_bytes()) {
+            match write_bytes(writer, line.as_bytes()) {
                 Ok(()) => Status::Refused,
                 Err(_) => Status::Failed,
             }

@@ -1,25 +1,27 @@
 //! A run of `ask` with `--control`.
 
-ghost use Rattle.std.specs.Prelude.{◌≡◌, ◌⊎◌, Some, IfOk, IfErr, option_map};
+ghost use Rattle.std.specs.Prelude.{◌≡◌, ◌⊎◌, Some, IfOk, IfErr, map, option_map};
 ghost use Rattle.clap.specs.Words.{found_of, rows_of};
 ghost use Rattle.cli_ask.specs.Asking.{answer_value};
 ghost use Rattle.cli_ask.specs.Outcomes.{unreadable, number_at, IsText, IsUnread, HasNoText, Replied, AsksWith, Asks};
+ghost use Rattle.cli_ask.specs.Outcomes.{are_there, has_others, seconds_by, refusal_in, IsScript, IsNoScript};
+ghost use Rattle.cli_ask.specs.Outcomes.{RunsScript, Runs};
 ghost use Rattle.cli_ask.specs.declared.outcome.Outcome.TheVariants.{Memory};
 
-use crate::arguments::{call_in, value_of};
+use crate::arguments::{call_in, has_option, is_given, value_of};
 use crate::asking::ask_at;
 use crate::call::Kind;
 use crate::checking::{Refused, refusal_of};
 use crate::commands::is_command;
-use crate::control::{Control, ControlSocket};
-use crate::exchange::{AskFault, Reply};
+use crate::control::{Control, Reached};
+use crate::exchange::{AskFault, ControlSocket, Reply};
 use crate::outcome::{Outcome, refused, write_outcome};
 use crate::script::refused_script;
 use crate::scripting::{ScriptRequest, ask_script};
 use crate::telling::tell_left;
 use crate::words::command;
 use clap::ArgMatches;
-use cli_io::{InputFault, Status, UNREADABLE, misused, out_of_memory, read_all};
+use cli_io::{InputFault, Status, UNREADABLE, misused, out_of_memory, read_all, values_in};
 use std::alloc::{AllocError, Global};
 use std::convert::AsStr;
 use std::fs::{self, Files};
@@ -100,7 +102,7 @@ fn replied<E: Write>(kind: Kind, answer: Result<Reply, AskFault>, errors: &mut E
     match answer {
         Ok(reply) => {
             if is_command(kind) {
-                tell_left(reply.front, errors);
+                let _said = tell_left(reply.front, errors);
             }
             Outcome::Answered(kind, reply)
         }
@@ -159,69 +161,139 @@ fn outcome_of<RT: Files + Net + Clock, C: Control, R: Read, E: Write>(
     }
 }
 
-/// How long it is waited for what comes of a script's change, in seconds, where no word says it.
-const WAIT: u32 = 60;
-
-/// Whether words stand beside a script that are none of it.
-fn has_others(matches: &ArgMatches<'_>) -> bool {
-    ["path", "file", "flush", "table", "change", "show"]
-        .iter()
-        .any(|id| matches.get_str(id).is_some())
-        || matches.get_strs("address").is_some()
-        || matches.get_one::<u32>("at").is_some()
-        || matches.get_flag("check")
+/// Whether there are arguments.
+fn are_there(args: &[&str]) -> bool
+    ensures { result ≡ are_there (map (λ a. a.now) args.now) }
+{
+    match args {
+        [_, ..] => true,
+        [] => false,
+    }
 }
 
-/// What a script is refused for before a node is asked, unless the words say that nothing is to be looked at.
-fn checked_script(
+/// Whether arguments are there beside a script that are none of it.
+fn has_others(matches: &ArgMatches<'_>) -> bool
+    ensures { result ≡ has_others (rows_of (found_of matches.now)) }
+{
+    has_option(matches)
+        || are_there(values_in(matches, "address"))
+        || number_at(matches, "at").is_some()
+}
+
+/// For how many seconds it is waited for what comes of a script's change.
+fn seconds_by(wait: Option<u32>) -> u32
+    ensures { result ≡ seconds_by wait }
+{
+    match wait {
+        Some(seconds) => if seconds > 0 { seconds } else { 1 },
+        None => 60,
+    }
+}
+
+/// What a script is refused for before a node is asked, unless the arguments say that it isn't looked at.
+fn refusal_in(
     alloc: Global,
     matches: &ArgMatches<'_>,
-    request: &ScriptRequest<'_>,
-) -> Result<Option<Refused>, AllocError> {
-    if matches.get_flag("unchecked") {
+    script: &[u8],
+) -> Result<Option<Refused>, AllocError>
+    ensures { IfOk result (λ r. r ≡ refusal_in (rows_of (found_of matches.now)) script.now) }
+{
+    if is_given(value_of(matches, "unchecked")) {
         return Ok(None);
     }
-    refused_script(alloc, request.script, request.from)
+    refused_script(
+        alloc,
+        script,
+        u64::from(number_at(matches, "from").unwrap_or(1)),
+    )
 }
 
-/// Asks the changes of a script.
-fn run_script<RT: Files + Net + Clock, R: Read, W: Write, E: Write>(
-    rt: &RT,
+/// The script that is asked, or why none is.
+fn script_in<F: Files, R: Read>(
+    rt: &F,
     alloc: Global,
     matches: &ArgMatches<'_>,
     file: &str,
     reader: &mut R,
-    writer: &mut W,
-    errors: &mut E,
-    is_terminal: bool,
-) -> Status {
-    let Some(control) = matches.get_str("control") else {
-        return write_outcome(alloc, refused(40), writer);
-    };
+) -> Result<Vec<u8>, Outcome>
+    ensures script { IfOk result (λ script. IsScript (rows_of (found_of matches.now)) file.now
+        (R.remaining reader.old) script.items) }
+    ensures none { IfErr result (λ outcome. IsNoScript (rows_of (found_of matches.now)) file.now
+        (R.remaining reader.old) outcome) }
+{
     if has_others(matches) {
-        return write_outcome(alloc, refused(40), writer);
+        return Err(refused(40));
     }
     let script = match text_for(rt, alloc, Some(file), reader) {
         Ok(script) => script,
-        Err(outcome) => return write_outcome(alloc, outcome, writer),
+        Err(outcome) => return Err(outcome),
     };
-    let request = ScriptRequest {
-        script: script.as_slice(),
-        from: u64::from(matches.get_one::<u32>("from").unwrap_or(1)),
-        seconds: matches.get_one::<u32>("wait").unwrap_or(WAIT).max(1),
-        is_terminal,
-    };
-    match checked_script(alloc, matches, &request) {
-        Ok(None) => ask_script(
+    match refusal_in(alloc, matches, script.as_slice()) {
+        Ok(None) => Ok(script),
+        Ok(Some(refused)) => Err(Outcome::Refused(refused)),
+        Err(_) => Err(Outcome::Memory),
+    }
+}
+
+/// Asks the changes of a script.
+fn run_script<RT: Files + Net + Clock, C: Control, R: Read, W: Write, E: Write>(
+    rt: &RT,
+    alloc: Global,
+    matches: &ArgMatches<'_>,
+    file: &str,
+    control: &mut C,
+    reader: &mut R,
+    writer: &mut W,
+    errors: &mut E,
+    is_terminal: bool,
+) -> Status
+    ensures { RunsScript (C.exchanged control.old) (C.exchanged control.new) (rows_of (found_of matches.now)) file.now
+        (R.remaining reader.old) result (W.contents writer.old) (W.contents writer.new) }
+{
+    match script_in(rt, alloc, matches, file, reader) {
+        Ok(script) => {
+            let request = ScriptRequest {
+                script: script.as_slice(),
+                from: u64::from(number_at(matches, "from").unwrap_or(1)),
+                seconds: seconds_by(number_at(matches, "wait")),
+                is_terminal,
+            };
+            ask_script(rt, alloc, control, &request, writer, errors)
+        }
+        Err(outcome) => write_outcome(alloc, outcome, writer),
+    }
+}
+
+/// Asks at a control socket what the arguments say, and writes what that gives.
+fn run_at<RT: Files + Net + Clock, C: Control, R: Read, W: Write, E: Write>(
+    rt: &RT,
+    alloc: Global,
+    matches: &ArgMatches<'_>,
+    control: &mut C,
+    reader: &mut R,
+    writer: &mut W,
+    errors: &mut E,
+    is_terminal: bool,
+) -> Status
+    ensures { Runs (C.exchanged control.old) (C.exchanged control.new) (rows_of (found_of matches.now))
+        (R.remaining reader.old) result (W.contents writer.old) (W.contents writer.new) }
+{
+    match value_of(matches, "script") {
+        Some(file) => run_script(
             rt,
             alloc,
-            &mut ControlSocket { rt, path: control },
-            &request,
+            matches,
+            file,
+            control,
+            reader,
             writer,
             errors,
+            is_terminal,
         ),
-        Ok(Some(refused)) => write_outcome(alloc, Outcome::Refused(refused), writer),
-        Err(_) => out_of_memory(writer),
+        None => {
+            let outcome = outcome_of(rt, alloc, matches, control, reader, errors);
+            write_outcome(alloc, outcome, writer)
+        }
     }
 }
 
@@ -251,23 +323,22 @@ pub fn run_control_ask<RT: Files + Net + Clock, S: AsStr, R: Read, W: Write, E: 
         Err(error) => return misused(alloc, &error, writer),
     };
     match matches.subcommand_matches("ask") {
-        Some(inner) => {
-            if let Some(file) = inner.get_str("script") {
-                return run_script(rt, alloc, inner, file, reader, writer, errors, is_terminal);
-            }
-            let outcome = match inner.get_str("control") {
-                Some(path) => outcome_of(
+        Some(inner) => match inner.get_str("control") {
+            Some(path) => run_at(
+                rt,
+                alloc,
+                inner,
+                &mut Reached {
+                    dial: ControlSocket { rt, path },
                     rt,
-                    alloc,
-                    inner,
-                    &mut ControlSocket { rt, path },
-                    reader,
-                    errors,
-                ),
-                None => refused(40),
-            };
-            write_outcome(alloc, outcome, writer)
-        }
+                },
+                reader,
+                writer,
+                errors,
+                is_terminal,
+            ),
+            None => write_outcome(alloc, refused(40), writer),
+        },
         None => Status::Usage,
     }
 }

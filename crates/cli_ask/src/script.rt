@@ -1,8 +1,10 @@
 //! The changes of a script in the form of `ctl`'s.
 
-ghost use Rattle.std.specs.Prelude.{◌≡◌, IfOk, map, option_map};
+ghost use Rattle.std.specs.Prelude.{◌≡◌, ◌<◌, ◌≤◌, Some, None, IfOk, IfErr, IfSome, OnOk, length, map, option_map};
 ghost use Rattle.cli_ask.specs.Calls.{call_value};
 ghost use Rattle.cli_ask.specs.Scripting.{call_for};
+ghost use Rattle.cli_ask.specs.Scripts.{items_left, items_in, change_value, found, begun_at, is_pfctl, IsBadAt};
+ghost use Rattle.cli_ask.specs.Scripts.{fault_of, script_refusal};
 
 use crate::call::Call;
 use crate::checking::{Refused, refused_command};
@@ -37,73 +39,92 @@ pub(crate) enum ScriptFault {
 }
 
 impl From<AllocError> for ScriptFault {
+    ghost use Rattle.cli_ask.specs.declared.script.ScriptFault.TheVariants.{Memory};
+
+    ghost from_gives = { λ _ e. e ≡ Memory };
+
     fn from(_error: AllocError) -> ScriptFault {
         ScriptFault::Memory
     }
 }
 
-/// The words of the next line that isn't empty, and its number; none where no such line is left.
-fn next_words<'a>(
-    alloc: Global,
-    left: &mut Left<'a>,
-) -> Result<Option<(u64, Vec<&'a str>)>, ScriptFault> {
-    for _ in 0..=left.bytes.len() {
-        let Some((line, rest)) = cut_line(left.bytes) else {
-            return Ok(None);
-        };
-        let number = left.line;
+/// The words of the next line that isn't empty, without a text; none where no such line is left.
+fn next_words<'a>(alloc: Global, left: &mut Left<'a>) -> Result<Option<Change<'a>>, ScriptFault>
+    ensures found { IfOk result (λ c. items_left left.old None
+        ≡ begun_at (option_map change_value c) (items_left left.new)) }
+    ensures bad { IfErr result (λ f. IsBadAt f (items_left left.old None)) }
+    ensures less { IfOk result (λ c. IfSome c (λ _. length left.new.bytes.now < length left.old.bytes.now)) }
+{
+    while let Some((first, rest)) = cut_line(left.bytes) {
+        let line = left.line;
         left.bytes = rest;
-        left.line = number.saturating_add(1);
-        match words_in(alloc, line.content)? {
+        left.line = line.saturating_add(1);
+        match words_in(alloc, first.content)? {
             Some(words) => if !words.is_empty() {
-                return Ok(Some((number, words)));
+                let text = Vec::new(alloc);
+                return Ok(Some(Change { line, words, text }));
             },
-            None => return Err(ScriptFault::Line(number)),
+            None => return Err(ScriptFault::Line(line)),
         }
     }
     Ok(None)
 }
 
-/// The lines up to a line `.`, or to the end of the script.
-fn text_in(alloc: Global, left: &mut Left<'_>) -> Result<Vec<u8>, AllocError> {
-    let mut text = Vec::new(alloc);
-    for _ in 0..left.bytes.len() {
-        let Some((line, rest)) = cut_line(left.bytes) else {
-            break;
-        };
+/// Puts the lines up to a line `.`, or to the end of the script, behind the text of a change.
+fn read_text(left: &mut Left<'_>, change: &mut Change<'_>) -> Result<(), AllocError>
+    ensures found { OnOk result (items_left left.old (Some (change_value change.old))
+        ≡ found (Some (change_value change.new)) (items_left left.new None)) }
+    ensures less { OnOk result (length left.new.bytes.now ≤ length left.old.bytes.now) }
+{
+    while let Some((line, rest)) = cut_line(left.bytes) {
         left.bytes = rest;
         left.line = left.line.saturating_add(1);
         if line.content == b".".as_slice() {
-            break;
+            return Ok(());
         }
-        push_bytes(&mut text, line)?;
+        push_bytes(&mut change.text, line)?;
     }
-    Ok(text)
+    Ok(())
+}
+
+/// Whether the first word is pfctl.
+fn is_pfctl(words: &[&str]) -> bool
+    ensures { result ≡ is_pfctl (map (λ w. w.now) words.now) }
+{
+    match words {
+        [first, ..] => *first == "pfctl",
+        [] => false,
+    }
 }
 
 /// The next change; none at the end of the script.
 pub(crate) fn next_change<'a>(
     alloc: Global,
     left: &mut Left<'a>,
-) -> Result<Option<Change<'a>>, ScriptFault> {
-    let Some((line, words)) = next_words(alloc, left)? else {
+) -> Result<Option<Change<'a>>, ScriptFault>
+    ensures found { IfOk result (λ c. items_left left.old None
+        ≡ found (option_map change_value c) (items_left left.new None)) }
+    ensures bad { IfErr result (λ f. IsBadAt f (items_left left.old None)) }
+    ensures less { IfOk result (λ c. IfSome c (λ _. length left.new.bytes.now < length left.old.bytes.now)) }
+{
+    let Some(mut change) = next_words(alloc, left)? else {
         return Ok(None);
     };
-    if words.first() != Some(&"pfctl") {
-        return Err(ScriptFault::Line(line));
+    if !is_pfctl(change.words.as_slice()) {
+        return Err(ScriptFault::Line(change.line));
     }
-    let text = if takes_text(alloc, &words)? {
-        text_in(alloc, left)?
-    } else {
-        Vec::new(alloc)
-    };
-    Ok(Some(Change { line, words, text }))
+    if takes_text(alloc, change.words.as_slice())? {
+        read_text(left, &mut change)?;
+    }
+    Ok(Some(change))
 }
 
 impl Change<'_> {
     /// What it is refused for wherever it is asked, with the line of the script: 40, 24, 1 to 3, 41, and what the
     /// grammar refuses of a ruleset.
-    pub(crate) fn fault(&self, alloc: Global) -> Result<Option<Refused>, AllocError> {
+    pub(crate) fn fault(&self, alloc: Global) -> Result<Option<Refused>, AllocError>
+        ensures { IfOk result (λ r. r ≡ fault_of (change_value self.now)) }
+    {
         match read_change(alloc, self.words.as_slice(), self.text.as_slice()) {
             Ok(command) => match refused_command(alloc, &command) {
                 Ok(None) => Ok(None),
@@ -139,12 +160,14 @@ pub(crate) fn refused_script(
     alloc: Global,
     script: &[u8],
     from: u64,
-) -> Result<Option<Refused>, AllocError> {
+) -> Result<Option<Refused>, AllocError>
+    ensures { IfOk result (λ r. r ≡ script_refusal from (items_in script.now)) }
+{
     let mut left = Left {
         bytes: script,
         line: 1,
     };
-    for _ in 0..=script.len() {
+    loop {
         match next_change(alloc, &mut left) {
             Ok(None) => return Ok(None),
             Ok(Some(change)) => if change.line >= from {
@@ -156,5 +179,4 @@ pub(crate) fn refused_script(
             Err(ScriptFault::Memory) => return Err(AllocError),
         }
     }
-    Ok(None)
 }

@@ -1,8 +1,10 @@
 //! A script's changes are asked at a control socket, one after the other.
 
-ghost use Rattle.std.specs.Prelude.{◌≡◌, ◌==◌, IfOk, map};
+ghost use Rattle.std.specs.Prelude.{◌≡◌, IfOk, map};
 ghost use Rattle.cli_ask.specs.Answers.{outcome_behind};
+ghost use Rattle.cli_ask.specs.Scripts.{change_value, items_in};
 ghost use Rattle.cli_ask.specs.Scripting.{call_for, printed, went_value, went_by_outcome, Makes};
+ghost use Rattle.cli_ask.specs.Scripting.{end_text, Ended, AskedOne, AskedAll};
 
 use crate::answers::outcome_behind;
 use crate::asking::ask_at;
@@ -10,7 +12,7 @@ use crate::control::Control;
 use crate::exchange::{AskFault, Reply};
 use crate::script::{Change, Left, ScriptFault, next_change};
 use crate::telling::{tell_left, tell_line};
-use cli_io::{Status, out_of_memory};
+use cli_io::{Status, out_of_memory, write_bytes};
 use std::alloc::{AllocError, Global};
 use std::io::Write;
 use std::net::Net;
@@ -62,14 +64,14 @@ fn make<RT: Net + Clock, C: Control, E: Write>(
     errors: &mut E,
 ) -> Result<Went, AskFault>
     ensures { Makes (C.exchanged control.old) (C.exchanged control.new)
-        (call_for (map (λ w. w.now) change.now.words.items) change.now.text.items) (seconds == 0) (went_value result) }
+        (call_for (map (λ w. w.now) change.now.words.items) change.now.text.items) seconds (went_value result) }
 {
     let Some(call) = change.call(alloc)? else {
         return Ok(Went::Stopped(Vec::from_slice(alloc, b"refused 40\n")?));
     };
     match ask_at(rt, alloc, control, &call, seconds) {
         Ok(reply) => {
-            tell_left(reply.front, errors);
+            let _said = tell_left(reply.front, errors);
             Ok(went_by(alloc, reply)?)
         }
         Err(fault) => Err(fault),
@@ -77,14 +79,19 @@ fn make<RT: Net + Clock, C: Control, E: Write>(
 }
 
 /// Writes what ends a script, and the line at which it ended.
-fn write_end<W: Write>(alloc: Global, said: &[u8], line: u64, writer: &mut W) -> Status {
+fn write_end<W: Write>(alloc: Global, said: &[u8], line: u64, writer: &mut W) -> Status
+    ensures { Ended (end_text said.now line) result (W.contents writer.old) (W.contents writer.new) }
+{
     let Ok(below) = format!(in alloc; "line {line}\n") else {
         return out_of_memory(writer);
     };
-    if writer.write_all(said).is_err() || writer.write_all(below.as_bytes()).is_err() {
-        return Status::Failed;
+    match write_bytes(writer, said) {
+        Ok(()) => match write_bytes(writer, below.as_bytes()) {
+            Ok(()) => Status::Refused,
+            Err(_) => Status::Failed,
+        },
+        Err(_) => Status::Failed,
     }
-    Status::Refused
 }
 
 /// Asks one change and writes what came of it; none where it was made, else how the script ends.
@@ -96,9 +103,12 @@ fn ask_one<RT: Net + Clock, C: Control, W: Write, E: Write>(
     change: &Change<'_>,
     writer: &mut W,
     errors: &mut E,
-) -> Option<Status> {
+) -> Option<Status>
+    ensures { AskedOne (C.exchanged control.old) (C.exchanged control.new) (change_value change.now) seconds result
+        (W.contents writer.old) (W.contents writer.new) }
+{
     match make(rt, alloc, control, seconds, change, errors) {
-        Ok(Went::Made(said)) => match writer.write_all(said.as_slice()) {
+        Ok(Went::Made(said)) => match write_bytes(writer, said.as_slice()) {
             Ok(()) => None,
             Err(_) => Some(Status::Failed),
         },
@@ -118,12 +128,15 @@ pub(crate) fn ask_script<RT: Net + Clock, C: Control, W: Write, E: Write>(
     request: &ScriptRequest<'_>,
     writer: &mut W,
     errors: &mut E,
-) -> Status {
+) -> Status
+    ensures { AskedAll (C.exchanged control.old) (C.exchanged control.new) request.now.from request.now.seconds
+        (items_in request.now.script.now) result (W.contents writer.old) (W.contents writer.new) }
+{
     let mut left = Left {
         bytes: request.script,
         line: 1,
     };
-    for _ in 0..=request.script.len() {
+    loop {
         let change = match next_change(alloc, &mut left) {
             Ok(Some(change)) => change,
             Ok(None) => return Status::Done,
@@ -132,7 +145,7 @@ pub(crate) fn ask_script<RT: Net + Clock, C: Control, W: Write, E: Write>(
         };
         if change.line >= request.from {
             if request.is_terminal {
-                tell_line(change.line, errors);
+                let _said = tell_line(change.line, errors);
             }
             if let Some(status) = ask_one(
                 rt,
@@ -147,5 +160,4 @@ pub(crate) fn ask_script<RT: Net + Clock, C: Control, W: Write, E: Write>(
             }
         }
     }
-    Status::Done
 }

@@ -1,25 +1,46 @@
 //! Text of others for a terminal.
 
+ghost use Rattle.std.specs.Prelude.{◌≡◌, ◌++◌, IfOk, OnOk, option_map, string_bytes};
+ghost use Rattle.cli_ask.specs.Showing.{is_hidden, shown_char, shown_text, shown};
+
+use crate::reply::text_in;
 use std::alloc::{AllocError, Global};
 
 /// Whether a character is written as its number: control characters but newline and tab.
-fn is_hidden(c: char) -> bool {
+fn is_hidden(c: char) -> bool
+    ensures { result ≡ is_hidden c }
+{
     c.is_control() && c != '\n' && c != '\t'
 }
 
-/// Bytes as they are printed, each control character but newline and tab as `\u{HEX}`; none where they aren't UTF-8.
-pub(crate) fn shown(alloc: Global, bytes: &[u8]) -> Result<Option<String>, AllocError> {
-    let Ok(text) = std::str::from_utf8(bytes) else {
-        return Ok(None);
-    };
+/// Puts a character as it is printed behind a string.
+fn push_shown(alloc: Global, out: &mut String, c: char) -> Result<(), AllocError>
+    ensures { OnOk result (string_bytes out.new ≡ string_bytes out.old ++ shown_char c) }
+{
+    if is_hidden(c) {
+        let number = format!(in alloc; "\\u{{{:x}}}", u32::from(c))?;
+        return out.push_str(number.as_str());
+    }
+    out.push(c)
+}
+
+/// A text as it is printed.
+fn shown_text(alloc: Global, text: &str) -> Result<String, AllocError>
+    ensures { IfOk result (λ out. string_bytes out ≡ shown_text text.now) }
+{
     let mut out = String::with_capacity(alloc, text.len())?;
     for c in text.chars() {
-        if is_hidden(c) {
-            let number = format!(in alloc; "\\u{{{:x}}}", u32::from(c))?;
-            out.push_str(number.as_str())?;
-        } else {
-            out.push(c)?;
-        }
+        push_shown(alloc, &mut out, c)?;
     }
-    Ok(Some(out))
+    Ok(out)
+}
+
+/// Bytes as they are printed, each control character but newline and tab as `\u{HEX}`; none where they aren't UTF-8.
+pub(crate) fn shown(alloc: Global, bytes: &[u8]) -> Result<Option<String>, AllocError>
+    ensures { IfOk result (λ text. option_map string_bytes text ≡ shown bytes.now) }
+{
+    match text_in(bytes) {
+        Some(text) => Ok(Some(shown_text(alloc, text)?)),
+        None => Ok(None),
+    }
 }

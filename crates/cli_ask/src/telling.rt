@@ -1,22 +1,39 @@
 //! What is printed for people beside an answer, on standard error.
 
+ghost use Rattle.std.specs.Prelude.{OnOk};
+ghost use Rattle.std.specs.Io.KnownBytes.{Appends};
+ghost use Rattle.cli_ask.specs.Telling.{count_text, left_text, line_text};
+
 use crate::words::POSITIONS;
-use std::io::Write;
+use std::io::{self, Write};
 
 /// From this front on each answer says how many are left.
 const NEAR_THE_END: u32 = 900_000;
 
+/// Says how many positions are left.
+fn tell_count<E: Write>(left: u64, errors: &mut E) -> io::Result<()>
+    ensures { OnOk result (Appends (E.contents errors.old) (E.contents errors.new) (count_text left)) }
+{
+    writeln!(errors, "pfx: {left} positions left in the log")
+}
+
 /// Says, once the log nears its end, how many positions are left.
-pub(crate) fn tell_left<E: Write>(front: Option<u32>, errors: &mut E) {
-    if let Some(front) = front {
-        if front >= NEAR_THE_END {
-            let left = POSITIONS.saturating_sub(u64::from(front));
-            let _said = writeln!(errors, "pfx: {left} positions left in the log");
-        }
+pub(crate) fn tell_left<E: Write>(front: Option<u32>, errors: &mut E) -> io::Result<()>
+    ensures { OnOk result (Appends (E.contents errors.old) (E.contents errors.new) (left_text front)) }
+{
+    match front {
+        Some(front) => if front >= NEAR_THE_END {
+            tell_count(POSITIONS.saturating_sub(u64::from(front)), errors)
+        } else {
+            Ok(())
+        },
+        None => Ok(()),
     }
 }
 
 /// Shows on a terminal how far a script is.
-pub(crate) fn tell_line<E: Write>(line: u64, errors: &mut E) {
-    let _said = write!(errors, "\rline {line}: ");
+pub(crate) fn tell_line<E: Write>(line: u64, errors: &mut E) -> io::Result<()>
+    ensures { OnOk result (Appends (E.contents errors.old) (E.contents errors.new) (line_text line)) }
+{
+    write!(errors, "\rline {line}: ")
 }

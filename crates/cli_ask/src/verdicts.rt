@@ -1,41 +1,78 @@
 //! Verdicts, which a node answers in parts.
 
+ghost use Rattle.std.specs.Prelude.{◌≡◌, true, false, Some, OnOk};
 ghost use Rattle.cli_ask.specs.Calls.{call_value};
-ghost use Rattle.cli_ask.specs.Asking.{AskedParts};
+ghost use Rattle.cli_ask.specs.Replies.{reply_value};
+ghost use Rattle.cli_ask.specs.Asking.{line_count, behind_lines, left_by, is_whole, IsOfOne, with_more};
+ghost use Rattle.cli_ask.specs.Asking.{answer_value, parts_value, BegunParts, AskedVerdicts};
 
 use crate::asking::ask_on;
 use crate::call::Call;
 use crate::control::Control;
 use crate::exchange::{AskFault, Deadline, Reply};
-use std::alloc::Global;
+use pf_scripts::cut_line;
+use std::alloc::{AllocError, Global};
 use std::net::Net;
-use std::time::Clock;
 
 /// How many times verdicts are asked for that a node doesn't answer at once, until all are of one position.
 const BEGINNINGS: u32 = 3;
 
 /// How many lines the text has.
-fn line_count(text: &[u8]) -> usize {
+fn line_count(text: &[u8]) -> usize
+    ensures { result ≡ line_count text.now }
+{
     text.iter().filter(|byte| **byte == b'\n').count()
 }
 
 /// What is behind that many lines.
-fn behind_lines(text: &[u8], count: usize) -> &[u8] {
-    let mut left = count;
-    for i in 0..text.len() {
-        if left == 0 {
-            return &text[i..];
-        }
-        if text[i] == b'\n' {
-            left -= 1;
-        }
+fn behind_lines(text: &[u8], count: usize) -> &[u8]
+    ensures { result.now ≡ behind_lines count text.now }
+{
+    let mut left = text;
+    for _line in 0..count {
+        let Some((_, rest)) = cut_line(left) else {
+            return left;
+        };
+        left = rest;
     }
-    &[]
+    left
+}
+
+/// The packets, each a line, behind those that have a verdict so far.
+fn left_by<'a>(so_far: &Reply, call: &'a Call) -> &'a [u8]
+    ensures { result.now ≡ left_by (Some (reply_value so_far.now)) (call_value call.now).body }
+{
+    behind_lines(call.body.as_slice(), line_count(so_far.body.as_slice()))
+}
+
+/// Whether nothing is asked behind it: it isn't one of verdicts, or leaves no packet.
+fn is_whole(so_far: &Reply, call: &Call) -> bool
+    ensures { result ≡ is_whole (Some (reply_value so_far.now)) (call_value call.now).body }
+{
+    so_far.code != 200 || left_by(so_far, call).is_empty()
+}
+
+/// Whether a node had applied as many positions as it answered.
+fn is_of_one(so_far: &Reply, part: &Reply) -> bool
+    ensures same { result ≡ true → IsOfOne (Some (reply_value so_far.now)) (reply_value part.now) }
+    ensures other { result ≡ false → IsOfOne (Some (reply_value so_far.now)) (reply_value part.now) → ⊥ }
+{
+    part.applied == so_far.applied
+}
+
+/// Puts an answer behind those so far.
+fn push_part(so_far: &mut Reply, part: &Reply) -> Result<(), AllocError>
+    ensures { OnOk result (reply_value so_far.new
+        ≡ with_more (Some (reply_value so_far.old)) (reply_value part.now)) }
+{
+    so_far.body.extend_from_slice(part.body.as_slice())?;
+    so_far.code = part.code;
+    Ok(())
 }
 
 /// Asks for the verdicts behind those that an answer has, as many at a time as the node answers at once; none where it
 /// has applied another position meanwhile, so that they would be verdicts of several configurations.
-fn ask_verdicts<RT: Net + Clock, C: Control>(
+fn ask_verdicts<RT: Net, C: Control>(
     rt: &RT,
     alloc: Global,
     control: &mut C,
@@ -43,27 +80,32 @@ fn ask_verdicts<RT: Net + Clock, C: Control>(
     deadline: Deadline,
     is_once: bool,
 ) -> Result<Option<Reply>, AskFault>
-    ensures { AskedParts (C.exchanged control.old) (C.exchanged control.new) (call_value call.now) }
+    ensures { BegunParts (C.exchanged control.old) (C.exchanged control.new) (call_value call.now) is_once
+        deadline.seconds (parts_value result) }
 {
-    let mut all = ask_on(rt, alloc, control, call, deadline, is_once)?;
-    for _answer in 0..call.body.len() {
-        let rest = behind_lines(call.body.as_slice(), line_count(all.body.as_slice()));
-        if all.code != 200 || rest.is_empty() {
-            return Ok(Some(all));
+    let mut so_far = match ask_on(rt, alloc, control, call, deadline, is_once) {
+        Ok(reply) => reply,
+        Err(fault) => return Err(fault),
+    };
+    for _part in 0..call.body.len() {
+        if is_whole(&so_far, call) {
+            return Ok(Some(so_far));
         }
-        let others = call.with_body(alloc, rest)?;
-        let next = ask_on(rt, alloc, control, &others, deadline, is_once)?;
-        if next.applied != all.applied {
+        let others = call.with_body(alloc, left_by(&so_far, call))?;
+        let next = match ask_on(rt, alloc, control, &others, deadline, is_once) {
+            Ok(part) => part,
+            Err(fault) => return Err(fault),
+        };
+        if !is_of_one(&so_far, &next) {
             return Ok(None);
         }
-        all.body.extend_from_slice(next.body.as_slice())?;
-        all.code = next.code;
+        push_part(&mut so_far, &next)?;
     }
     Err(AskFault::BadAnswer)
 }
 
 /// The verdicts of one position: they are asked for anew where the node has applied another one meanwhile.
-pub(crate) fn verdicts<RT: Net + Clock, C: Control>(
+pub(crate) fn verdicts<RT: Net, C: Control>(
     rt: &RT,
     alloc: Global,
     control: &mut C,
@@ -71,11 +113,14 @@ pub(crate) fn verdicts<RT: Net + Clock, C: Control>(
     deadline: Deadline,
     is_once: bool,
 ) -> Result<Reply, AskFault>
-    ensures { AskedParts (C.exchanged control.old) (C.exchanged control.new) (call_value call.now) }
+    ensures { AskedVerdicts (C.exchanged control.old) (C.exchanged control.new) (call_value call.now) is_once
+        deadline.seconds (answer_value result) }
 {
     for _beginning in 0..BEGINNINGS {
-        if let Some(reply) = ask_verdicts(rt, alloc, control, call, deadline, is_once)? {
-            return Ok(reply);
+        match ask_verdicts(rt, alloc, control, call, deadline, is_once) {
+            Ok(Some(reply)) => return Ok(reply),
+            Ok(None) => {}
+            Err(fault) => return Err(fault),
         }
     }
     Err(AskFault::BadAnswer)

@@ -26,11 +26,11 @@ closed_by None = closed.Memory
 closed_by (Some code) = closed.Refused code
 
 -- a store that isn't taken
--- Example: of a bad row 72.
+-- Example: 72 of a bad row.
 abbrev pub closed_of : AdoptFault → Closed
 closed_of fault = closed_by (code_of fault)
 
 -- a record that doesn't open
--- Example: of a store that has failed 70, of a bad row 72.
+-- Example: 70 of a store that has failed, 72 of a bad row.
 abbrev pub closed_for : NodeFault → Closed
 closed_for fault = closed_by (node_fault_code fault)

@@ -1,4 +1,4 @@
-use Rattle.std.proofs.Common.{◌≡◌, ◌∙◌, ◌==◌, ℕ, ap, sym, subst, inl, codes, unwrap_or}
+use Rattle.std.proofs.Common.{◌≡◌, ◌∙◌, ℕ, ap, sym, subst, inl, codes, unwrap_or}
 use Rattle.clap.specs.Words.{found_of, rows_of}
 use Rattle.cli_ask.specs.Asking.{answer_value, AskedAt}
 use Rattle.cli_ask.specs.Calls.{call_of, call_value}
@@ -18,7 +18,7 @@ returns g c =
       answer = answer_value c.ask_at-answer.result;
       spelled = sym (found ∙ ap (λ (n : ℕ). call_of rows c.args.text.now n) at);
       good = sym good;
-      asked = subst (λ (n : ℕ). AskedAt (g.C.Control.exchanged c.args.control.now) (g.C.Control.exchanged c.ask_at-answer.new.control) (call_value c.in-Ok-Some.call) (n == 0)
+      asked = subst (λ (n : ℕ). AskedAt (g.C.Control.exchanged c.args.control.now) (g.C.Control.exchanged c.ask_at-answer.new.control) (call_value c.in-Ok-Some.call) n
           (answer_value c.ask_at-answer.result)) wait c.ask_at-answer.ensures;
       replied = c.replied.ensures;
     })

@@ -1,48 +1,75 @@
-use Rattle.std.proofs.Common.{refl}
+use Rattle.std.proofs.Common.{◌≡◌, ◌∙◌, ℕ, ◌+◌, List, Option, Some, Err, ap, subst, sym, arith, rules}
 use Rattle.cli_ask.specs.Calls.{call_value}
-use Rattle.cli_ask.specs.Asking.{answer_value}
-use Rattle.cli_ask.proofs.Series.{parts_of, parts_then}
+use Rattle.cli_ask.specs.Replies.{Answer, reply_value}
+use Rattle.cli_ask.specs.Asking.{Answered, BegunParts, parts_value, with_more}
+use Rattle.cli_ask.specs.declared.exchange.AskFault.TheVariants as fault
+use Rattle.cli_ask.proofs.Parts.{PartsSo, rest_of, first_part, first_fault, parts_memory, parts_whole, parts_spent, parts_fault, parts_other, parts_more}
 use Rattle.cli_ask.proofs.verdicts.ask_verdicts.Goals as goal
 
-pub returns-in_err-all : goal.returns-in_err-all
-returns-in_err-all g c =
-    parts_of (g.C.Control.exchanged c.args.control.now) (g.C.Control.exchanged c.ask_on.new.control) (call_value c.args.call.now) (call_value c.args.call.now) c.args.is_once
-    (answer_value c.ask_on.result) c.args.call.now.body.items refl c.ask_on.ensures
+pub returns-in-Err : goal.returns-in-Err
+returns-in-Err g c =
+    first_fault (g.C.Control.exchanged c.args.control.now) (g.C.Control.exchanged c.ask_on.new.control) (call_value c.args.call.now) c.args.is_once c.args.deadline.seconds
+    c.in-Err.fault c.in-Err.ensures
 
-pub loop-answer-init : goal.loop-answer-init
-loop-answer-init g c =
-    parts_of (g.C.Control.exchanged c.args.control.now) (g.C.Control.exchanged c.ask_on.new.control) (call_value c.args.call.now) (call_value c.args.call.now) c.args.is_once
-    (answer_value c.ask_on.result) c.args.call.now.body.items refl c.ask_on.ensures
+pub loop-part-init : goal.loop-part-init
+loop-part-init g c =
+    first_part (g.C.Control.exchanged c.args.control.now) (g.C.Control.exchanged c.ask_on.new.control) (call_value c.args.call.now) c.args.is_once c.args.deadline.seconds
+    (reply_value c.in-Ok.reply) c.in-Ok.ensures
 
-pub returns-then-all-ne200 : goal.returns-then-all-ne200
-returns-then-all-ne200 g c = c.loop-answer.invariant
+pub returns-then-is_whole : goal.returns-then-is_whole
+returns-then-is_whole g c =
+    parts_whole (g.C.Control.exchanged c.args.control.now) (g.C.Control.exchanged c.loop-part.control) (call_value c.args.call.now) c.args.is_once c.args.deadline.seconds
+    c.loop-part._part (reply_value c.loop-part.so_far) c.loop-part.invariant (sym c.is_whole.ensures ∙ c.if-is_whole.true)
 
 pub returns-in_err-others : goal.returns-in_err-others
-returns-in_err-others g c = c.loop-answer.invariant
+returns-in_err-others g c =
+    let e : parts_value c.from_residual.result ≡ Some (Err fault.Memory) = search rules in
+    subst (λ (v : Option Answered). BegunParts (g.C.Control.exchanged c.args.control.now) (g.C.Control.exchanged c.loop-part.control) (call_value c.args.call.now) c.args.is_once c.args.deadline.seconds v) (sym e)
+    (parts_memory (g.C.Control.exchanged c.args.control.now) (g.C.Control.exchanged c.loop-part.control) (call_value c.args.call.now) c.args.is_once c.args.deadline.seconds
+    c.loop-part._part (reply_value c.loop-part.so_far) c.loop-part.invariant)
 
-pub returns-in_err-next : goal.returns-in_err-next
-returns-in_err-next g c =
-    parts_then (g.C.Control.exchanged c.args.control.now) (g.C.Control.exchanged c.loop-answer.control) (g.C.Control.exchanged c.ask_on-in-loop-answer.new.control) (call_value c.args.call.now) c.loop-answer.invariant
-    (parts_of (g.C.Control.exchanged c.loop-answer.control) (g.C.Control.exchanged c.ask_on-in-loop-answer.new.control) (call_value c.args.call.now) (call_value c.in_ok-others.others) c.args.is_once
-    (answer_value c.ask_on-in-loop-answer.result) _ c.in_ok-others.ensures c.ask_on-in-loop-answer.ensures)
+pub returns-in-Err-ask_on : goal.returns-in-Err-ask_on
+returns-in-Err-ask_on g c =
+    let same : call_value c.in_ok-others.others ≡ rest_of (call_value c.args.call.now) (reply_value c.loop-part.so_far) =
+    c.in_ok-others.ensures ∙ ap (λ (b : List ℕ). record (call_value c.args.call.now) { body = b }) c.left_by.ensures in
+    parts_fault (g.C.Control.exchanged c.args.control.now) (g.C.Control.exchanged c.loop-part.control) (g.C.Control.exchanged c.ask_on-in-loop-part.new.control)
+    (call_value c.args.call.now) (call_value c.in_ok-others.others) c.args.is_once c.args.deadline.seconds
+    c.loop-part._part (reply_value c.loop-part.so_far) c.in-Err-ask_on.fault c.loop-part.invariant (sym c.is_whole.ensures ∙ c.if-is_whole.false) same c.in-Err-ask_on.ensures
 
-pub returns-then-ne : goal.returns-then-ne
-returns-then-ne g c =
-    parts_then (g.C.Control.exchanged c.args.control.now) (g.C.Control.exchanged c.loop-answer.control) (g.C.Control.exchanged c.ask_on-in-loop-answer.new.control) (call_value c.args.call.now) c.loop-answer.invariant
-    (parts_of (g.C.Control.exchanged c.loop-answer.control) (g.C.Control.exchanged c.ask_on-in-loop-answer.new.control) (call_value c.args.call.now) (call_value c.in_ok-others.others) c.args.is_once
-    (answer_value c.ask_on-in-loop-answer.result) _ c.in_ok-others.ensures c.ask_on-in-loop-answer.ensures)
+pub returns-then-not-is_of_one : goal.returns-then-not-is_of_one
+returns-then-not-is_of_one g c =
+    let same : call_value c.in_ok-others.others ≡ rest_of (call_value c.args.call.now) (reply_value c.loop-part.so_far) =
+    c.in_ok-others.ensures ∙ ap (λ (b : List ℕ). record (call_value c.args.call.now) { body = b }) c.left_by.ensures in
+    parts_other (g.C.Control.exchanged c.args.control.now) (g.C.Control.exchanged c.loop-part.control) (g.C.Control.exchanged c.ask_on-in-loop-part.new.control)
+    (call_value c.args.call.now) (call_value c.in_ok-others.others) c.args.is_once c.args.deadline.seconds
+    c.loop-part._part (reply_value c.loop-part.so_far) (reply_value c.in-Ok-ask_on.part) c.loop-part.invariant (sym c.is_whole.ensures ∙ c.if-is_whole.false) same c.in-Ok-ask_on.ensures
+    (c.is_of_one.ensures.other c.if-not-is_of_one.true)
 
-pub returns-in_err-extend_from_slice : goal.returns-in_err-extend_from_slice
-returns-in_err-extend_from_slice g c =
-    parts_then (g.C.Control.exchanged c.args.control.now) (g.C.Control.exchanged c.loop-answer.control) (g.C.Control.exchanged c.ask_on-in-loop-answer.new.control) (call_value c.args.call.now) c.loop-answer.invariant
-    (parts_of (g.C.Control.exchanged c.loop-answer.control) (g.C.Control.exchanged c.ask_on-in-loop-answer.new.control) (call_value c.args.call.now) (call_value c.in_ok-others.others) c.args.is_once
-    (answer_value c.ask_on-in-loop-answer.result) _ c.in_ok-others.ensures c.ask_on-in-loop-answer.ensures)
+pub returns-in_err-push_part : goal.returns-in_err-push_part
+returns-in_err-push_part g c =
+    let same : call_value c.in_ok-others.others ≡ rest_of (call_value c.args.call.now) (reply_value c.loop-part.so_far) =
+    c.in_ok-others.ensures ∙ ap (λ (b : List ℕ). record (call_value c.args.call.now) { body = b }) c.left_by.ensures in
+    let so = parts_more (g.C.Control.exchanged c.args.control.now) (g.C.Control.exchanged c.loop-part.control) (g.C.Control.exchanged c.ask_on-in-loop-part.new.control)
+    (call_value c.args.call.now) (call_value c.in_ok-others.others) c.args.is_once c.args.deadline.seconds
+    c.loop-part._part (reply_value c.loop-part.so_far) (reply_value c.in-Ok-ask_on.part) c.loop-part.invariant (sym c.is_whole.ensures ∙ c.if-is_whole.false) same c.in-Ok-ask_on.ensures
+    (c.is_of_one.ensures.same c.if-not-is_of_one.false) in
+    let e : parts_value c.from_residual-in_err-push_part.result ≡ Some (Err fault.Memory) = search rules in
+    subst (λ (v : Option Answered). BegunParts (g.C.Control.exchanged c.args.control.now) (g.C.Control.exchanged c.ask_on-in-loop-part.new.control) (call_value c.args.call.now) c.args.is_once c.args.deadline.seconds v) (sym e)
+    (parts_memory (g.C.Control.exchanged c.args.control.now) (g.C.Control.exchanged c.ask_on-in-loop-part.new.control) (call_value c.args.call.now) c.args.is_once c.args.deadline.seconds
+    (c.loop-part._part + 1) (with_more (Some (reply_value c.loop-part.so_far)) (reply_value c.in-Ok-ask_on.part)) so)
 
-pub loop-answer-preserved : goal.loop-answer-preserved
-loop-answer-preserved g c =
-    parts_then (g.C.Control.exchanged c.args.control.now) (g.C.Control.exchanged c.loop-answer.control) (g.C.Control.exchanged c.ask_on-in-loop-answer.new.control) (call_value c.args.call.now) c.loop-answer.invariant
-    (parts_of (g.C.Control.exchanged c.loop-answer.control) (g.C.Control.exchanged c.ask_on-in-loop-answer.new.control) (call_value c.args.call.now) (call_value c.in_ok-others.others) c.args.is_once
-    (answer_value c.ask_on-in-loop-answer.result) _ c.in_ok-others.ensures c.ask_on-in-loop-answer.ensures)
+pub loop-part-preserved : goal.loop-part-preserved
+loop-part-preserved g c =
+    let same : call_value c.in_ok-others.others ≡ rest_of (call_value c.args.call.now) (reply_value c.loop-part.so_far) =
+    c.in_ok-others.ensures ∙ ap (λ (b : List ℕ). record (call_value c.args.call.now) { body = b }) c.left_by.ensures in
+    let so = parts_more (g.C.Control.exchanged c.args.control.now) (g.C.Control.exchanged c.loop-part.control) (g.C.Control.exchanged c.ask_on-in-loop-part.new.control)
+    (call_value c.args.call.now) (call_value c.in_ok-others.others) c.args.is_once c.args.deadline.seconds
+    c.loop-part._part (reply_value c.loop-part.so_far) (reply_value c.in-Ok-ask_on.part) c.loop-part.invariant (sym c.is_whole.ensures ∙ c.if-is_whole.false) same c.in-Ok-ask_on.ensures
+    (c.is_of_one.ensures.same c.if-not-is_of_one.false) in
+    subst (λ (a : Answer). PartsSo (g.C.Control.exchanged c.args.control.now) (g.C.Control.exchanged c.ask_on-in-loop-part.new.control) (call_value c.args.call.now) c.args.is_once c.args.deadline.seconds (c.loop-part._part + 1) a)
+    (sym c.in_ok-push_part.ensures) so
 
 pub returns : goal.returns
-returns g c = c.loop-answer.invariant
+returns g c =
+    parts_spent (g.C.Control.exchanged c.args.control.now) (g.C.Control.exchanged c.loop-part.control) (call_value c.args.call.now) c.args.is_once c.args.deadline.seconds
+    c.loop-part._part (reply_value c.loop-part.so_far) c.loop-part.invariant (omega arith)
