@@ -3,8 +3,7 @@
 ghost use Rattle.std.specs.Prelude.{◌≡◌, ◌==◌, ◌||◌, not, if◌then◌else◌, map, length, IfOk, string_bytes};
 ghost use Rattle.node_control.specs.inner.Watching.{proposed_by, proposed_after, proposed_then};
 ghost use Rattle.node_control.specs.inner.Watching.{is_proposed, stood_since, seconds_since};
-ghost use Rattle.node_control.specs.inner.Observing.{IsTold, begun, counted, first_seen, in_all, is_nack, noted, seen_of};
-ghost use Rattle.node_control.specs.inner.Observing.{stood_at};
+ghost use Rattle.node_control.specs.inner.Observing.{IsTold, begun, counted, in_all, is_nack, noted, seen_of, stood_at};
 ghost use Rattle.node_control.specs.inner.Rows.{is_due, sampled, reported, sent_more, heard_from, rows_after, first_rows};
 
 use crate::hearing::Hearing;
@@ -254,9 +253,7 @@ impl Observer {
         m: Membership,
         has_packets: bool,
         is_quiet: bool,
-    ) -> Result<Observer, AllocError>
-        ensures { IfOk result (λ o. seen_of o ≡ first_seen m has_packets) }
-    {
+    ) -> Result<Observer, AllocError> {
         let rows = first_rows(alloc, m)?;
         Ok(Observer {
             rows,

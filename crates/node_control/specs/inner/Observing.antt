@@ -1,10 +1,9 @@
 -- What is seen of a node in a round, and what is counted of it then.
 use Rattle.std.specs.Prelude.{◌≡◌, ℕ, ◌+◌, ◌-◌, ◌/◌, ◌==◌, ◌&&◌, ◌||◌, Bool, true, false, not, List, [], ◌∷◌, length, map}
-use Rattle.std.specs.Prelude.{max, nat_le, nat_lt, Option, None, if◌then◌else◌}
+use Rattle.std.specs.Prelude.{max, nat_le, nat_lt, Option, if◌then◌else◌}
 use Rattle.px_wire.specs.Heads.{learned_below, proposal_in}
 use Rattle.px_wire.specs.declared.head.Head.{Head}
 use Rattle.px_wire.specs.declared.kind.Kind.{Kind}
-use Rattle.px_wire.specs.declared.membership.Membership.{Membership}
 use Rattle.px_wire.specs.declared.kind.Kind.TheVariants as kinds
 use Rattle.node_loop.specs.declared.counts.RoundCounts.{RoundCounts}
 use Rattle.node_loop.specs.declared.running.Progress.{Progress}
@@ -12,7 +11,7 @@ use Rattle.node_requests.specs.declared.counters.Counters.{Counters}
 use Rattle.node_control.specs.declared.observer.Observer.{Observer}
 use Rattle.node_control.specs.declared.observer.Row.{Row}
 use Rattle.node_control.specs.declared.observer.TheConstants.{LARGE}
-use Rattle.node_control.specs.inner.Rows.{up_to_max, first_rows, sampled, reported, sent_more, heard_from, is_due}
+use Rattle.node_control.specs.inner.Rows.{up_to_max, sampled, reported, sent_more, heard_from, is_due}
 use Rattle.node_control.specs.inner.Watching.{is_proposed, proposed_then, stood_since, seconds_since}
 
 -- what was seen by now: the members' rows, what was counted in all, how many datagrams came in the round, the time,
@@ -49,24 +48,6 @@ seen_of o = record {
   outrun = o.outrun;
   large = o.large;
   has_packets = o.has_packets;
-}
-
--- nothing was seen yet by this member
-abbrev pub first_seen : Membership → (has_packets : Bool) → Seen
-first_seen m has_packets = record {
-  rows = first_rows m.me m.members;
-  unsent = 0;
-  dropped = 0;
-  ignored = 0;
-  came = 0;
-  now = 0;
-  sampled_at = 0;
-  front = 0;
-  since = None;
-  proposed = None;
-  outrun = 0;
-  large = 0;
-  has_packets = has_packets;
 }
 
 -- ---- as a round begins
