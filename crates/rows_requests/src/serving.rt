@@ -1,6 +1,6 @@
 //! A node of a cluster of one that runs at a control socket while one request is answered.
 
-ghost use Rattle.std.specs.Prelude.{◌≡◌, ◌<◌, ⊤};
+ghost use Rattle.std.specs.Prelude.{◌≡◌, ◌<◌, ⊤, false};
 
 use node_control::{ControlPlace, Observer, run_member};
 use node_loop::{Action, Ended, Membership, MemoryWire, Timer, View};
@@ -76,6 +76,8 @@ impl Client<'_> {
 impl Timer for Client<'_> {
     // what comes of it is shown by rows
     ghost timer_events = { λ _ _. ⊤ };
+
+    ghost listens = { λ _ _. false };
 
     fn action(&mut self, _now: u64, view: View) -> Action {
         self.go_on();
