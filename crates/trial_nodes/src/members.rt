@@ -72,5 +72,13 @@ pub(crate) fn runs(
     let mut timer = TickTimer::new(0);
     let mut clock = SystemClock { clock: rt };
     round(node, wire, &mut room, &mut timer, 0).is_ok()
-        && finish(node, wire, &mut room, &mut timer, &mut clock, Instant::now(rt).ok()).is_ok()
+        && finish(
+            node,
+            wire,
+            &mut room,
+            &mut timer,
+            &mut clock,
+            Instant::now(rt).ok(),
+        )
+        .is_ok()
 }
