@@ -194,20 +194,24 @@ runs_sealed {R} {S} {C} {D} G H settles are_steps law m hears given back ended w
     let own = subst (λ (fs : List WireEvent). AllRanAbove (group m) m.me (G.stored given) fs r.trace r.end r.unanswered) (sym made.2)
     (above (group m) m.me (G.stored given) (WentSealed (WentOver (H.traffic (socket_of (wiring.inner_of p))) (wiring.inner_of p)) p)
     w es r.trace r.end r.unanswered looped me r.ran) in
-    let all = subst (λ (u : PacketWire (UdpWire S C) D). AllRanSealed (group m) (wiring.keys_of u) (wiring.sealer_of u) m.me (G.stored given)
-    events r.trace r.end r.unanswered) is (
-      record {
-        addresses = peers_of (wiring.inner_of p);
-        me = me_of (wiring.inner_of p);
-        passages = o.passages;
-        sound = o.sound;
-        below_is = refl;
-        made = made.0;
-        packets_are = made.1 ∙ o.above_is;
-        are = made.3;
-        ran = own.0;
-      },
-      own.1,
+    let all = subst (λ (u : PacketWire (UdpWire S C) D). (a : AllRanSealed (group m) (wiring.keys_of u) (wiring.sealer_of u) m.me
+    (G.stored given) events r.trace r.end r.unanswered) ×
+    (route_of a.0.addresses a.0.me ≡ route_of (peers_of (wiring.inner_of u)) (me_of (wiring.inner_of u)))) is (
+      (
+        record {
+          addresses = peers_of (wiring.inner_of p);
+          me = me_of (wiring.inner_of p);
+          passages = o.passages;
+          sound = o.sound;
+          below_is = refl;
+          made = made.0;
+          packets_are = made.1 ∙ o.above_is;
+          are = made.3;
+          ran = own.0;
+        },
+        own.1,
+      ),
+      refl,
     ) in (
       events,
       subst (λ (u : PacketWire (UdpWire S C) D). H.traffic (socket_of (wiring.inner_of u)) events) is o.below_is,
@@ -216,12 +220,12 @@ runs_sealed {R} {S} {C} {D} G H settles are_steps law m hears given back ended w
           trace = r.trace;
           end = r.end;
           unanswered = r.unanswered;
-          ran = all.0;
-          whole = all.1;
+          ran = all.0.0;
+          whole = all.0.1;
           leaves = r.leaves;
         },
         r.members,
-        ap (λ (u : PacketWire (UdpWire S C) D). route_of (peers_of (wiring.inner_of u)) (me_of (wiring.inner_of u))) is,
+        all.1,
       ),
     )
 

@@ -169,6 +169,8 @@ impl Timer for Steps<'_> {
     // what comes of it is shown by rows
     ghost timer_events = { λ _ _. ⊤ };
 
+    ghost listens = { λ s now. ⟦<TickTimer as Timer>⟧.listens s.timer now };
+
     fn action(&mut self, now: u64, view: View) -> Action {
         let _made = self.go_on();
         match self.timer.action(now, view) {
