@@ -7,11 +7,11 @@ ghost use Rattle.sqlite_store.specs.Unopened.{AreUsable, wanted_by};
 ghost use Rattle.sqlite.specs.Steps.{IsFresh};
 ghost use Rattle.sqlite.specs.Effect.{Database};
 ghost use Rattle.sqlite.specs.State.{State, HasCleanDisk};
-ghost use Rattle.sqlite.specs.Held.{IsNew, state};
+ghost use Rattle.sqlite.specs.Held.{IsNew};
 ghost use Rattle.sqlite.specs.Opening.{is_open_error};
 ghost use Rattle.sqlite.specs.Files.{file_state, IsOpened, IsEmpty};
 
-use sqlite::{Alter, Connection, Error, ErrorCode, File, FileStore, Files, Options, Unknown};
+use sqlite::{Connection, Error, ErrorCode, File, FileStore, Files, Options, Unknown};
 use sqlite_disk::Disk;
 use sqlite_pager::Pager;
 use sqlite_pool::probe_blank;
@@ -180,8 +180,6 @@ pub(crate) fn open_database(
 
 /// Where a node's store is opened and closed.
 pub(crate) trait Databases {
-    type Db: Alter + Drop;
-
     // the file at this path has this database, within a transaction or not
     ghost holds: { Self → (path : List ℕ) → Database → (within : Bool) → Type 0 };
 
@@ -189,17 +187,15 @@ pub(crate) trait Databases {
     ghost closed: { Self → State → Type 0 };
 
     /// Opens the database in a file, or makes one there.
-    fn open(&self, path: &str) -> Result<Connection<Self::Db>, Error>
-        ensures { IfOk result (λ c. holds self.now path.now (state Self.Db.Store c).now (state Self.Db.Store c).in_transaction) };
+    fn open(&self, path: &str) -> Result<Connection<FileStore<File>>, Error>
+        ensures { IfOk result (λ c. holds self.now path.now (file_state c).now (file_state c).in_transaction) };
 
     /// Closes a database.
-    fn close(&self, conn: Connection<Self::Db>)
-        ensures { closed self.now (state Self.Db.Store conn) };
+    fn close(&self, conn: Connection<FileStore<File>>)
+        ensures { closed self.now (file_state conn) };
 }
 
 impl Databases for HostRuntime {
-    type Db = FileStore<File>;
-
     // no contract says what is in the file at a path
     ghost holds = { λ _ _ _ _. ⊤ };
 
@@ -209,7 +205,9 @@ impl Databases for HostRuntime {
         open_database(self, path)
     }
 
-    fn close(&self, conn: Connection<FileStore<File>>) {
+    fn close(&self, conn: Connection<FileStore<File>>)
+        ensures { ⊤ }
+    {
         let _closed = conn.close();
     }
 }

@@ -44,6 +44,7 @@ use px_records::Records;
 use px_store::SqlRecords;
 use px_transport::{PacketWire, Wire};
 use sqlite::{File, FileStore};
+use sqlite_trees::store::Store;
 use std::alloc::{AllocError, Global};
 use std::net::{SocketAddr, UdpSocket};
 
@@ -480,18 +481,18 @@ fn run_on<D: Databases, T: Timer>(
     alloc: Global,
     words: NodeWords<'_, '_, '_>,
     m: Membership,
-    records: SqlRecords<D::Db>,
+    records: SqlRecords<FileStore<File>>,
     sealing: Option<Sealing>,
     timer: &mut T,
 ) -> Outcome
-    requires members { ⟦<SqlRecords<D::Db> as Records>⟧.members records ≡ m.members }
+    requires members { ⟦<SqlRecords<FileStore<File>> as Records>⟧.members records ≡ m.members }
     requires here { m.me < m.members }
     requires is { m.me ≡ words.me }
-    requires failed { ⟦<SqlRecords<D::Db> as Records>⟧.failed records ≡ 0 }
+    requires failed { ⟦<SqlRecords<FileStore<File>> as Records>⟧.failed records ≡ 0 }
     requires keyed { is_some sealing ≡ is_some words.key }
-    ensures ran { EndsAs ⟦<SqlRecords<D::Db> as Records>⟧ m sealing
+    ensures ran { EndsAs ⟦<SqlRecords<FileStore<File>> as Records>⟧ m sealing
         (hears_asks words.entry.key words.entry.control) (map (λ t. t.now) words.entry.members.now) records
-        (λ r. D.closed dbs.now (state D.Db.Store (connection_of r))) (λ how.
+        (λ r. D.closed dbs.now (state ⟦<FileStore<File> as Store>⟧ (connection_of r))) (λ how.
         OnFront how (MakesTurns words.entry.turns (T.timer_events timer.old) (T.timer_events timer.new))) result }
     ensures why { result ≢ Refused 80 }
     ensures store { (file new : Bool) → IsStoreless file new result }
@@ -513,20 +514,20 @@ fn run_sealed<F: NodeFiles, D: Databases, T: Timer>(
     words: NodeWords<'_, '_, '_>,
     m: Membership,
     found: Found,
-    records: SqlRecords<D::Db>,
+    records: SqlRecords<FileStore<File>>,
     keys: Option<Keys>,
     timer: &mut T,
 ) -> Outcome
-    requires members { ⟦<SqlRecords<D::Db> as Records>⟧.members records ≡ m.members }
+    requires members { ⟦<SqlRecords<FileStore<File>> as Records>⟧.members records ≡ m.members }
     requires here { m.me < m.members }
     requires is { m.me ≡ words.me }
-    requires failed { ⟦<SqlRecords<D::Db> as Records>⟧.failed records ≡ 0 }
+    requires failed { ⟦<SqlRecords<FileStore<File>> as Records>⟧.failed records ≡ 0 }
     requires keyed { is_some keys ≡ is_some words.key }
-    ensures ran { EndsWith ⟦<SqlRecords<D::Db> as Records>⟧ m keys
+    ensures ran { EndsWith ⟦<SqlRecords<FileStore<File>> as Records>⟧ m keys
         (F.raises files.now (words.entry.store.now ++ codes "-starts") m.members m.me
         (is_made words.entry.is_from_file words.entry.is_new found || words.entry.makes_starts))
         (hears_asks words.entry.key words.entry.control) (map (λ t. t.now) words.entry.members.now) records
-        (λ r. D.closed dbs.now (state D.Db.Store (connection_of r))) (λ how.
+        (λ r. D.closed dbs.now (state ⟦<FileStore<File> as Store>⟧ (connection_of r))) (λ how.
         OnFront how (MakesTurns words.entry.turns (T.timer_events timer.old) (T.timer_events timer.new))) result }
     ensures ending { result ≢ Refused 80 }
     ensures store { (file new : Bool) → IsStoreless file new result }
@@ -557,13 +558,13 @@ fn run_new<F: NodeFiles, D: Databases, T: Timer>(
     requires here { m.me < m.members }
     requires is { m.me ≡ words.me }
     requires keyed { is_some keys ≡ is_some words.key }
-    ensures ran { EndsNew ⟦<SqlRecords<D::Db> as Records>⟧ m keys
+    ensures ran { EndsNew ⟦<SqlRecords<FileStore<File>> as Records>⟧ m keys
         (F.raises files.now (words.entry.store.now ++ codes "-starts") m.members m.me
         (is_made words.entry.is_from_file words.entry.is_new found || words.entry.makes_starts))
         (hears_asks words.entry.key words.entry.control) (map (λ t. t.now) words.entry.members.now) (λ r. IsKept
-        (D.holds dbs.now words.entry.store.now) (state D.Db.Store (connection_of r))
-        (λ f db. IsOpened D.Db.Store r (record_at f db.trees)))
-        (λ r. D.closed dbs.now (state D.Db.Store (connection_of r))) (λ how.
+        (D.holds dbs.now words.entry.store.now) (state ⟦<FileStore<File> as Store>⟧ (connection_of r))
+        (λ f db. IsOpened ⟦<FileStore<File> as Store>⟧ r (record_at f db.trees)))
+        (λ r. D.closed dbs.now (state ⟦<FileStore<File> as Store>⟧ (connection_of r))) (λ how.
         OnFront how (MakesTurns words.entry.turns (T.timer_events timer.old) (T.timer_events timer.new))) result }
     ensures ending { result ≢ Refused 80 }
     ensures store { IsStoreless words.entry.is_from_file words.entry.is_new result }
@@ -588,7 +589,7 @@ fn run_node<F: NodeFiles, D: Databases, T: Timer>(
     timer: &mut T,
 ) -> Outcome
     ensures place { has_place words.entry.me (length words.entry.members.now) ≡ false → result ≡ Refused 40 }
-    ensures ran { EndsNode ⟦<SqlRecords<D::Db> as Records>⟧
+    ensures ran { EndsNode ⟦<SqlRecords<FileStore<File>> as Records>⟧
         (λ m. (m.cluster ≡ words.entry.cluster) × (m.me ≡ words.entry.me) ×
         (m.members ≡ length words.entry.members.now))
         (AreNamed (F.makes files.now words.entry.cluster (map (λ t. t.now) words.entry.members.now))
@@ -596,9 +597,9 @@ fn run_node<F: NodeFiles, D: Databases, T: Timer>(
         (λ m start. (found : Found) × F.raises files.now (words.entry.store.now ++ codes "-starts") m.members m.me
         (is_made words.entry.is_from_file words.entry.is_new found || words.entry.makes_starts) start)
         (hears_asks words.entry.key words.entry.control) (map (λ t. t.now) words.entry.members.now) (λ r. IsKept
-        (D.holds dbs.now words.entry.store.now) (state D.Db.Store (connection_of r))
-        (λ f db. IsOpened D.Db.Store r (record_at f db.trees)))
-        (λ r. D.closed dbs.now (state D.Db.Store (connection_of r))) (λ how.
+        (D.holds dbs.now words.entry.store.now) (state ⟦<FileStore<File> as Store>⟧ (connection_of r))
+        (λ f db. IsOpened ⟦<FileStore<File> as Store>⟧ r (record_at f db.trees)))
+        (λ r. D.closed dbs.now (state ⟦<FileStore<File> as Store>⟧ (connection_of r))) (λ how.
         OnFront how (MakesTurns words.entry.turns (T.timer_events timer.old) (T.timer_events timer.new))) result }
     ensures ending { result ≢ Refused 80 }
     ensures store { IsStoreless words.entry.is_from_file words.entry.is_new result }

@@ -21,7 +21,8 @@ use cli_io::make_private;
 use node_loop::Membership;
 use px_records::Records;
 use px_store::{AdoptFault, Format, Identity, SqlRecords};
-use sqlite::{Alter, Connection, Error, ErrorCode};
+use sqlite::{Alter, Connection, Error, ErrorCode, File, FileStore};
+use sqlite_trees::store::Store;
 use std::alloc::{AllocError, Global};
 use std::fs;
 use std::io::ErrorKind;
@@ -160,10 +161,10 @@ fn open_file<D: Databases>(
     rt: &HostRuntime,
     dbs: &D,
     path: &str,
-) -> Result<Connection<D::Db>, Outcome>
+) -> Result<Connection<FileStore<File>>, Outcome>
     ensures refused { OnErr result ((result ≡ Err Memory) ⊎ (result ≡ Err (Refused 70))) }
     ensures held { IfOk result (λ c.
-        D.holds dbs.now path.now (state D.Db.Store c).now (state D.Db.Store c).in_transaction) }
+        D.holds dbs.now path.now (state ⟦<FileStore<File> as Store>⟧ c).now (state ⟦<FileStore<File> as Store>⟧ c).in_transaction) }
 {
     match dbs.open(path) {
         Ok(conn) => Ok(conn),
@@ -200,10 +201,10 @@ fn make_store<D: Databases>(
     alloc: Global,
     words: NodeWords<'_, '_, '_>,
     found: Found,
-) -> Result<Connection<D::Db>, Outcome>
+) -> Result<Connection<FileStore<File>>, Outcome>
     ensures refused { IfErr result IsUnmade }
     ensures held { IfOk result (λ c.
-        D.holds dbs.now words.entry.store.now (state D.Db.Store c).now (state D.Db.Store c).in_transaction) }
+        D.holds dbs.now words.entry.store.now (state ⟦<FileStore<File> as Store>⟧ c).now (state ⟦<FileStore<File> as Store>⟧ c).in_transaction) }
 {
     match make_file(rt, words.store, found) {
         Ok(()) => {}
@@ -233,11 +234,11 @@ fn open_store<D: Databases>(
     alloc: Global,
     words: NodeWords<'_, '_, '_>,
     found: Found,
-) -> Result<Connection<D::Db>, Outcome>
+) -> Result<Connection<FileStore<File>>, Outcome>
     ensures refused { IfErr result (IsStoreless words.entry.is_from_file words.entry.is_new) }
     ensures kind { IfErr result IsRefusal }
     ensures at { IfOk result (λ c.
-        D.holds dbs.now words.entry.store.now (state D.Db.Store c).now (state D.Db.Store c).in_transaction) }
+        D.holds dbs.now words.entry.store.now (state ⟦<FileStore<File> as Store>⟧ c).now (state ⟦<FileStore<File> as Store>⟧ c).in_transaction) }
     ensures lost { words.entry.is_from_file ≡ true → words.entry.is_new ≡ false →
         (found ≡ Found.Nothing) ⊎ (found ≡ Found.Empty) → result ≡ Err (Refused NO_STORE) }
     ensures held { words.entry.is_new ≡ true → found ≡ Found.Store → result ≡ Err (Refused FILE_IS_THERE) }
@@ -284,11 +285,11 @@ pub(crate) fn record_at<D: Databases>(
     words: NodeWords<'_, '_, '_>,
     m: Membership,
     found: Found,
-) -> Result<SqlRecords<D::Db>, Outcome>
-    ensures members { IfOk result (λ r. ⟦<SqlRecords<D::Db> as Records>⟧.members r ≡ m.members) }
-    ensures begins { IfOk result (λ r. ⟦<SqlRecords<D::Db> as Records>⟧.failed r ≡ 0) }
+) -> Result<SqlRecords<FileStore<File>>, Outcome>
+    ensures members { IfOk result (λ r. ⟦<SqlRecords<FileStore<File>> as Records>⟧.members r ≡ m.members) }
+    ensures begins { IfOk result (λ r. ⟦<SqlRecords<FileStore<File>> as Records>⟧.failed r ≡ 0) }
     ensures rows { IfOk result (λ r. IsKept (D.holds dbs.now words.entry.store.now)
-        (state D.Db.Store (connection_of r)) (λ f db. IsOpened D.Db.Store r (record_at f db.trees))) }
+        (state ⟦<FileStore<File> as Store>⟧ (connection_of r)) (λ f db. IsOpened ⟦<FileStore<File> as Store>⟧ r (record_at f db.trees))) }
     ensures refused { IfErr result (IsStoreless words.entry.is_from_file words.entry.is_new) }
     ensures kind { IfErr result IsRefusal }
     ensures unfailed { OnErr result (result ≢ Err (Refused 80)) }

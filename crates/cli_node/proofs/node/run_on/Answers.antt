@@ -1,6 +1,6 @@
 -- what the run gave, or what it failed of
 use Rattle.std.proofs.Common.{◌∙◌, ap, sym, subst}
-use Rattle.sqlite.specs.Held.{state}
+use Rattle.sqlite.specs.Files.{file_state}
 use Rattle.cli_node.specs.declared.outcome.Outcome.{Outcome}
 use Rattle.cli_node.specs.inner.Outcomes.{ending_of}
 use Rattle.cli_node.specs.inner.Stores.{IsStoreless}
@@ -17,7 +17,7 @@ returns-clause-ran g c = (
   c.run_member_in-outcome.result.0,
   c.run_member_in-outcome.result.1,
   c.ending_of-outcome.ensures.is ∙ ap (ending_of c.run_member_in-outcome.result.0) c.failures.ensures,
-  subst (λ (conn : _). g.D.Databases.closed c.args.dbs.now (state g.D.Db.Store conn)) c.release.ensures c.close.ensures,
+  subst (λ (conn : _). g.D.Databases.closed c.args.dbs.now (file_state conn)) c.release.ensures c.close.ensures,
   c.run_member_in-outcome.ensures.hosted,
   c.run_member_in-outcome.ensures.ran,
 )
