@@ -25,7 +25,7 @@ front_text b (l ∷ ls) =
       | false ↦ refl
     ]
 
--- the lines of a text are the text
+-- the lines of bytes, one behind the other, are those bytes
 pub whole_text : (text : List ℕ) → flat_map bytes_of (lines text) ≡ text
 whole_text [] = refl
 whole_text (b ∷ bs) =
@@ -59,7 +59,7 @@ behind_all count i left text e so =
 abbrev pub events_of : List Part → List Event
 events_of ps = flat_map (λ p. p.events) ps
 
--- so many parts were asked for behind the first
+-- the number of parts that were asked for behind the first
 abbrev pub PartsSo : (given now : List Event → Type 0) → Request → (once : Bool) → (limit i : ℕ) → Answer → Type 0
 PartsSo given now r once limit i so_far = (es : List Event) × (Adds given now es
     × ((ps : List Part) (gives : Option Answered) → AreParts r once limit (length r.body - i) (Some so_far) ps gives →

@@ -60,7 +60,7 @@ count_same [] limit over = refl
 count_same (Asked l q b ∷ es) limit over = ap (λ (n : ℕ). n + 1) (count_same es limit over)
 count_same (Looked l b ∷ es) limit over = count_same es limit over
 
--- so many connections or fewer were asked for
+-- at most that number of connections was asked for
 abbrev pub Dialed : (ℕ → Type 0) → List Event → Type 0
 Dialed dialed es = (n : ℕ) × (dialed n × (n ≤ asked_count es))
 
@@ -81,7 +81,7 @@ dialed_never old limit over = λ es so.
 
 -- ---- one request
 
--- it was made so many times, and each answer so far leaves it open
+-- it was made that often, and each answer so far leaves it open
 pub record OpenSo (r : Request) (once waits : Bool) (count : ℕ) (before : List Answered) : Type 0 where
   pub asks_again : list_all (is_open r) before ≡ true
   pub single : once ≡ true → before ≡ []

@@ -198,7 +198,7 @@ pub record IsAsked (r : Request) (once : Bool) (limit : ℕ) (es : List Event) (
 abbrev pub line_count : (text : List ℕ) → ℕ
 line_count text = count_by (λ b. b == 10) text
 
--- what is behind the first lines of a text
+-- what is behind the first lines of bytes
 -- Example: behind 1 line of the lines a, b and c: b and c.
 abbrev pub behind_lines : (count : ℕ) → (text : List ℕ) → List ℕ
 behind_lines count text = flat_map bytes_of (drop count (lines text))

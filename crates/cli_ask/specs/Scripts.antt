@@ -28,7 +28,7 @@ pub data Item : Type 0 where
 abbrev pub Behind : Type 0
 Behind = Option ScriptChange → List Item
 
--- the words of a change: their text follows, where they take one
+-- a change: its ruleset or addresses follow, where it has any
 abbrev pub at_change : ScriptChange → Behind → List Item
 at_change c behind = if takes_text c.words then behind (Some c) else Found c ∷ behind None
 
@@ -56,8 +56,8 @@ at_text c l behind =
 abbrev pub number_behind : ℕ → ℕ
 number_behind number = min (number + 1) (2 ^ 64 - 1)
 
--- What lines ask for, of which the first has this number, behind a change whose text goes on, or without. The end of a
--- script ends a text.
+-- What lines ask for, of which the first has this number, behind a change whose lines go on, or without. The end of a
+-- script ends them.
 -- Example: pfctl -F rules on line 1 and pass on line 2: a change, and 2.
 abbrev pub items_from : (number : ℕ) → (begun : Option ScriptChange) → List ScriptLine → List Item
 items_from number None [] = []
@@ -72,7 +72,7 @@ items_in script = items_from 1 None (lines script)
 
 -- ---- what a script is refused for before a node is asked
 
--- the refusal of a text, with the line of the script: the text begins behind the words
+-- the refusal of a change's lines, with the line of the script: they begin behind the words
 abbrev pub behind_words : (at : ℕ) → Refused → Refused
 behind_words at r = record { code = r.code; line = min (at + r.line) (2 ^ 64 - 1) }
 

@@ -15,11 +15,11 @@ is_hidden c = is_control c && not (c == 10) && not (c == 9)
 abbrev pub shown_char : ℕ → List ℕ
 shown_char c = if is_hidden c then codes "\\u{" ++ digits 16 false c ++ codes "}" else encode_utf8 c
 
--- a text, one character after the other
+-- characters, one after the other
 abbrev pub shown_text : List ℕ → List ℕ
 shown_text text = flat_map shown_char (chars text)
 
--- bytes as a text, none where they aren't UTF-8
+-- bytes as characters, none where they aren't UTF-8
 abbrev pub shown : List ℕ → Option (List ℕ)
 shown bytes = option_map shown_text (text_of bytes)
 

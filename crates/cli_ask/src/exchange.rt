@@ -83,7 +83,7 @@ impl Deadline {
 pub(crate) trait Dial {
     type Stream: Read + Write + Drop;
 
-    // so many connections were asked for so far
+    // the number of connections that were asked for so far
     ghost dialed: { Self → ℕ → Type 0 };
 
     /// A connection, written and read until the deadline.

@@ -48,7 +48,7 @@ impl From<AllocError> for ScriptFault {
     }
 }
 
-/// The words of the next line that isn't empty, without a text; none where no such line is left.
+/// The words of the next line that isn't empty, without its lines; none where no such line is left.
 fn next_words<'a>(alloc: Global, left: &mut Left<'a>) -> Result<Option<Change<'a>>, ScriptFault>
     ensures found { IfOk result (λ c. items_left left.old None
         ≡ begun_at (option_map change_value c) (items_left left.new)) }

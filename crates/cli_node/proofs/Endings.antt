@@ -1,6 +1,6 @@
 -- With what a run ends: neither 93 nor 94, which are of a store before it is opened.
-use Rattle.std.proofs.Common.{◌≡◌, ◌⊎◌, ◌↔◌, ℕ, Result, Ok, Err, Bool, true, false, Option, Some, None, refl, sym, subst, ap, ◌∙◌, inl, inr, arith}
-use Rattle.std.specs.Prelude.{if◌then◌else◌, nat_lt, IsSome, IsTrue, OnErr}
+use Rattle.std.proofs.Common.{◌≡◌, ◌⊎◌, ◌↔◌, ℕ, List, Result, Ok, Err, Bool, true, false, Option, Some, None, refl, sym, subst, ap, inl, inr, arith}
+use Rattle.std.specs.Prelude.{if◌then◌else◌, nat_lt, IfSome, IsSome, IsTrue, OnErr}
 use Rattle.px_records.specs.declared.records.Records.{Ghosts}
 use Rattle.px_wire.specs.declared.membership.Membership.{Membership}
 use Rattle.px_replica.specs.declared.fault.NodeFault.{NodeFault}
@@ -12,7 +12,11 @@ use Rattle.cli_node.specs.declared.outcome.Outcome.TheVariants.{Front, Stopped, 
 use Rattle.cli_node.specs.declared.outcome.Outcome.TheVariants.{Sound, Made, Memory, Unread}
 use Rattle.cli_node.specs.inner.Outcomes.{outcome_of, ending_of, ended_outcome, first_of, checked, is_refused}
 use Rattle.cli_node.specs.inner.Outcomes.{ComesOpenOr, IsWireless}
-use Rattle.cli_node.specs.inner.Stores.{IsStoreless}
+use Rattle.cli_node.specs.inner.Running.{RunsHere, EndsAs, EndsWith, EndsNew, EndsNode, Anything}
+use Rattle.cli_node.specs.inner.Stores.{IsRefusal, IsStoreless}
+use Rattle.cli_node.specs.declared.key.Keys.{Keys}
+use Rattle.cli_node.specs.declared.sealing.Sealing.{Sealing}
+use Rattle.px_packet.specs.declared.start.Start.{Start}
 use Rattle.cli_node.proofs.Stores.{other, by_memory, sound}
 
 -- any other number
@@ -141,6 +145,20 @@ unsealed (Ok x) outcome is h file new = absurd (cc)
 unsealed (Err o) outcome is (inl e) file new = let same : outcome ≡ Memory = cc in rw same (by_memory file new)
 unsealed (Err o) outcome is (inr e) file new = let same : outcome ≡ Refused 95 = cc in rw same (n95 file new)
 
+-- the outcome of what is refused with one number, or out of memory
+pub refused_as : {X : Type 0} (code : ℕ) (r : Result X Outcome) (outcome : Outcome) → r ≡ Err outcome →
+    OnErr r ((r ≡ Err Memory) ⊎ (r ≡ Err (Refused code))) → (outcome ≡ Memory) ⊎ (outcome ≡ Refused code)
+refused_as code (Ok x) outcome is h = absurd (cc)
+refused_as code (Err o) outcome is (inl e) = inl (cc)
+refused_as code (Err o) outcome is (inr e) = inr (cc)
+
+pub refusal_of : {X : Type 0} (code : ℕ) (r : Result X Outcome) (outcome : Outcome) → r ≡ Err outcome →
+    OnErr r ((r ≡ Err Memory) ⊎ (r ≡ Err (Refused code))) → IsRefusal outcome
+refusal_of code r outcome is h = elim (refused_as code r outcome is h) [
+  | inl e ↦ subst IsRefusal (sym e) tt
+  | inr e ↦ subst IsRefusal (sym e) tt
+]
+
 of_addresses : (o : Outcome) → (o ≡ Sound) ⊎ (o ≡ Refused 82) → (file new : Bool) → IsStoreless file new o
 of_addresses o (inl e) = as_is o Sound e sound
 of_addresses o (inr e) = as_is o (Refused 82) e n82
@@ -171,3 +189,83 @@ none_of (Some x) b h e =
 pub place_first : (place keys store starts addresses control : Outcome) → place ≡ Refused 40 →
     checked place keys store starts addresses control ≡ Refused 40
 place_first place keys store starts addresses control e = ap (λ (o : Outcome). checked o keys store starts addresses control) e
+
+-- ---- of which less holds
+
+runs_map : {R : Type 0} (G : Ghosts R) (m : Membership) (s : Option Sealing) (hears : Bool) (members : List (List ℕ)) (given back : R) (o : Outcome)
+    (made made' : Ended → Type 0) → ((how : Ended) → made how → made' how) → RunsHere G m s hears members given o back made →
+    RunsHere G m s hears members given o back made'
+runs_map G m s hears members given back o made made' f (how, is, turns, honest) = (how, is, f how turns, honest)
+
+as_map : {R : Type 0} (G : Ghosts R) (m : Membership) (s : Option Sealing) (hears : Bool) (members : List (List ℕ)) (given : R)
+    (closed closed' : R → Type 0) (made made' : Ended → Type 0) (result : Outcome) → ((r : R) → closed r → closed' r) →
+    ((how : Ended) → made how → made' how) → EndsAs G m s hears members given closed made result →
+    EndsAs G m s hears members given closed' made' result
+as_map G m s hears members given closed closed' made made' result c f (o, back, is, shut, comes, inl unrun) =
+    (o, back, is, c back shut, comes, inl unrun)
+as_map G m s hears members given closed closed' made made' result c f (o, back, is, shut, comes, inr here) =
+    (o, back, is, c back shut, comes, inr (runs_map G m s hears members given back o made made' f here))
+
+in_more : (is may : Start → Type 0) (s : Option Sealing) → ((x : Start) → is x → may x) → IfSome s (λ x. is x.start) →
+    IfSome s (λ x. may x.start)
+in_more is may None f h = h
+in_more is may (Some s) f h = f s.start h
+
+pub with_map : {R : Type 0} (G : Ghosts R) (m : Membership) (keys : Option Keys) (is may : Start → Type 0) (hears : Bool) (members : List (List ℕ))
+    (given : R) (closed closed' : R → Type 0) (made made' : Ended → Type 0) (result : Outcome) →
+    ((x : Start) → is x → may x) → ((r : R) → closed r → closed' r) → ((how : Ended) → made how → made' how) →
+    EndsWith G m keys is hears members given closed made result → EndsWith G m keys may hears members given closed' made' result
+with_map G m keys is may hears members given closed closed' made made' result s c f (inl (sealing, same, start, ends)) =
+    inl (
+      sealing,
+      same,
+      in_more is may sealing s start,
+      as_map G m sealing hears members given closed closed' made made' result c f ends,
+    )
+with_map G m keys is may hears members given closed closed' made made' result s c f (inr refused) = inr refused
+
+pub new_map : {R : Type 0} (G : Ghosts R) (m : Membership) (keys : Option Keys) (is may : Start → Type 0) (hears : Bool) (members : List (List ℕ))
+    (kept kept' closed closed' : R → Type 0) (made made' : Ended → Type 0) (result : Outcome) →
+    ((x : Start) → is x → may x) → ((r : R) → kept r → kept' r) → ((r : R) → closed r → closed' r) →
+    ((how : Ended) → made how → made' how) → EndsNew G m keys is hears members kept closed made result →
+    EndsNew G m keys may hears members kept' closed' made' result
+new_map G m keys is may hears members kept kept' closed closed' made made' result s d c f (inl refused) = inl refused
+new_map G m keys is may hears members kept kept' closed closed' made made' result s d c f (inr (given, counted, whole, at, ends)) =
+    inr (given, counted, whole, d given at, with_map G m keys is may hears members given closed closed' made made' result s c f ends)
+
+pub node_any : {R : Type 0} (G : Ghosts R) (is_member : Membership → Type 0) (are_keys : Option Keys → Type 0)
+    (is_start : Membership → Start → Type 0) (hears : Bool) (members : List (List ℕ)) (kept closed : R → Type 0) (made : Ended → Type 0)
+    (result : Outcome) → EndsNode G is_member are_keys is_start hears members kept closed made result →
+    EndsNode G is_member are_keys (λ m. Anything) hears members Anything Anything Anything result
+node_any G is_member are_keys is_start hears members kept closed made result (inl refused) = inl refused
+node_any G is_member are_keys is_start hears members kept closed made result (inr (m, keys, is, are, ends)) =
+    inr (
+      m,
+      keys,
+      is,
+      are,
+      new_map G m keys (is_start m) Anything hears members kept Anything closed Anything made Anything result
+          (λ x h. tt) (λ r h. tt) (λ r h. tt) (λ how h. tt) ends,
+    )
+
+-- ---- nothing is refused
+
+both : (o p : Outcome) → first_of o p ≡ Sound → (o ≡ Sound) × (p ≡ Sound)
+both (Front n a) p e = absurd (cc)
+both (Stopped n a) p e = absurd (cc)
+both (Asked n k) p e = absurd (cc)
+both (Key k) p e = absurd (cc)
+both (Refused c) p e = absurd (cc)
+both (RefusedLine c l) p e = absurd (cc)
+both NoAnswer p e = absurd (cc)
+both Sound p e = (refl, e)
+both Made p e = absurd (cc)
+both Memory p e = absurd (cc)
+both Unread p e = absurd (cc)
+
+-- neither of the keys
+pub keys_sound : (place key other store starts addresses control : Outcome) →
+    checked place (first_of key other) store starts addresses control ≡ Sound → (key ≡ Sound) × (other ≡ Sound)
+keys_sound place key other store starts addresses control e =
+    both key other (both (first_of key other) (first_of store (first_of starts (first_of addresses control)))
+    (both place (first_of (first_of key other) (first_of store (first_of starts (first_of addresses control)))) e).1).0

@@ -10,13 +10,16 @@ use Rattle.cli_node.specs.inner.Running.{RunsWith}
 
 -- the wire's keys and its sealer are these
 pub as_sealed : {R : Type 0} (G : Ghosts R) (m : Membership) (hears : Bool) (given back : R) (events : List SocketEvent)
-    (ks ks' : List (List ℕ)) (s s' : Sealer) → ks ≡ ks' → s ≡ s' → RunsSealedHearing G m hears ks s given back events →
-    RunsSealedHearing G m hears ks' s' given back events
-as_sealed G m hears given back events ks ks' s s' e f r =
-    subst (λ (x : Sealer). RunsSealedHearing G m hears ks' x given back events) f
-    (subst (λ (x : List (List ℕ)). RunsSealedHearing G m hears x s given back events) e r)
+    (route : List (List ℕ) × ℕ) (ks ks' : List (List ℕ)) (s s' : Sealer) → ks ≡ ks' → s ≡ s' →
+    RunsSealedHearing G m hears route ks s given back events → RunsSealedHearing G m hears route ks' s' given back events
+as_sealed G m hears given back events route ks ks' s s' e f r =
+    subst (λ (x : Sealer). RunsSealedHearing G m hears route ks' x given back events) f
+    (subst (λ (x : List (List ℕ)). RunsSealedHearing G m hears route x s given back events) e r)
 
 -- asks are heard where this says so, and packets are sealed with these keys
 pub hearing_is : {R : Type 0} (G : Ghosts R) (m : Membership) (s s' : Option Sealing) (given back : R) (events : List SocketEvent)
-    (hears hears' : Bool) → s' ≡ s → hears ≡ hears' → RunsWith G m s hears given back events → RunsWith G m s' hears' given back events
-hearing_is G m s s' given back events hears hears' e f r = rw e (subst (λ (x : Bool). RunsWith G m s x given back events) f r)
+    (hears hears' : Bool) (x y : List (List ℕ) × ℕ) → s' ≡ s → hears ≡ hears' → x ≡ y → RunsWith G m s hears x given back events →
+    RunsWith G m s' hears' y given back events
+hearing_is G m s s' given back events hears hears' x y e f d r =
+    rw e (subst (λ (b : Bool). RunsWith G m s b y given back events) f
+    (subst (λ (z : List (List ℕ) × ℕ). RunsWith G m s hears z given back events) d r))

@@ -1,5 +1,5 @@
 -- What keeps a node from its store.
-use Rattle.std.proofs.Common.{◌≡◌, ◌≢◌, ◌⊎◌, cond, Bool, true, false, ℕ, Result, Ok, Err, refl, sym, subst, ◌∙◌, inl, inr, arith}
+use Rattle.std.proofs.Common.{◌≡◌, ◌≢◌, ◌⊎◌, Bool, true, false, ℕ, Result, Ok, Err, refl, sym, subst, ◌∙◌, inl, inr, arith}
 use Rattle.std.specs.Prelude.{IfErr, OnErr, if◌then◌else◌}
 use Rattle.px_store.specs.declared.fault.AdoptFault.{AdoptFault}
 use Rattle.px_store.specs.declared.fault.AdoptFault.TheVariants as adopt
@@ -10,7 +10,7 @@ use Rattle.cli_node.specs.declared.store.Found.TheVariants as found
 use Rattle.cli_node.specs.declared.store.Opening.{Opening}
 use Rattle.cli_node.specs.declared.store.Opening.TheVariants.{Opens, Makes, Refuses}
 use Rattle.cli_node.specs.inner.Outcomes.{adopt_outcome}
-use Rattle.cli_node.specs.inner.Stores.{IsNone, IsRefused, IsOpening, IsStoreless, IsUnmade}
+use Rattle.cli_node.specs.inner.Stores.{IsNone, IsRefused, IsOpening, IsRefusal, IsStoreless, IsUnmade}
 
 -- refusals of one outcome have one number
 same_number : (a b : ℕ) → Refused a ≡ Refused b → a ≡ b
@@ -164,6 +164,14 @@ by_fault file new adopt.WrongNode = other file new 71 (λ b. absurd (omega (arit
 pub by_read : (file new : Bool) (o : Outcome) → (o ≡ Memory) ⊎ (o ≡ Refused 70) → IsStoreless file new o
 by_read file new o (inl e) = subst (λ (x : Outcome). IsStoreless file new x) (sym e) (by_memory file new)
 by_read file new o (inr e) = subst (λ (x : Outcome). IsStoreless file new x) (sym e) (refused_70 file new)
+
+-- the outcome of a store that isn't taken is a refusal, or it is out of memory
+pub kind_of_fault : (e : AdoptFault) → IsRefusal (adopt_outcome e)
+kind_of_fault adopt.Memory = tt
+kind_of_fault adopt.Failed = tt
+kind_of_fault adopt.StoreVersion = tt
+kind_of_fault adopt.BadStore = tt
+kind_of_fault adopt.WrongNode = tt
 
 -- the outcome of a store that isn't taken is none of a failed node
 pub unfailed_fault : (e : AdoptFault) → adopt_outcome e ≢ Refused 80

@@ -1,10 +1,10 @@
 -- What a run of node, ask or key writes.
-use Rattle.std.specs.Prelude.{◌≡◌, ℕ, List, [], ◌∷◌, ◌++◌, Option, Some, None, codes, decimal}
+use Rattle.std.specs.Prelude.{◌≡◌, ◌⊎◌, ℕ, List, [], ◌++◌, Option, Some, None, codes, decimal}
 use Rattle.std.specs.Io.KnownBytes.{Appends}
 use Rattle.cli_files.specs.KeyTexts.{key_text}
 use Rattle.cli_io.specs.declared.status.Status.{Status}
 use Rattle.cli_io.specs.declared.status.Status.TheVariants as status
-use Rattle.cli_io.specs.Written.{line}
+use Rattle.cli_io.specs.Written.{line, AppendsFront}
 use Rattle.cli_node.specs.declared.outcome.Outcome.{Outcome}
 use Rattle.cli_node.specs.declared.outcome.Outcome.TheVariants.{Front, Stopped, Asked, Key, Refused, RefusedLine}
 use Rattle.cli_node.specs.declared.outcome.Outcome.TheVariants.{NoAnswer, Sound, Made, Memory, Unread}
@@ -37,10 +37,11 @@ status_of Made = status.Done
 status_of Memory = status.Memory
 status_of Unread = status.Failed
 
--- the outcome's line is written; out of memory, that alone; of a write that failed nothing is said
+-- the outcome's line is written; out of memory, that alone; where a write failed a front of either
 abbrev pub Wrote : Status → Outcome → Option (List ℕ) → Option (List ℕ) → Type 0
 Wrote status.Memory outcome old new = Appends old new (line (codes "memory"))
-Wrote status.Failed outcome old new = Unit {0}
+Wrote status.Failed outcome old new =
+    AppendsFront old new (line (codes "memory")) ⊎ AppendsFront old new (line_of outcome)
 Wrote ending outcome old new = (ending ≡ status_of outcome) × Appends old new (line_of outcome)
 
 -- a run that came to an outcome wrote it; without one the words weren't understood, or memory ran out

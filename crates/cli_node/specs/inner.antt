@@ -3,4 +3,7 @@ pub mod Places
 pub mod Outcomes
 pub mod Stores
 pub mod Running
+pub mod Secrets
 pub mod Asked
+pub mod Keeping
+pub mod Given

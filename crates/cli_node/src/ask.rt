@@ -1,12 +1,16 @@
 //! The subcommand `ask`: a command asked of a node.
 
-ghost use Rattle.std.specs.Prelude.{◌≡◌, ◌<◌, ◌⊎◌, ◌↔◌, Err, Ok, false, IfSome, IfOk, OnErr, IsSome, IsTrue};
+ghost use Rattle.std.specs.Prelude.{◌≡◌, ◌<◌, ◌⊎◌, ◌↔◌, ℕ, List, [], ◌∷◌, Ok, false, IfSome, IfOk, IfErr, IsSome, IsTrue};
+ghost use Rattle.pf_entry.specs.declared.command.Command.{Command};
+ghost use Rattle.px_wire.specs.declared.membership.Membership.{Membership};
 ghost use Rattle.clap.specs.Words.{found_of, rows_of};
 ghost use Rattle.pf_entry.specs.Owned.{command_value};
 ghost use Rattle.pf_arguments.specs.Asked.{asked, given_in, Change};
-ghost use Rattle.cli_node.specs.declared.outcome.Outcome.TheVariants.{Memory, Refused, Unread};
+ghost use Rattle.node_udp.specs.Addresses.{AreFound};
+ghost use Rattle.node_udp.specs.Members.{me_of, peers_of};
+ghost use Rattle.cli_node.specs.declared.outcome.Outcome.TheVariants.{Refused};
 ghost use Rattle.cli_node.specs.inner.Places.{has_place, waits_of};
-ghost use Rattle.cli_node.specs.inner.Asked.{IsAsked};
+ghost use Rattle.cli_node.specs.inner.Asked.{IsAsked, IsUnasked};
 ghost use Rattle.cli_node.specs.declared.ask.TheConstants.{CLIENT};
 
 use crate::outcome::{Outcome, answer_outcome, fault_outcome};
@@ -77,7 +81,7 @@ impl<'a> AskWords<'a> {
 
 /// The text of a file.
 fn read_file(rt: &HostRuntime, alloc: Global, path: &str) -> Result<Vec<u8>, Outcome>
-    ensures { OnErr result ((result ≡ Err Memory) ⊎ (result ≡ Err (Refused 40))) }
+    ensures { IfErr result IsUnasked }
 {
     let Ok(mut file) = fs::open(rt, path) else {
         return Err(Outcome::Refused(40));
@@ -92,7 +96,7 @@ fn read_file(rt: &HostRuntime, alloc: Global, path: &str) -> Result<Vec<u8>, Out
 /// The input.
 fn read_input<R: Read>(alloc: Global, reader: &mut R) -> Result<Vec<u8>, Outcome>
     ensures whole { IfOk result (λ text. IfSome (R.remaining reader.old) (λ input. text.items ≡ input)) }
-    ensures why { OnErr result ((result ≡ Err Memory) ⊎ (result ≡ Err Unread)) }
+    ensures why { IfErr result IsUnasked }
 {
     match read_all(alloc, reader) {
         Ok(text) => Ok(text),
@@ -107,7 +111,9 @@ fn text_for<R: Read>(
     alloc: Global,
     matches: &ArgMatches<'_>,
     reader: &mut R,
-) -> Result<Vec<u8>, Outcome> {
+) -> Result<Vec<u8>, Outcome>
+    ensures { IfErr result IsUnasked }
+{
     match matches.get_str("file") {
         Some("-") => read_input(alloc, reader),
         Some(path) => read_file(rt, alloc, path),
@@ -117,8 +123,9 @@ fn text_for<R: Read>(
 
 /// The change that the words ask for.
 fn change_in(alloc: Global, matches: &ArgMatches<'_>, text: &[u8]) -> Result<Command, Outcome>
-    ensures { IfOk result (λ command. asked (given_in (rows_of (found_of matches.now))) text.now ≡
+    ensures change { IfOk result (λ command. asked (given_in (rows_of (found_of matches.now))) text.now ≡
         Ok (Change (command_value command))) }
+    ensures refused { IfErr result IsUnasked }
 {
     match from_matches(alloc, matches, text) {
         Ok(Action::Change(command)) => Ok(command),
@@ -130,18 +137,30 @@ fn change_in(alloc: Global, matches: &ArgMatches<'_>, text: &[u8]) -> Result<Com
     }
 }
 
-/// The client's wire.
-fn bind(
-    rt: &HostRuntime,
-    alloc: Global,
-    to: &str,
-) -> Result<UdpWire<UdpSocket, HostRuntime>, Outcome>
-    ensures { OnErr result ((result ≡ Err Memory) ⊎ (result ≡ Err (Refused 82))) }
-{
-    match UdpWire::bind(rt, alloc, &[to], CLIENT, WAIT_MS) {
-        Ok(wire) => Ok(wire),
-        Err(BindFault::Memory) => Err(Outcome::Memory),
-        Err(BindFault::NoSocket) => Err(Outcome::Refused(82)),
+/// Who makes a client's wire, once.
+pub(crate) trait Client {
+    type Wire: Wire + Drop;
+
+    // this wire reaches who listens at this address
+    ghost reaches: { Self → (to : List ℕ) → Self.Wire → Type 0 };
+
+    /// A wire to this address: 82 where there is none.
+    fn bind(self, alloc: Global, to: &str) -> Result<Self::Wire, Outcome>
+        ensures refused { IfErr result IsUnasked }
+        ensures reaches { IfOk result (reaches self to.now) };
+}
+
+impl Client for HostRuntime {
+    type Wire = UdpWire<UdpSocket, HostRuntime>;
+
+    ghost reaches = { λ _ to w. (me_of w ≡ CLIENT) × AreFound (to ∷ []) (peers_of w) };
+
+    fn bind(self, alloc: Global, to: &str) -> Result<UdpWire<UdpSocket, HostRuntime>, Outcome> {
+        match UdpWire::bind(&self, alloc, &[to], CLIENT, WAIT_MS) {
+            Ok(wire) => Ok(wire),
+            Err(BindFault::Memory) => Err(Outcome::Memory),
+            Err(BindFault::NoSocket) => Err(Outcome::Refused(82)),
+        }
     }
 }
 
@@ -175,32 +194,21 @@ fn membership(words: AskWords<'_>) -> Option<Membership>
     Membership::new(words.cluster, words.members, CLIENT)
 }
 
-/// What the node answers to a command.
-fn asked(
-    rt: &HostRuntime,
-    alloc: Global,
-    words: AskWords<'_>,
-    m: &Membership,
-    command: &Command,
-) -> Outcome
-    requires client { m.now.me ≡ CLIENT }
-    requires member { words.node < m.now.members }
-{
-    match bind(rt, alloc, words.to) {
-        Ok(mut wire) => asked_over(alloc, words, m, command, &mut wire),
-        Err(outcome) => outcome,
-    }
-}
-
 /// What `ask` comes to: 40 of its numbers, the faults of the action, and 82, in this order; then the answer.
-pub(crate) fn ask_outcome<R: Read>(
+pub(crate) fn ask_outcome<C: Client + Drop, R: Read>(
     rt: &HostRuntime,
+    client: C,
     alloc: Global,
     words: AskWords<'_>,
     matches: &ArgMatches<'_>,
     reader: &mut R,
 ) -> Outcome
-    ensures { has_place words.entry.node words.entry.members ≡ false → result ≡ Refused 40 }
+    ensures place { has_place words.entry.node words.entry.members ≡ false → result ≡ Refused 40 }
+    ensures asked { IsUnasked result ⊎ ((m : Membership) × (text : List ℕ) × (command : Command) × (w : C.Wire) ×
+        (back : C.Wire) × (m.cluster ≡ words.entry.cluster) × (m.members ≡ words.entry.members) ×
+        (asked (given_in (rows_of (found_of matches.now))) text ≡ Ok (Change (command_value command))) ×
+        C.reaches client words.entry.to.now w ×
+        IsAsked C.Wire.traffic w back m words.entry.node words.entry.waits command result) }
 {
     let Some(m) = membership(words) else {
         return Outcome::Refused(40);
@@ -209,8 +217,15 @@ pub(crate) fn ask_outcome<R: Read>(
         Ok(text) => text,
         Err(outcome) => return outcome,
     };
-    match change_in(alloc, matches, &text) {
-        Ok(command) => asked(rt, alloc, words, &m, &command),
+    let command = match change_in(alloc, matches, &text) {
+        Ok(command) => command,
+        Err(outcome) => return outcome,
+    };
+    match client.bind(alloc, words.to) {
+        Ok(wire) => {
+            let mut wire = wire;
+            asked_over(alloc, words, &m, &command, &mut wire)
+        }
         Err(outcome) => outcome,
     }
 }

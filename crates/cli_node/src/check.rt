@@ -1,15 +1,22 @@
 //! The subcommand `node` with `--check`: whether a node could be started. Nothing is changed: a socket that is made to
 //! try that is removed.
 
-ghost use Rattle.std.specs.Prelude.{◌≡◌, ◌⊎◌, Bool, Err, false, length, OnErr};
+ghost use Rattle.std.specs.Prelude.{◌≡◌, ◌⊎◌, ℕ, Bool, List, Option, Err, None, false, length, map, option_map, OnErr};
+ghost use Rattle.sqlite.specs.Held.{state};
+ghost use Rattle.sqlite.specs.State.{HasCleanDisk};
+ghost use Rattle.px_store.specs.Adopting.{Began, LeavesOld};
+ghost use Rattle.px_store.specs.Judging.{reopen_refusal};
+ghost use Rattle.px_store.specs.declared.formats.Format.{Format};
 ghost use Rattle.cli_node.specs.declared.outcome.Outcome.{Outcome};
 ghost use Rattle.cli_node.specs.declared.outcome.Outcome.TheVariants.{Memory, Refused, Sound};
 ghost use Rattle.cli_node.specs.inner.Outcomes.{checked, first_of};
 ghost use Rattle.cli_node.specs.inner.Places.{has_place};
-ghost use Rattle.cli_node.specs.inner.Stores.{IsStoreless};
+ghost use Rattle.cli_node.specs.inner.Secrets.{IsNamed};
+ghost use Rattle.cli_node.specs.inner.Stores.{IsStoreless, identity_at};
 
 use crate::database::open_database;
-use crate::faults::{owner_of, say_closed, say_figures, say_place, say_storeless, say_unknown};
+use crate::faults::{say_closed, say_figures, say_place, say_storeless, say_unknown};
+use crate::files::NodeFiles;
 use crate::key::key_in;
 use crate::node::{NodeWords, figures_at, membership};
 use crate::outcome::Outcome;
@@ -18,9 +25,8 @@ use crate::sockets::{of_control, of_own_address};
 use crate::store::{Found, Opening, failed_outcome, found_at, identity_of, opening_of, untaken};
 use cli_io::{Shown, open_regular};
 use node_loop::Membership;
-use px_store::{AdoptFault, SqlRecords};
-use sqlite::{Connection, Error, ErrorCode, File, FileStore};
-use sqlite_resolve::CompileError;
+use px_store::{AdoptFault, examine};
+use sqlite::{Alter, Connection, Error, ErrorCode};
 use std::alloc::Global;
 use std::fs;
 use std::io::Read;
@@ -59,87 +65,24 @@ fn checked(
     )
 }
 
-/// The format that a store says, 0 where that is none of a node's, or it has no such table; none of a store that has
-/// lost its node's row.
-fn format_of(
-    rt: &HostRuntime,
-    path: &str,
-    conn: &mut Connection<FileStore<File>>,
-) -> Result<Option<u32>, Outcome>
-    ensures { OnErr result ((result ≡ Err Memory) ⊎ (result ≡ Err (Refused 70))) }
-{
-    match conn.query_row("SELECT format FROM meta", &[]) {
-        Ok(row) => Ok(Some(row.get::<u32>(0).unwrap_or(0))),
-        Err(Error::QueryReturnedNoRows) => Ok(None),
-        Err(Error::SqlInputError(CompileError::OutOfMemory)) => Err(Outcome::Memory),
-        Err(Error::SqlInputError(_)) => Ok(Some(0)),
-        Err(error) => Err(failed_outcome(rt, path, error)),
-    }
-}
-
-/// What is refused of a store of format 3, or without its node's row, which is taken as a node takes it: that writes
-/// nothing.
+/// What is refused of a store that is open; nothing is changed.
 #[tactic(auto, using(crate::proofs::Stores::by_fault, crate::proofs::Stores::sound))]
-fn adopted(
-    rt: &HostRuntime,
-    alloc: Global,
-    words: NodeWords<'_, '_, '_>,
-    m: Membership,
-    conn: Connection<FileStore<File>>,
-) -> Outcome
-    ensures { (file new : Bool) → IsStoreless file new result }
-{
-    match SqlRecords::reopen(alloc, conn, identity_of(m)) {
-        Ok(_records) => Outcome::Sound,
-        Err((fault, conn)) => {
-            let mut conn = conn;
-            untaken(rt, words.store, m, fault, &mut conn)
-        }
-    }
-}
-
-/// What is refused of a store of an older format, which a node brings to 3: it is asked whose it is.
-#[tactic(auto, using(crate::proofs::Stores::by_fault, crate::proofs::Stores::by_read, crate::proofs::Stores::sound))]
-fn owned(
+fn judged<S: Alter>(
     rt: &HostRuntime,
     words: NodeWords<'_, '_, '_>,
     m: Membership,
-    conn: &mut Connection<FileStore<File>>,
+    conn: &mut Connection<S>,
 ) -> Outcome
-    ensures { (file new : Bool) → IsStoreless file new result }
+    ensures store { (file new : Bool) → IsStoreless file new result }
+    ensures sound { HasCleanDisk (state S.Store conn.new) → result ≡ Sound → (f : Format) →
+        Began f (state S.Store conn.old) → reopen_refusal f (identity_at m) (state S.Store conn.old).now.trees ≡ None }
+    ensures known { result ≡ Sound → (f : Format) × Began f (state S.Store conn.old) }
+    ensures stop { HasCleanDisk (state S.Store conn.new) →
+        LeavesOld (state S.Store conn.old) (state S.Store conn.new) }
 {
-    match owner_of(conn) {
-        Ok((cluster, members, node)) => {
-            if cluster == m.cluster()
-                && members == u32::from(m.members())
-                && node == u32::from(m.me())
-            {
-                Outcome::Sound
-            } else {
-                untaken(rt, words.store, m, AdoptFault::WrongNode, conn)
-            }
-        }
-        Err(error) => failed_outcome(rt, words.store, error),
-    }
-}
-
-/// What is refused of a store that is open.
-#[tactic(auto, using(crate::proofs::Stores::by_fault, crate::proofs::Stores::by_file, crate::proofs::Stores::sound))]
-fn judged(
-    rt: &HostRuntime,
-    alloc: Global,
-    words: NodeWords<'_, '_, '_>,
-    m: Membership,
-    conn: Connection<FileStore<File>>,
-) -> Outcome
-    ensures { (file new : Bool) → IsStoreless file new result }
-{
-    let mut conn = conn;
-    match format_of(rt, words.store, &mut conn) {
-        Ok(None | Some(3)) => adopted(rt, alloc, words, m, conn),
-        Ok(Some(1 | 2)) => owned(rt, words, m, &mut conn),
-        Ok(Some(_)) => untaken(rt, words.store, m, AdoptFault::StoreVersion, &mut conn),
-        Err(outcome) => outcome,
+    match examine(conn, identity_of(m)) {
+        Ok(()) => Outcome::Sound,
+        Err(fault) => untaken(rt, words.store, m, fault, conn),
     }
 }
 
@@ -182,7 +125,10 @@ fn looked_at(
         return Outcome::Sound;
     }
     match open_database(rt, words.store) {
-        Ok(conn) => judged(rt, alloc, words, m, conn),
+        Ok(conn) => {
+            let mut conn = conn;
+            judged(rt, words, m, &mut conn)
+        }
         Err(Error::SqliteFailure(ErrorCode::DatabaseBusy)) => {
             let _said = eprintln!(rt;
                 "pfx: info: store {}: a node has it open, so it isn't looked at",
@@ -268,19 +214,23 @@ fn of_place(rt: &HostRuntime, words: NodeWords<'_, '_, '_>, m: Option<Membership
 }
 
 /// What is refused of one key's file, if there is one.
-fn of_key(
+fn of_key<F: NodeFiles>(
     rt: &HostRuntime,
+    files: &F,
     alloc: Global,
     words: NodeWords<'_, '_, '_>,
     path: Option<&str>,
 ) -> Outcome
-    ensures { (result ≡ Sound) ⊎ ((result ≡ Memory) ⊎ (result ≡ Refused 83)) }
+    ensures why { (result ≡ Sound) ⊎ ((result ≡ Memory) ⊎ (result ≡ Refused 83)) }
+    ensures sound { result ≡ Sound → (key : Option (List ℕ)) × IsNamed
+        (F.makes files.now words.entry.cluster (map (λ t. t.now) words.entry.members.now))
+        (option_map (λ t. t.now) path.entry) key }
 {
     let Some(path) = path else {
         return Outcome::Sound;
     };
-    match key_in(rt, alloc, words, path) {
-        Ok(_) => Outcome::Sound,
+    match key_in(rt, files, alloc, words, path) {
+        Ok(_key) => Outcome::Sound,
         Err(outcome) => outcome,
     }
 }
@@ -304,18 +254,25 @@ fn of_addresses(rt: &HostRuntime, words: NodeWords<'_, '_, '_>) -> Outcome
 /// What a start with these words would be refused for, as far as settings, keys, addresses, sockets and store tell: all
 /// is said on standard error, and the first answered, in the order of a start: 40, 83, 93, 94, the store's refusals,
 /// 95, 82, 84.
-pub(crate) fn check_outcome(
+pub(crate) fn check_outcome<F: NodeFiles>(
     rt: &HostRuntime,
+    files: &F,
     alloc: Global,
     words: NodeWords<'_, '_, '_>,
 ) -> Outcome
     ensures place { has_place words.entry.me (length words.entry.members.now) ≡ false → result ≡ Refused 40 }
     ensures store { IsStoreless words.entry.is_from_file words.entry.is_new result }
+    ensures key { result ≡ Sound → (key : Option (List ℕ)) × IsNamed
+        (F.makes files.now words.entry.cluster (map (λ t. t.now) words.entry.members.now))
+        (option_map (λ t. t.now) words.entry.key) key }
+    ensures other { result ≡ Sound → (key : Option (List ℕ)) × IsNamed
+        (F.makes files.now words.entry.cluster (map (λ t. t.now) words.entry.members.now))
+        (option_map (λ t. t.now) words.entry.other_key) key }
 {
     let m = membership(words);
     let place = of_place(rt, words, m);
-    let key = of_key(rt, alloc, words, words.key);
-    let other = of_key(rt, alloc, words, words.other_key);
+    let key = of_key(rt, files, alloc, words, words.key);
+    let other = of_key(rt, files, alloc, words, words.other_key);
     let store = of_store(rt, alloc, words, m);
     let starts = starts_of(rt, alloc, words, m);
     let addresses = of_addresses(rt, words);

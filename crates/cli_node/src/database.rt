@@ -1,11 +1,12 @@
 //! The database of a node in its file: a new one has small pages.
 
-ghost use Rattle.std.specs.Prelude.{◌≡◌, [], IsTrue, IfOk, IfErr, Err, codes};
+ghost use Rattle.std.specs.Prelude.{◌≡◌, ⊤, ℕ, Bool, List, [], IsTrue, IfOk, IfErr, Err, codes};
 ghost use Rattle.sqlite_trees.specs.View.{IsClean};
 ghost use Rattle.sqlite_store.specs.FileStore.{view, is_shielded};
 ghost use Rattle.sqlite_store.specs.Unopened.{AreUsable, wanted_by};
 ghost use Rattle.sqlite.specs.Steps.{IsFresh};
-ghost use Rattle.sqlite.specs.State.{HasCleanDisk};
+ghost use Rattle.sqlite.specs.Effect.{Database};
+ghost use Rattle.sqlite.specs.State.{State, HasCleanDisk};
 ghost use Rattle.sqlite.specs.Held.{IsNew};
 ghost use Rattle.sqlite.specs.Opening.{is_open_error};
 ghost use Rattle.sqlite.specs.Files.{file_state, IsOpened, IsEmpty};
@@ -175,4 +176,38 @@ pub(crate) fn open_database(
         return Err(CANNOT_OPEN);
     };
     open_files(rt.alloc(), files, Options::new(keys.hash_one(&0u8)))
+}
+
+/// Where a node's store is opened and closed.
+pub(crate) trait Databases {
+    // the file at this path has this database, within a transaction or not
+    ghost holds: { Self → (path : List ℕ) → Database → (within : Bool) → Type 0 };
+
+    // a database was closed in this state
+    ghost closed: { Self → State → Type 0 };
+
+    /// Opens the database in a file, or makes one there.
+    fn open(&self, path: &str) -> Result<Connection<FileStore<File>>, Error>
+        ensures { IfOk result (λ c. holds self.now path.now (file_state c).now (file_state c).in_transaction) };
+
+    /// Closes a database.
+    fn close(&self, conn: Connection<FileStore<File>>)
+        ensures { closed self.now (file_state conn) };
+}
+
+impl Databases for HostRuntime {
+    // no contract says what is in the file at a path
+    ghost holds = { λ _ _ _ _. ⊤ };
+
+    ghost closed = { λ _ _. ⊤ };
+
+    fn open(&self, path: &str) -> Result<Connection<FileStore<File>>, Error> {
+        open_database(self, path)
+    }
+
+    fn close(&self, conn: Connection<FileStore<File>>)
+        ensures { ⊤ }
+    {
+        let _closed = conn.close();
+    }
 }

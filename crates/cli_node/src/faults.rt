@@ -3,6 +3,8 @@
 
 ghost use Rattle.std.specs.Prelude.{◌≡◌, ◌↔◌, IsTrue};
 ghost use Rattle.sqlite.specs.Held.{state};
+ghost use Rattle.sqlite.specs.State.{HasCleanDisk};
+ghost use Rattle.px_store.specs.Adopting.{LeavesOld};
 ghost use Rattle.px_store.specs.Tables.{no_schema};
 
 use crate::node::NodeWords;
@@ -10,7 +12,7 @@ use crate::sockets::try_control;
 use cli_files::RaiseFault;
 use cli_io::{Shown, make_private, open_regular};
 use node_loop::Membership;
-use px_store::AdoptFault;
+use px_store::{AdoptFault, owner_in};
 use sqlite::{Alter, Connection};
 use std::alloc::Global;
 use std::fmt::Display;
@@ -58,14 +60,6 @@ pub(crate) fn say_storeless(rt: &HostRuntime, path: &str, code: u8) {
     }
 }
 
-/// Whose a store is: its cluster, how many members that has, and the node.
-pub(crate) fn owner_of<S: Alter>(
-    conn: &mut Connection<S>,
-) -> Result<(u32, u32, u32), sqlite::Error> {
-    let row = conn.query_row("SELECT cluster, members, node FROM meta", &[])?;
-    Ok((row.get::<u32>(0)?, row.get::<u32>(1)?, row.get::<u32>(2)?))
-}
-
 /// Whether a store has no tables.
 fn is_bare<S: Alter>(conn: &Connection<S>) -> bool
     ensures { IsTrue result ↔ ((state S.Store conn.now).now.schema ≡ no_schema) }
@@ -81,13 +75,19 @@ pub(crate) fn say_judged<S: Alter>(
     m: Membership,
     fault: AdoptFault,
     conn: &mut Connection<S>,
-) {
+)
+    ensures clean { HasCleanDisk (state S.Store conn.new) → HasCleanDisk (state S.Store conn.old) }
+    ensures stop { HasCleanDisk (state S.Store conn.new) →
+        LeavesOld (state S.Store conn.old) (state S.Store conn.new) }
+{
     let path = Shown(path);
     if fault == AdoptFault::WrongNode {
-        if let Ok((cluster, members, node)) = owner_of(conn) {
+        if let Ok(owner) = owner_in(conn) {
             let _said = eprintln!(rt;
-                "pfx: error: store {path} is of node {node} of {members}, cluster {cluster}; this is node {} of {}, \
-                 cluster {}",
+                "pfx: error: store {path} is of node {} of {}, cluster {}; this is node {} of {}, cluster {}",
+                owner.node,
+                owner.members,
+                owner.cluster,
                 m.me(),
                 m.members(),
                 m.cluster()

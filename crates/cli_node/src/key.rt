@@ -1,16 +1,19 @@
 //! The keys that the arguments of `node` name, and new ones.
 
-ghost use Rattle.std.specs.Prelude.{◌≡◌, ◌≢◌, ◌⊎◌, ◌==◌, ◌/◌, Ok, Err, Some, true, OnErr, IfOk, IfSome, option_map};
-ghost use Rattle.std.specs.Prelude.{ℕ, List, map, is_some};
-ghost use Rattle.cli_files.specs.Clusters.{IsClusterKey};
+ghost use Rattle.std.specs.Prelude.{◌≡◌, ◌≢◌, ◌⊎◌, ◌==◌, ◌/◌, Ok, Err, OnErr, IfOk, option_map};
+ghost use Rattle.std.specs.Prelude.{ℕ, List, OnOk, map, is_some};
+ghost use Rattle.cli_files.specs.KeyTexts.{key_text};
 ghost use Rattle.node_udp.specs.Addresses.{address_of};
-ghost use Rattle.cli_node.specs.declared.outcome.Outcome.TheVariants.{Key, Memory, Refused};
+ghost use Rattle.cli_node.specs.declared.outcome.Outcome.TheVariants.{Key, Made, Memory, Refused};
+ghost use Rattle.cli_node.specs.inner.Keeping.{IsWritten};
 ghost use Rattle.cli_node.specs.inner.Places.{is_loopback, is_loopback_ip};
+ghost use Rattle.cli_node.specs.inner.Secrets.{IsNamed, AreNamed};
 
+use crate::files::NodeFiles;
 use crate::node::NodeWords;
 use crate::outcome::Outcome;
 use crate::store::FILE_IS_THERE;
-use cli_files::{KeyFault, RandomBytes, key_text, new_key, read_cluster_key};
+use cli_files::{KeyFault, RandomBytes, key_text, new_key};
 use cli_io::{Shown, make_private, open_regular};
 use node_udp::parse_address;
 use pf_addr::Addr;
@@ -62,76 +65,69 @@ fn key_of(
 }
 
 /// The key of the cluster's tags that the secret in a file makes.
-pub(crate) fn key_in(
+pub(crate) fn key_in<F: NodeFiles>(
     rt: &HostRuntime,
+    files: &F,
     alloc: Global,
     words: NodeWords<'_, '_, '_>,
     path: &str,
 ) -> Result<[u8; 32], Outcome>
     ensures refused { OnErr result ((result ≡ Err Memory) ⊎ (result ≡ Err (Refused 83))) }
-    ensures made { IfOk result (λ k. (text : List ℕ) ×
-        IsClusterKey text words.entry.cluster (map (λ t. t.now) words.entry.members.now) k) }
+    ensures made { IfOk result (F.makes files.now words.entry.cluster (map (λ t. t.now) words.entry.members.now)
+        path.now) }
 {
-    let read = read_cluster_key(rt, alloc, path, words.cluster, words.members);
+    let read = files.cluster_key(alloc, path, words.cluster, words.members);
     key_of(rt, path, read)
 }
 
-/// The keys, where the other was read.
-fn keys_of(key: [u8; 32], other: Result<[u8; 32], Outcome>) -> Result<Option<Keys>, Outcome>
-    requires refused { OnErr other ((other ≡ Err Memory) ⊎ (other ≡ Err (Refused 83))) }
+/// The keys with this one, and another that the words name, if they do.
+fn keys_with<F: NodeFiles>(
+    rt: &HostRuntime,
+    files: &F,
+    alloc: Global,
+    words: NodeWords<'_, '_, '_>,
+    key: [u8; 32],
+) -> Result<Keys, Outcome>
     ensures refused { OnErr result ((result ≡ Err Memory) ⊎ (result ≡ Err (Refused 83))) }
-    ensures key { IfOk result (λ ks. option_map (λ k. k.key) ks ≡ Some key) }
-    ensures read { IfOk result (λ ks. IfSome ks (λ k. IfSome k.other (λ o. other ≡ Ok o))) }
-    ensures other { IfOk result (λ ks. option_map (λ k. is_some k.other) ks ≡ Some true) }
-    ensures keyed { IfOk result (λ ks. is_some ks ≡ true) }
+    ensures key { IfOk result (λ k. k.key ≡ key) }
+    ensures other { IfOk result (λ k. IsNamed
+        (F.makes files.now words.entry.cluster (map (λ t. t.now) words.entry.members.now))
+        (option_map (λ t. t.now) words.entry.other_key) k.other) }
 {
-    match other {
-        Ok(other) => Ok(Some(Keys {
+    let Some(path) = words.other_key else {
+        return Ok(Keys { key, other: None });
+    };
+    match key_in(rt, files, alloc, words, path) {
+        Ok(other) => Ok(Keys {
             key,
             other: Some(other),
-        })),
+        }),
         Err(outcome) => Err(outcome),
     }
 }
 
-/// The keys with this one, and another that the words name, if they do.
-fn keys_with(
-    rt: &HostRuntime,
-    alloc: Global,
-    words: NodeWords<'_, '_, '_>,
-    key: [u8; 32],
-) -> Result<Option<Keys>, Outcome>
-    ensures refused { OnErr result ((result ≡ Err Memory) ⊎ (result ≡ Err (Refused 83))) }
-    ensures key { IfOk result (λ ks. option_map (λ k. k.key) ks ≡ Some key) }
-    ensures other { IfOk result (λ ks. option_map (λ k. is_some k.other) ks ≡ Some (is_some words.entry.other_key)) }
-    ensures heard { IfOk result (λ ks. IfSome ks (λ k. IfSome k.other (λ o. (text : List ℕ) ×
-        IsClusterKey text words.entry.cluster (map (λ t. t.now) words.entry.members.now) o))) }
-    ensures keyed { IfOk result (λ ks. is_some ks ≡ true) }
-{
-    match words.other_key {
-        Some(path) => keys_of(key, key_in(rt, alloc, words, path)),
-        None => Ok(Some(Keys { key, other: None })),
-    }
-}
-
 /// The keys that the words name, if they do: 83 where a file can't be read or has none, or where others may read it.
-pub(crate) fn keys_for(
+pub(crate) fn keys_for<F: NodeFiles>(
     rt: &HostRuntime,
+    files: &F,
     alloc: Global,
     words: NodeWords<'_, '_, '_>,
 ) -> Result<Option<Keys>, Outcome>
     ensures refused { OnErr result ((result ≡ Err Memory) ⊎ (result ≡ Err (Refused 83))) }
     ensures keyed { IfOk result (λ ks. is_some ks ≡ is_some words.entry.key) }
-    ensures made { IfOk result (λ ks. IfSome ks (λ k. (text : List ℕ) ×
-        IsClusterKey text words.entry.cluster (map (λ t. t.now) words.entry.members.now) k.key)) }
-    ensures heard { IfOk result (λ ks. IfSome ks (λ k. IfSome k.other (λ o. (text : List ℕ) ×
-        IsClusterKey text words.entry.cluster (map (λ t. t.now) words.entry.members.now) o))) }
+    ensures named { IfOk result (AreNamed
+        (F.makes files.now words.entry.cluster (map (λ t. t.now) words.entry.members.now))
+        (option_map (λ t. t.now) words.entry.key) (option_map (λ t. t.now) words.entry.other_key)) }
 {
     let Some(path) = words.key else {
         return Ok(None);
     };
-    match key_in(rt, alloc, words, path) {
-        Ok(key) => keys_with(rt, alloc, words, key),
+    let key = match key_in(rt, files, alloc, words, path) {
+        Ok(key) => key,
+        Err(outcome) => return Err(outcome),
+    };
+    match keys_with(rt, files, alloc, words, key) {
+        Ok(keys) => Ok(Some(keys)),
         Err(outcome) => Err(outcome),
     }
 }
@@ -172,7 +168,9 @@ pub(crate) fn warn_unsealed(rt: &HostRuntime, words: NodeWords<'_, '_, '_>) {
 }
 
 /// Writes a key into a new file, which its owner alone may read.
-fn write_key<F: Files>(rt: &F, path: &str, text: &str) -> io::Result<()> {
+fn write_key<F: Files>(rt: &F, path: &str, text: &str) -> io::Result<()>
+    ensures { OnOk result (IsWritten F.File.contents text.now) }
+{
     let mut file = make_private(rt, path)?;
     let written = file.write_all(text.as_bytes());
     if written.is_err() {
@@ -183,7 +181,8 @@ fn write_key<F: Files>(rt: &F, path: &str, text: &str) -> io::Result<()> {
 
 /// What a new key comes to that is to be in a file: 94 where one is there, 83 where the system refuses it.
 fn kept<RT: Files + Eprint>(rt: &RT, alloc: Global, path: &str, key: &[u8; 32]) -> Outcome
-    ensures { (key : List ℕ) → result ≢ Key key }
+    ensures hidden { (key : List ℕ) → result ≢ Key key }
+    ensures made { result ≡ Made → IsWritten RT.File.contents (key_text key.now) }
 {
     let Ok(text) = key_text(alloc, key) else {
         return Outcome::Memory;
@@ -207,7 +206,8 @@ pub(crate) fn key_outcome<R: RandomBytes + Files + Eprint>(
     alloc: Global,
     file: Option<&str>,
 ) -> Outcome
-    ensures { (key : List ℕ) → result ≡ Key key → R.gives rt.now key }
+    ensures shown { (key : List ℕ) → result ≡ Key key → R.gives rt.now key }
+    ensures made { result ≡ Made → (key : List ℕ) × R.gives rt.now key × IsWritten R.File.contents (key_text key) }
 {
     let Ok(key) = new_key(rt) else {
         return Outcome::Unread;

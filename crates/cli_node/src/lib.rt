@@ -43,6 +43,7 @@ mod check;
 mod database;
 mod events;
 mod faults;
+mod files;
 mod key;
 mod node;
 mod outcome;

@@ -1,21 +1,35 @@
 //! The subcommand `node`: a node over UDP.
 
 ghost use Rattle.std.specs.Prelude.{◌≡◌, ◌≢◌, ◌<◌, ◌≤◌, ◌⊎◌, ◌↔◌, Err, false, length, IfSome, OnErr, IsSome, IsTrue};
-ghost use Rattle.std.specs.Prelude.{ℕ, Bool, [], None, IfOk, option_map, option_and_then, is_some};
+ghost use Rattle.std.specs.Prelude.{ℕ, Bool, List, [], None, Ok, IfOk, map, option_map, option_and_then, is_some};
+ghost use Rattle.std.specs.Prelude.{◌||◌, ◌++◌, codes, string_bytes};
+ghost use Rattle.sqlite.specs.Held.{state};
+ghost use Rattle.px_store.specs.Formats.{record_at};
+ghost use Rattle.px_store.specs.View.{connection_of, IsOpened};
 ghost use Rattle.toml.specs.Data.{as_str, get_member};
-ghost use Rattle.px_transport.specs.Wiring.{keys_of, sealer_of};
+ghost use Rattle.px_transport.specs.Wiring.{inner_of, keys_of, sealer_of};
 ghost use Rattle.node_loop.specs.Lives.{OnFront};
 ghost use Rattle.node_loop.specs.Timing.{MakesTurns};
+ghost use Rattle.node_udp.specs.Addresses.{AreFound, shown_address};
+ghost use Rattle.node_udp.specs.Members.{hears_of, me_of, peers_of};
+ghost use Rattle.pf_scripts.specs.Lines.{spaced};
+ghost use Rattle.cli_files.specs.Clusters.{IsClusterKey};
 ghost use Rattle.cli_files.specs.Files.{settings_of};
 ghost use Rattle.cli_files.specs.Settings.{number_of};
 ghost use Rattle.cli_node.specs.declared.outcome.Outcome.TheVariants.{Memory, Refused};
-ghost use Rattle.cli_node.specs.inner.Running.{IsAlone, IsUnrun, RunsHere, hears_asks, keys_with, sealer_with};
+ghost use Rattle.cli_node.specs.inner.Running.{Anything, EndsAs, EndsNew, EndsNode, EndsWith, IsAlone, IsUnrun, RunsHere};
+ghost use Rattle.cli_node.specs.inner.Running.{hears_asks, keys_with, sealer_with};
 ghost use Rattle.cli_node.specs.inner.Outcomes.{ComesTo, ComesOpen, ComesOpenOr, IsWireless};
-ghost use Rattle.cli_node.specs.inner.Stores.{IsStoreless};
+ghost use Rattle.cli_node.specs.inner.Given.{IsPlaced, text_in};
+ghost use Rattle.cli_node.specs.inner.Secrets.{AreNamed};
+ghost use Rattle.cli_node.specs.inner.Stores.{IsKept, IsStoreless, is_made};
+ghost use Rattle.cli_node.specs.declared.store.Found.{Found};
 ghost use Rattle.cli_node.specs.inner.Places.{is_count, has_place, turns_or_all, chosen};
 
+use crate::database::Databases;
 use crate::events::{say_end, say_start};
 use crate::faults::say_place;
+use crate::files::NodeFiles;
 use crate::key::{Keys, keys_for, warn_unsealed};
 use crate::outcome::{Outcome, ended_outcome, ending_of};
 use crate::sealing::{Sealing, sealing_for};
@@ -30,6 +44,7 @@ use px_records::Records;
 use px_store::SqlRecords;
 use px_transport::{PacketWire, Wire};
 use sqlite::{File, FileStore};
+use sqlite_trees::store::Store;
 use std::alloc::{AllocError, Global};
 use std::net::{SocketAddr, UdpSocket};
 
@@ -112,7 +127,14 @@ impl<'m, 'w, 'a> NodeWords<'m, 'w, 'a> {
         matches: &ArgMatches<'g>,
         file: &'a NodeFile,
         members: &'m [&'w str],
-    ) -> Option<NodeWords<'m, 'w, 'a>> {
+    ) -> Option<NodeWords<'m, 'w, 'a>>
+        ensures store { IfSome result (λ w. text_in matches.now file.now (codes "store") ≡ Some w.store.now) }
+        ensures key { IfSome result (λ w. option_map (λ t. t.now) w.key ≡ text_in matches.now file.now (codes "key")) }
+        ensures other_key { IfSome result (λ w. option_map (λ t. t.now) w.other_key ≡ text_in matches.now file.now (codes "other-key")) }
+        ensures control { IfSome result (λ w. option_map (λ t. t.now) w.control ≡ text_in matches.now file.now (codes "control")) }
+        ensures metrics { IfSome result (λ w. option_map (λ t. t.now) w.metrics ≡ text_in matches.now file.now (codes "metrics")) }
+        ensures members { IfSome result (λ w. w.members ≡ members.entry) }
+    {
         let Some(me) = number_or(matches.get_one::<u32>("me"), file, "me") else {
             return None;
         };
@@ -195,6 +217,9 @@ pub(crate) fn bind(
 ) -> Result<UdpWire<UdpSocket, HostRuntime>, Outcome>
     ensures refused { OnErr result ((result ≡ Err Memory) ⊎ (result ≡ Err (Refused 82))) }
     ensures new { IfOk result (λ w. ⟦<UdpWire<UdpSocket, HostRuntime> as Wire>⟧.traffic w []) }
+    ensures me { IfOk result (λ w. me_of w ≡ words.entry.me) }
+    ensures peers { IfOk result (λ w. AreFound (map (λ t. t.now) words.entry.members.now) (peers_of w)) }
+    ensures hears { IfOk result (λ w. hears_of w ≡ hears_asks words.entry.key words.entry.control) }
 {
     match UdpWire::bind(rt, alloc, words.members, words.me, WAIT_MS) {
         Ok(wire) => {
@@ -222,6 +247,7 @@ fn sealed(
         ⟦<PacketWire<UdpWire<UdpSocket, HostRuntime>, HostRuntime> as Wire>⟧.traffic w []) }
     ensures sealer { IfOk result (λ w. sealer_of w ≡ sealer_with m sealing) }
     ensures keys { IfOk result (λ w. keys_of w ≡ keys_with sealing) }
+    ensures inner { IfOk result (λ w. inner_of w ≡ wire) }
 {
     let keys = sealing.keys;
     let packets = PacketKeys::new(&keys.key, keys.other.as_ref());
@@ -268,15 +294,21 @@ fn run_at<R: Records, T: Timer>(
     timer: &mut T,
     place: Option<ControlPlace<'_>>,
 ) -> (Outcome, R)
+    requires placed { IsPlaced (λ p. p.path.now) (λ p. p.figures) (option_map (λ t. t.now) words.control)
+        words.metrics place }
     requires members { R.members records ≡ m.members }
     requires here { m.me < m.members }
+    requires is { m.me ≡ words.me }
     requires failed { R.failed records ≡ 0 }
     requires refused { OnErr wire ((wire ≡ Err Memory) ⊎ (wire ≡ Err (Refused 82))) }
+    requires peers { IfOk wire (λ w. AreFound (map (λ t. t.now) words.members.now) (peers_of w)) }
+    requires own { IfOk wire (λ w. me_of w ≡ words.me) }
     requires new { IfOk wire (λ w. ⟦<UdpWire<UdpSocket, HostRuntime> as Wire>⟧.traffic w []) }
     ensures hosted { ComesOpen R.Records m records result.0 result.1 }
     ensures turns { place.entry ≡ None → ComesTo R.Records m records result.0 result.1 }
     ensures ran { IsAlone R.Records m records result.0 result.1 ⊎
-        RunsHere R.Records m sealing (hears_asks words.entry.key words.entry.control) records result.0 result.1 (λ how.
+        RunsHere R.Records m sealing (hears_asks words.entry.key words.entry.control)
+        (map (λ t. t.now) words.entry.members.now) records result.0 result.1 (λ how.
         OnFront how (MakesTurns words.entry.turns (T.timer_events timer.old) (T.timer_events timer.new))) }
 {
     let wire = match wire {
@@ -323,7 +355,8 @@ fn run_at<R: Records, T: Timer>(
 /// Where figures are served over TCP, if they are: 82 for what is no address at which this machine alone is heard, with
 /// a port.
 pub(crate) fn figures_at(words: NodeWords<'_, '_, '_>) -> Result<Option<SocketAddr>, Outcome>
-    ensures { OnErr result (result ≡ Err (Refused 82)) }
+    ensures refused { OnErr result (result ≡ Err (Refused 82)) }
+    ensures served { IfOk result (λ f. is_some f ≡ is_some words.entry.metrics) }
 {
     let Some(text) = words.metrics else {
         return Ok(None);
@@ -341,14 +374,18 @@ pub(crate) fn figures_at(words: NodeWords<'_, '_, '_>) -> Result<Option<SocketAd
 }
 
 /// Addresses with a blank between two.
-fn addresses_text(alloc: Global, addresses: &[Address]) -> Result<String, AllocError> {
+fn addresses_text(alloc: Global, addresses: &[Address]) -> Result<String, AllocError>
+    ensures { IfOk result (λ text. string_bytes text ≡ spaced (map shown_address addresses.now)) }
+{
     let mut text = String::new(alloc);
-    for address in addresses {
-        if !text.is_empty() {
+    let mut left = addresses;
+    while let [first, rest @ ..] = left {
+        let one = first.to_string(alloc)?;
+        text.push_str(one.as_str())?;
+        if !rest.is_empty() {
             text.push(' ')?;
         }
-        let one = address.to_string(alloc)?;
-        text.push_str(one.as_str())?;
+        left = rest;
     }
     Ok(text)
 }
@@ -366,10 +403,13 @@ fn run_with_control<R: Records, T: Timer>(
 ) -> (Outcome, R)
     requires members { R.members records ≡ m.members }
     requires here { m.me < m.members }
+    requires is { m.me ≡ words.me }
     requires failed { R.failed records ≡ 0 }
+    requires control { option_map (λ t. t.now) words.control ≡ Some path.now }
     ensures hosted { ComesOpenOr R.Records m records result.0 result.1 }
     ensures ran { IsUnrun R.Records m records result.0 result.1 ⊎
-        RunsHere R.Records m sealing (hears_asks words.entry.key words.entry.control) records result.0 result.1 (λ how.
+        RunsHere R.Records m sealing (hears_asks words.entry.key words.entry.control)
+        (map (λ t. t.now) words.entry.members.now) records result.0 result.1 (λ how.
         OnFront how (MakesTurns words.entry.turns (T.timer_events timer.old) (T.timer_events timer.new))) }
 {
     let wire = match bind(rt, alloc, words) {
@@ -414,12 +454,14 @@ fn run_member_in<R: Records, T: Timer>(
 ) -> (Outcome, R)
     requires members { R.members records ≡ m.members }
     requires here { m.me < m.members }
+    requires is { m.me ≡ words.me }
     requires failed { R.failed records ≡ 0 }
     requires keyed { is_some sealing ≡ is_some words.key }
     ensures hosted { ComesOpenOr R.Records m records result.0 result.1 }
     ensures turns { words.entry.control ≡ None → ComesTo R.Records m records result.0 result.1 }
     ensures ran { IsUnrun R.Records m records result.0 result.1 ⊎
-        RunsHere R.Records m sealing (hears_asks words.entry.key words.entry.control) records result.0 result.1 (λ how.
+        RunsHere R.Records m sealing (hears_asks words.entry.key words.entry.control)
+        (map (λ t. t.now) words.entry.members.now) records result.0 result.1 (λ how.
         OnFront how (MakesTurns words.entry.turns (T.timer_events timer.old) (T.timer_events timer.new))) }
 {
     match words.control {
@@ -433,51 +475,67 @@ fn run_member_in<R: Records, T: Timer>(
 
 /// The run of a member over its record, which is closed, whatever came of it; what a node has committed stands also
 /// where closing fails. A node whose store failed ends with that (70, 72), whoever asked for the change.
-fn run_on(
+fn run_on<D: Databases, T: Timer>(
     rt: &HostRuntime,
+    dbs: &D,
     alloc: Global,
     words: NodeWords<'_, '_, '_>,
     m: Membership,
     records: SqlRecords<FileStore<File>>,
     sealing: Option<Sealing>,
+    timer: &mut T,
 ) -> Outcome
     requires members { ⟦<SqlRecords<FileStore<File>> as Records>⟧.members records ≡ m.members }
     requires here { m.me < m.members }
+    requires is { m.me ≡ words.me }
     requires failed { ⟦<SqlRecords<FileStore<File>> as Records>⟧.failed records ≡ 0 }
     requires keyed { is_some sealing ≡ is_some words.key }
+    ensures ran { EndsAs ⟦<SqlRecords<FileStore<File>> as Records>⟧ m sealing
+        (hears_asks words.entry.key words.entry.control) (map (λ t. t.now) words.entry.members.now) records
+        (λ r. D.closed dbs.now (state ⟦<FileStore<File> as Store>⟧ (connection_of r))) (λ how.
+        OnFront how (MakesTurns words.entry.turns (T.timer_events timer.old) (T.timer_events timer.new))) result }
     ensures why { result ≢ Refused 80 }
     ensures store { (file new : Bool) → IsStoreless file new result }
 {
     say_start(rt, words);
-    let mut timer = TickTimer::new(m.me());
-    let (outcome, records) = run_member_in(rt, alloc, words, m, records, sealing, &mut timer);
+    let (outcome, records) = run_member_in(rt, alloc, words, m, records, sealing, timer);
     let outcome = ending_of(outcome, records.failures());
     say_end(rt, alloc, words, outcome);
-    let _closed = records.release().close();
+    dbs.close(records.release());
     outcome
 }
 
 /// The run of a member over its record, where its packets can be sealed; else the record is closed: 95.
-fn run_sealed(
+fn run_sealed<F: NodeFiles, D: Databases, T: Timer>(
     rt: &HostRuntime,
+    files: &F,
+    dbs: &D,
     alloc: Global,
     words: NodeWords<'_, '_, '_>,
     m: Membership,
     found: Found,
     records: SqlRecords<FileStore<File>>,
     keys: Option<Keys>,
+    timer: &mut T,
 ) -> Outcome
     requires members { ⟦<SqlRecords<FileStore<File>> as Records>⟧.members records ≡ m.members }
     requires here { m.me < m.members }
+    requires is { m.me ≡ words.me }
     requires failed { ⟦<SqlRecords<FileStore<File>> as Records>⟧.failed records ≡ 0 }
     requires keyed { is_some keys ≡ is_some words.key }
+    ensures ran { EndsWith ⟦<SqlRecords<FileStore<File>> as Records>⟧ m keys
+        (F.raises files.now (words.entry.store.now ++ codes "-starts") m.members m.me
+        (is_made words.entry.is_from_file words.entry.is_new found || words.entry.makes_starts))
+        (hears_asks words.entry.key words.entry.control) (map (λ t. t.now) words.entry.members.now) records
+        (λ r. D.closed dbs.now (state ⟦<FileStore<File> as Store>⟧ (connection_of r))) (λ how.
+        OnFront how (MakesTurns words.entry.turns (T.timer_events timer.old) (T.timer_events timer.new))) result }
     ensures ending { result ≢ Refused 80 }
     ensures store { (file new : Bool) → IsStoreless file new result }
 {
-    match sealing_for(rt, alloc, words, m, keys, found) {
-        Ok(sealing) => run_on(rt, alloc, words, m, records, sealing),
+    match sealing_for(rt, files, alloc, words, m, keys, found) {
+        Ok(sealing) => run_on(rt, dbs, alloc, words, m, records, sealing, timer),
         Err(outcome) => {
-            let _closed = records.release().close();
+            dbs.close(records.release());
             outcome
         }
     }
@@ -486,33 +544,63 @@ fn run_sealed(
 /// What a node over a new store comes to: its file of starts is made before its store, so that no store is without one,
 /// and no store is made where its sockets are refused. 95, the store's refusals, 82, 84, and the first refusal of a
 /// turn, in this order.
-fn run_new(
+fn run_new<F: NodeFiles, D: Databases, T: Timer>(
     rt: &HostRuntime,
+    files: &F,
+    dbs: &D,
     alloc: Global,
     words: NodeWords<'_, '_, '_>,
     m: Membership,
     found: Found,
     keys: Option<Keys>,
+    timer: &mut T,
 ) -> Outcome
     requires here { m.me < m.members }
+    requires is { m.me ≡ words.me }
     requires keyed { is_some keys ≡ is_some words.key }
+    ensures ran { EndsNew ⟦<SqlRecords<FileStore<File>> as Records>⟧ m keys
+        (F.raises files.now (words.entry.store.now ++ codes "-starts") m.members m.me
+        (is_made words.entry.is_from_file words.entry.is_new found || words.entry.makes_starts))
+        (hears_asks words.entry.key words.entry.control) (map (λ t. t.now) words.entry.members.now) (λ r. IsKept
+        (D.holds dbs.now words.entry.store.now) (state ⟦<FileStore<File> as Store>⟧ (connection_of r))
+        (λ f db. IsOpened ⟦<FileStore<File> as Store>⟧ r (record_at f db.trees)))
+        (λ r. D.closed dbs.now (state ⟦<FileStore<File> as Store>⟧ (connection_of r))) (λ how.
+        OnFront how (MakesTurns words.entry.turns (T.timer_events timer.old) (T.timer_events timer.new))) result }
     ensures ending { result ≢ Refused 80 }
     ensures store { IsStoreless words.entry.is_from_file words.entry.is_new result }
 {
-    let sealing = match sealing_for(rt, alloc, words, m, keys, found) {
+    let sealing = match sealing_for(rt, files, alloc, words, m, keys, found) {
         Ok(sealing) => sealing,
         Err(outcome) => return outcome,
     };
-    match record_at(rt, alloc, words, m, found) {
-        Ok(records) => run_on(rt, alloc, words, m, records, sealing),
+    match record_at(rt, dbs, alloc, words, m, found) {
+        Ok(records) => run_on(rt, dbs, alloc, words, m, records, sealing, timer),
         Err(outcome) => outcome,
     }
 }
 
-/// What `node` comes to: 40 of its numbers, 83, 93, 94, the store's refusals, 95, 82, 84, and the first refusal of a
-/// turn, in this order.
-pub(crate) fn node_outcome(rt: &HostRuntime, alloc: Global, words: NodeWords<'_, '_, '_>) -> Outcome
+/// The outcome of `node` with this timer, as [`node_outcome`] has it.
+fn run_node<F: NodeFiles, D: Databases, T: Timer>(
+    rt: &HostRuntime,
+    files: &F,
+    dbs: &D,
+    alloc: Global,
+    words: NodeWords<'_, '_, '_>,
+    timer: &mut T,
+) -> Outcome
     ensures place { has_place words.entry.me (length words.entry.members.now) ≡ false → result ≡ Refused 40 }
+    ensures ran { EndsNode ⟦<SqlRecords<FileStore<File>> as Records>⟧
+        (λ m. (m.cluster ≡ words.entry.cluster) × (m.me ≡ words.entry.me) ×
+        (m.members ≡ length words.entry.members.now))
+        (AreNamed (F.makes files.now words.entry.cluster (map (λ t. t.now) words.entry.members.now))
+        (option_map (λ t. t.now) words.entry.key) (option_map (λ t. t.now) words.entry.other_key))
+        (λ m start. (found : Found) × F.raises files.now (words.entry.store.now ++ codes "-starts") m.members m.me
+        (is_made words.entry.is_from_file words.entry.is_new found || words.entry.makes_starts) start)
+        (hears_asks words.entry.key words.entry.control) (map (λ t. t.now) words.entry.members.now) (λ r. IsKept
+        (D.holds dbs.now words.entry.store.now) (state ⟦<FileStore<File> as Store>⟧ (connection_of r))
+        (λ f db. IsOpened ⟦<FileStore<File> as Store>⟧ r (record_at f db.trees)))
+        (λ r. D.closed dbs.now (state ⟦<FileStore<File> as Store>⟧ (connection_of r))) (λ how.
+        OnFront how (MakesTurns words.entry.turns (T.timer_events timer.old) (T.timer_events timer.new))) result }
     ensures ending { result ≢ Refused 80 }
     ensures store { IsStoreless words.entry.is_from_file words.entry.is_new result }
 {
@@ -520,7 +608,7 @@ pub(crate) fn node_outcome(rt: &HostRuntime, alloc: Global, words: NodeWords<'_,
         say_place(rt, words);
         return Outcome::Refused(40);
     };
-    let keys = match keys_for(rt, alloc, words) {
+    let keys = match keys_for(rt, files, alloc, words) {
         Ok(keys) => keys,
         Err(outcome) => return outcome,
     };
@@ -529,10 +617,29 @@ pub(crate) fn node_outcome(rt: &HostRuntime, alloc: Global, words: NodeWords<'_,
         return Outcome::Memory;
     };
     if is_made(words.is_from_file, words.is_new, found) {
-        return run_new(rt, alloc, words, m, found, keys);
+        return run_new(rt, files, dbs, alloc, words, m, found, keys, timer);
     }
-    match record_at(rt, alloc, words, m, found) {
-        Ok(records) => run_sealed(rt, alloc, words, m, found, records, keys),
+    match record_at(rt, dbs, alloc, words, m, found) {
+        Ok(records) => run_sealed(rt, files, dbs, alloc, words, m, found, records, keys, timer),
         Err(outcome) => outcome,
     }
+}
+
+/// What `node` evaluates to: 40 of its numbers, 83, 93, 94, the store's refusals, 95, 82, 84, and the first refusal of
+/// a turn, in this order.
+pub(crate) fn node_outcome(rt: &HostRuntime, alloc: Global, words: NodeWords<'_, '_, '_>) -> Outcome
+    ensures place { has_place words.entry.me (length words.entry.members.now) ≡ false → result ≡ Refused 40 }
+    ensures ran { EndsNode ⟦<SqlRecords<FileStore<File>> as Records>⟧
+        (λ m. (m.cluster ≡ words.entry.cluster) × (m.me ≡ words.entry.me) ×
+        (m.members ≡ length words.entry.members.now))
+        (AreNamed (λ path key. (text : List ℕ) ×
+        IsClusterKey text words.entry.cluster (map (λ t. t.now) words.entry.members.now) key)
+        (option_map (λ t. t.now) words.entry.key) (option_map (λ t. t.now) words.entry.other_key))
+        (λ m. Anything) (hears_asks words.entry.key words.entry.control)
+        (map (λ t. t.now) words.entry.members.now) Anything Anything Anything result }
+    ensures ending { result ≢ Refused 80 }
+    ensures store { IsStoreless words.entry.is_from_file words.entry.is_new result }
+{
+    let mut timer = TickTimer::new(words.me);
+    run_node(rt, rt, rt, alloc, words, &mut timer)
 }

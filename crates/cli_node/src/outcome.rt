@@ -6,7 +6,7 @@ ghost use Rattle.cli_node.specs.Outcomes.{line_of, status_of, Wrote};
 ghost use Rattle.cli_node.specs.inner.Outcomes.{numbered, outcome_of, ending_of, answer_outcome, ended_outcome};
 
 use cli_files::key_text;
-use cli_io::{Status, out_of_memory};
+use cli_io::{Status, out_of_memory, write_bytes};
 use node_loop::Ended;
 use node_udp::AskAnswer;
 use px_replica::NodeFault;
@@ -118,13 +118,14 @@ fn status_of(outcome: Outcome) -> Status
 }
 
 /// Writes the line of an outcome.
+#[tactic(auto, using(crate::proofs::Writing::wrote))]
 pub(crate) fn write_outcome<W: Write>(alloc: Global, outcome: Outcome, writer: &mut W) -> Status
     ensures { Wrote result outcome (W.contents writer.old) (W.contents writer.new) }
 {
     let Ok(line) = line_of(alloc, outcome) else {
         return out_of_memory(writer);
     };
-    match writer.write_all(line.as_bytes()) {
+    match write_bytes(writer, line.as_bytes()) {
         Ok(()) => status_of(outcome),
         Err(_) => Status::Failed,
     }

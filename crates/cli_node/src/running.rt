@@ -32,7 +32,7 @@ fn outcome_of<R: Read>(
         return None;
     };
     match AskWords::of(inner) {
-        Some(words) => Some(ask_outcome(rt, alloc, words, inner, reader)),
+        Some(words) => Some(ask_outcome(rt, *rt, alloc, words, inner, reader)),
         None => None,
     }
 }

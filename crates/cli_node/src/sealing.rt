@@ -1,15 +1,17 @@
 //! How a node's packets are sealed: its keys, and this start of it.
 
-ghost use Rattle.std.specs.Prelude.{◌≡◌, ◌⊎◌, ◌||◌, ◌<◌, Ok, Err, Some, true, OnErr, IfOk, option_map, is_some};
+ghost use Rattle.std.specs.Prelude.{◌≡◌, ◌⊎◌, ◌||◌, ◌<◌, ◌++◌, Ok, Err, Some, true, codes};
+ghost use Rattle.std.specs.Prelude.{OnErr, IfOk, IfSome, option_map, is_some};
 ghost use Rattle.cli_node.specs.declared.outcome.Outcome.TheVariants.{Memory, Refused, Sound};
 ghost use Rattle.cli_node.specs.inner.Stores.{is_made};
 
 use crate::faults::say_unusable;
+use crate::files::NodeFiles;
 use crate::key::Keys;
 use crate::node::NodeWords;
 use crate::outcome::Outcome;
 use crate::store::{Found, is_made};
-use cli_files::{RaiseFault, raise_start, starts_in, starts_path};
+use cli_files::{RaiseFault, starts_in, starts_path};
 use node_loop::Membership;
 use px_packet::Start;
 use std::alloc::Global;
@@ -64,8 +66,9 @@ fn may_make_starts(words: NodeWords<'_, '_, '_>, found: Found) -> bool
 
 /// How a node's packets are sealed with these keys in this start of it, written into the file beside its store first,
 /// where this was found.
-fn sealing_with(
+fn sealing_with<F: NodeFiles>(
     rt: &HostRuntime,
+    files: &F,
     alloc: Global,
     words: NodeWords<'_, '_, '_>,
     m: Membership,
@@ -75,20 +78,24 @@ fn sealing_with(
     requires here { m.me < m.members }
     ensures refused { OnErr result ((result ≡ Err Memory) ⊎ (result ≡ Err (Refused 95))) }
     ensures keys { IfOk result (λ s. option_map (λ x. x.keys) s ≡ Some keys) }
+    ensures start { IfOk result (λ s. IfSome s (λ x. F.raises files.now
+        (words.entry.store.now ++ codes "-starts") m.members m.me
+        (is_made words.entry.is_from_file words.entry.is_new found || words.entry.makes_starts) x.start)) }
     ensures keyed { IfOk result (λ s. is_some s ≡ true) }
 {
     let Ok(path) = starts_path(alloc, words.store) else {
         return Err(Outcome::Memory);
     };
     let may_be_made = may_make_starts(words, found);
-    let raised = raise_start(rt, alloc, path.as_str(), m.members(), m.me(), may_be_made);
+    let raised = files.raise(alloc, path.as_str(), m, may_be_made);
     sealing_of(rt, alloc, path.as_str(), keys, raised)
 }
 
 /// How the node's packets are sealed, where it has keys, and this was found where its store is: 95 where its file of
 /// starts can't be used.
-pub(crate) fn sealing_for(
+pub(crate) fn sealing_for<F: NodeFiles>(
     rt: &HostRuntime,
+    files: &F,
     alloc: Global,
     words: NodeWords<'_, '_, '_>,
     m: Membership,
@@ -98,10 +105,13 @@ pub(crate) fn sealing_for(
     requires here { m.me < m.members }
     ensures refused { OnErr result ((result ≡ Err Memory) ⊎ (result ≡ Err (Refused 95))) }
     ensures keys { IfOk result (λ s. option_map (λ x. x.keys) s ≡ keys) }
+    ensures start { IfOk result (λ s. IfSome s (λ x. F.raises files.now
+        (words.entry.store.now ++ codes "-starts") m.members m.me
+        (is_made words.entry.is_from_file words.entry.is_new found || words.entry.makes_starts) x.start)) }
     ensures keyed { IfOk result (λ s. is_some s ≡ is_some keys) }
 {
     match keys {
-        Some(keys) => sealing_with(rt, alloc, words, m, keys, found),
+        Some(keys) => sealing_with(rt, files, alloc, words, m, keys, found),
         None => Ok(None),
     }
 }

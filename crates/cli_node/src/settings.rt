@@ -109,7 +109,7 @@ fn outcome_for<'g: 'f, 'f>(
         return halved(rt);
     }
     if matches.get_flag("check") {
-        check_outcome(rt, alloc, words)
+        check_outcome(rt, rt, alloc, words)
     } else {
         node_outcome(rt, alloc, words)
     }

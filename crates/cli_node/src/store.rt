@@ -5,14 +5,14 @@ ghost use Rattle.sqlite.specs.Held.{state};
 ghost use Rattle.sqlite.specs.State.{HasCleanDisk};
 ghost use Rattle.px_store.specs.Tables.{no_schema};
 ghost use Rattle.px_store.specs.Formats.{record_at};
-ghost use Rattle.px_store.specs.Adopting.{Began, IsVerdict, IsSame};
+ghost use Rattle.px_store.specs.Adopting.{Began, IsVerdict, IsSame, LeavesOld};
 ghost use Rattle.px_store.specs.View.{connection_of, IsOpened};
 ghost use Rattle.cli_node.specs.declared.outcome.Outcome.TheVariants.{Memory, Refused};
 ghost use Rattle.cli_node.specs.declared.store.TheConstants.{NO_STORE, FILE_IS_THERE};
 ghost use Rattle.cli_node.specs.inner.Outcomes.{adopt_outcome};
-ghost use Rattle.cli_node.specs.inner.Stores.{IsOpening, IsStoreless, IsUnmade, is_made};
+ghost use Rattle.cli_node.specs.inner.Stores.{identity_at, IsKept, IsOpening, IsRefusal, IsStoreless, IsUnmade, is_made};
 
-use crate::database::open_database;
+use crate::database::Databases;
 use crate::faults::{say_closed, say_judged, say_storeless, why_closed};
 use crate::node::NodeWords;
 use crate::outcome::{Outcome, numbered};
@@ -22,6 +22,7 @@ use node_loop::Membership;
 use px_records::Records;
 use px_store::{AdoptFault, Format, Identity, SqlRecords};
 use sqlite::{Alter, Connection, Error, ErrorCode, File, FileStore};
+use sqlite_trees::store::Store;
 use std::alloc::{AllocError, Global};
 use std::fs;
 use std::io::ErrorKind;
@@ -122,7 +123,10 @@ pub(crate) fn untaken<S: Alter>(
     fault: AdoptFault,
     conn: &mut Connection<S>,
 ) -> Outcome
-    ensures { result ≡ adopt_outcome fault }
+    ensures is { result ≡ adopt_outcome fault }
+    ensures clean { HasCleanDisk (state S.Store conn.new) → HasCleanDisk (state S.Store conn.old) }
+    ensures stop { HasCleanDisk (state S.Store conn.new) →
+        LeavesOld (state S.Store conn.old) (state S.Store conn.new) }
 {
     say_judged(rt, path, m, fault, conn);
     adopt_outcome(fault)
@@ -130,9 +134,7 @@ pub(crate) fn untaken<S: Alter>(
 
 /// Whom the store of a member belongs to.
 pub(crate) fn identity_of(m: Membership) -> Identity
-    ensures cluster { result.cluster ≡ m.cluster }
-    ensures members { result.members ≡ m.members }
-    ensures node { result.node ≡ m.me }
+    ensures { result ≡ identity_at m }
 {
     Identity {
         cluster: m.cluster(),
@@ -155,10 +157,16 @@ pub(crate) fn failed_outcome(rt: &HostRuntime, path: &str, error: Error) -> Outc
 }
 
 /// The database in a file.
-fn open_file(rt: &HostRuntime, path: &str) -> Result<Connection<FileStore<File>>, Outcome>
-    ensures { OnErr result ((result ≡ Err Memory) ⊎ (result ≡ Err (Refused 70))) }
+fn open_file<D: Databases>(
+    rt: &HostRuntime,
+    dbs: &D,
+    path: &str,
+) -> Result<Connection<FileStore<File>>, Outcome>
+    ensures refused { OnErr result ((result ≡ Err Memory) ⊎ (result ≡ Err (Refused 70))) }
+    ensures held { IfOk result (λ c.
+        D.holds dbs.now path.now (state ⟦<FileStore<File> as Store>⟧ c).now (state ⟦<FileStore<File> as Store>⟧ c).in_transaction) }
 {
-    match open_database(rt, path) {
+    match dbs.open(path) {
         Ok(conn) => Ok(conn),
         Err(error) => Err(failed_outcome(rt, path, error)),
     }
@@ -187,20 +195,23 @@ fn make_file(rt: &HostRuntime, path: &str, found: Found) -> Result<(), Outcome>
 
 /// The database of a store that is made. Its file is made first (70), and then its node's sockets are tried (82, 84): a
 /// refusal leaves a file without a byte, which is no store.
-fn make_store(
+fn make_store<D: Databases>(
     rt: &HostRuntime,
+    dbs: &D,
     alloc: Global,
     words: NodeWords<'_, '_, '_>,
     found: Found,
 ) -> Result<Connection<FileStore<File>>, Outcome>
-    ensures { IfErr result IsUnmade }
+    ensures refused { IfErr result IsUnmade }
+    ensures held { IfOk result (λ c.
+        D.holds dbs.now words.entry.store.now (state ⟦<FileStore<File> as Store>⟧ c).now (state ⟦<FileStore<File> as Store>⟧ c).in_transaction) }
 {
     match make_file(rt, words.store, found) {
         Ok(()) => {}
         Err(outcome) => return Err(outcome),
     }
     match try_sockets(rt, alloc, words) {
-        Ok(()) => open_file(rt, words.store),
+        Ok(()) => open_file(rt, dbs, words.store),
         Err(outcome) => Err(outcome),
     }
 }
@@ -217,21 +228,25 @@ pub(crate) fn is_made(is_from_file: bool, is_new: bool, found: Found) -> bool
 
 /// The database where a store is named, by what becomes of what is there.
 #[tactic(auto, using(crate::proofs::Stores::by_opening, crate::proofs::Stores::by_file, crate::proofs::Stores::by_making))]
-fn open_store(
+fn open_store<D: Databases>(
     rt: &HostRuntime,
+    dbs: &D,
     alloc: Global,
     words: NodeWords<'_, '_, '_>,
     found: Found,
 ) -> Result<Connection<FileStore<File>>, Outcome>
     ensures refused { IfErr result (IsStoreless words.entry.is_from_file words.entry.is_new) }
+    ensures kind { IfErr result IsRefusal }
+    ensures at { IfOk result (λ c.
+        D.holds dbs.now words.entry.store.now (state ⟦<FileStore<File> as Store>⟧ c).now (state ⟦<FileStore<File> as Store>⟧ c).in_transaction) }
     ensures lost { words.entry.is_from_file ≡ true → words.entry.is_new ≡ false →
         (found ≡ Found.Nothing) ⊎ (found ≡ Found.Empty) → result ≡ Err (Refused NO_STORE) }
     ensures held { words.entry.is_new ≡ true → found ≡ Found.Store → result ≡ Err (Refused FILE_IS_THERE) }
     ensures unfailed { OnErr result (result ≢ Err (Refused 80)) }
 {
     match opening_of(words.is_from_file, words.is_new, found) {
-        Opening::Opens => open_file(rt, words.store),
-        Opening::Makes => make_store(rt, alloc, words, found),
+        Opening::Opens => open_file(rt, dbs, words.store),
+        Opening::Makes => make_store(rt, dbs, alloc, words, found),
         Opening::Refuses(code) => {
             say_storeless(rt, words.store, code);
             Err(Outcome::Refused(code))
@@ -263,8 +278,9 @@ fn record_in<S: Alter>(
 
 /// The record of a member in the store that its words name, where that was found: 93, 94, 70, 73, 72 and 71, in this
 /// order; where it is made 70, 82 and 84.
-pub(crate) fn record_at(
+pub(crate) fn record_at<D: Databases>(
     rt: &HostRuntime,
+    dbs: &D,
     alloc: Global,
     words: NodeWords<'_, '_, '_>,
     m: Membership,
@@ -272,10 +288,13 @@ pub(crate) fn record_at(
 ) -> Result<SqlRecords<FileStore<File>>, Outcome>
     ensures members { IfOk result (λ r. ⟦<SqlRecords<FileStore<File>> as Records>⟧.members r ≡ m.members) }
     ensures begins { IfOk result (λ r. ⟦<SqlRecords<FileStore<File>> as Records>⟧.failed r ≡ 0) }
+    ensures rows { IfOk result (λ r. IsKept (D.holds dbs.now words.entry.store.now)
+        (state ⟦<FileStore<File> as Store>⟧ (connection_of r)) (λ f db. IsOpened ⟦<FileStore<File> as Store>⟧ r (record_at f db.trees))) }
     ensures refused { IfErr result (IsStoreless words.entry.is_from_file words.entry.is_new) }
+    ensures kind { IfErr result IsRefusal }
     ensures unfailed { OnErr result (result ≢ Err (Refused 80)) }
 {
-    let conn = match open_store(rt, alloc, words, found) {
+    let conn = match open_store(rt, dbs, alloc, words, found) {
         Ok(conn) => conn,
         Err(outcome) => return Err(outcome),
     };

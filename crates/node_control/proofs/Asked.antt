@@ -15,7 +15,8 @@ use Rattle.node_requests.specs.declared.handler.RequestHandler.{RequestHandler}
 use Rattle.node_requests.specs.declared.request.Request.{Request}
 use Rattle.node_requests.specs.declared.request.Request.TheVariants as request
 use Rattle.node_requests.specs.declared.counters.Counters.{Counters}
-use Rattle.node_control.specs.inner.Handling.{is_change}
+use Rattle.node_control.specs.inner.Handling.{is_change, IsKept}
+use Rattle.node_control.specs.inner.Observing.{AreKept}
 use Rattle.node_control.specs.inner.Runs.{AsksWithin, ServesFigures}
 use Rattle.node_control.specs.declared.service.HttpService.{HttpService}
 
@@ -100,3 +101,44 @@ figures_turned c d same scraped = record { still = λ h. same; scraped = scraped
 pub figures_then : {R : Type 0} {G : Ghosts R} (c d e : HttpService R G) → ServesFigures c d → ServesFigures d e → ServesFigures c e
 figures_then c d e a b =
     record { still = λ h. b.still (a.scraped ∙ h) ∙ a.still h; scraped = b.scraped ∙ a.scraped }
+
+-- ---- what the loop says of the node
+
+same_counters : (t u : Counters) → u ≡ t → AreKept t u
+same_counters t u e = record {
+  up = ap (λ (k : Counters). k.up) e;
+  peers = ap (λ (k : Counters). k.peers) e;
+  stood = ap (λ (k : Counters). k.stood) e;
+  outrun = ap (λ (k : Counters). k.outrun) e;
+  large = ap (λ (k : Counters). k.large) e;
+  members = ap (λ (k : Counters). k.members) e;
+  unsent = ap (λ (k : Counters). k.unsent) e;
+  dropped = ap (λ (k : Counters). k.dropped) e;
+  ignored = ap (λ (k : Counters). k.ignored) e;
+  turns = ap (λ (k : Counters). k.turns) e;
+  ticks = ap (λ (k : Counters). k.ticks) e;
+}
+
+counted_then : (s t u : Counters) → AreKept s t → AreKept t u → AreKept s u
+counted_then s t u a b = record {
+  up = b.up ∙ a.up;
+  peers = b.peers ∙ a.peers;
+  stood = b.stood ∙ a.stood;
+  outrun = b.outrun ∙ a.outrun;
+  large = b.large ∙ a.large;
+  members = b.members ∙ a.members;
+  unsent = b.unsent ∙ a.unsent;
+  dropped = b.dropped ∙ a.dropped;
+  ignored = b.ignored ∙ a.ignored;
+  turns = b.turns ∙ a.turns;
+  ticks = b.ticks ∙ a.ticks;
+}
+
+pub kept_same : {R : Type 0} {G : Ghosts R} (c d : HttpService R G) → d.is_listening ≡ c.is_listening → d.counters ≡ c.counters → IsKept c d
+kept_same c d l e = record { listening = l; counted = same_counters c.counters d.counters e }
+
+pub kept_then : {R : Type 0} {G : Ghosts R} (c d e : HttpService R G) → IsKept c d → IsKept d e → IsKept c e
+kept_then c d e a b = record {
+  listening = b.listening ∙ a.listening;
+  counted = counted_then c.counters d.counters e.counters a.counted b.counted;
+}

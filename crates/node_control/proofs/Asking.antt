@@ -9,10 +9,10 @@ use Rattle.node_requests.specs.Routing.{RoutedValue, Asked, Refused, Unread}
 use Rattle.node_requests.specs.declared.handler.RequestHandler.{RequestHandler}
 use Rattle.node_requests.specs.declared.request.Request as asked
 use Rattle.node_control.specs.inner.Asking.{asked_for}
-use Rattle.node_control.specs.inner.Handling.{IsHandled, IsTurnedAway, HandledAs, HandledIf, PassedOnIf, is_asked, is_served}
+use Rattle.node_control.specs.inner.Handling.{IsHandled, IsKept, IsTurnedAway, HandledAs, HandledIf, PassedOnIf, is_asked, is_served}
 use Rattle.node_control.specs.inner.Runs.{AsksWithin, ServesFigures}
 use Rattle.node_control.specs.declared.service.HttpService.{HttpService}
-use Rattle.node_control.proofs.Asked.{turned, answered, within_then, figures_turned, figures_then}
+use Rattle.node_control.proofs.Asked.{turned, answered, within_then, figures_turned, figures_then, kept_same, kept_then}
 
 away : {R : Type 0} {G : Ghosts R} (c d : HttpService R G) (a : AnswerValue) (r : Response) → IsTurnedAway c d a r → AsksWithin c d
 away c d a r t = turned c d t.still t.left
@@ -54,3 +54,12 @@ figures_chained {R} {G} answers are c d [] e =
     figures_turned c d (ap (λ (k : HttpService R G). k.handler) e) (ap (λ (k : HttpService R G). k.is_scraped) e)
 figures_chained answers are c d (k ∷ calls) (next, one, rest) =
     figures_then c next d (are c next k.0 k.1 one) (figures_chained answers are next d calls rest)
+
+-- and what the loop says of the node
+pub kept_chained : {R : Type 0} {G : Ghosts R} (answers : HttpService R G → Request (List ℕ) → Response → HttpService R G → Type 0) →
+    ((c d : HttpService R G) (q : Request (List ℕ)) (r : Response) → answers c q r d → IsKept c d) →
+    (c d : HttpService R G) (calls : List Call) → Chain answers c calls d → IsKept c d
+kept_chained {R} {G} answers are c d [] e =
+    kept_same c d (ap (λ (k : HttpService R G). k.is_listening) e) (ap (λ (k : HttpService R G). k.counters) e)
+kept_chained answers are c d (k ∷ calls) (next, one, rest) =
+    kept_then c next d (are c next k.0 k.1 one) (kept_chained answers are next d calls rest)

@@ -22,7 +22,7 @@ use Rattle.px_transport.specs.declared.packet_wire.PacketWire.{PacketWire}
 use Rattle.node_loop.specs.Lives.{HostedRuns, HostedRunsAreLived, LivedOver}
 use Rattle.node_loop.specs.Living.{trace_of, AllFromMembers}
 use Rattle.node_loop.specs.declared.ended.Ended.{Ended}
-use Rattle.node_udp.specs.Members.{peers_of, me_of, socket_of}
+use Rattle.node_udp.specs.Members.{peers_of, me_of, route_of, socket_of}
 use Rattle.node_udp.specs.Sockets as sockets
 use Rattle.node_udp.specs.Sockets.{SocketEvent, WentOver}
 use Rattle.node_udp.specs.declared.socket.Socket as socket
@@ -146,7 +146,7 @@ pub runs_at : {R S C : Type 0} (G : Ghosts R) (H : socket.Ghosts S) → Settles 
     (given back : R) (ended : Ended) (wire : UdpWire S C) → G.is_honest back → G.failed given ≡ 0 →
     WentLooped (λ (u : UdpWire S C). WentOver (H.traffic (socket_of u)) u) m.me wire (λ es. HostedRuns G m hears given [] es ended back) →
     (events : List SocketEvent) × H.traffic (socket_of wire) events ×
-    RunsAtHearing G m hears given back events
+    RunsAtHearing G m hears (route_of (peers_of wire) (me_of wire)) given back events
 runs_at {R} {S} {C} G H settles law m hears given back ended wire honest fresh (w, es, is, me, looped, hosted) =
     let r = runs_over G settles law m hears given back es ended honest fresh hosted in
     let o = looped.below_is in
@@ -172,6 +172,7 @@ runs_at {R} {S} {C} G H settles law m hears given back ended wire honest fresh (
           leaves = r.leaves;
         },
         r.members,
+        ap (λ (u : UdpWire S C). route_of (peers_of u) (me_of u)) is,
       ),
     )
 
@@ -181,7 +182,8 @@ pub runs_sealed : {R S C D : Type 0} (G : Ghosts R) (H : socket.Ghosts S) → Se
     WentLooped (λ (p : PacketWire (UdpWire S C) D). WentSealed (WentOver (H.traffic (socket_of (wiring.inner_of p))) (wiring.inner_of p)) p)
     m.me wire (λ es. HostedRuns G m hears given [] es ended back) →
     (events : List SocketEvent) × H.traffic (socket_of (wiring.inner_of wire)) events ×
-    RunsSealedHearing G m hears (wiring.keys_of wire) (wiring.sealer_of wire) given back events
+    RunsSealedHearing G m hears (route_of (peers_of (wiring.inner_of wire)) (me_of (wiring.inner_of wire)))
+    (wiring.keys_of wire) (wiring.sealer_of wire) given back events
 runs_sealed {R} {S} {C} {D} G H settles are_steps law m hears given back ended wire honest fresh (w, es, is, me, looped, hosted) =
     let r = runs_over G settles law m hears given back es ended honest fresh hosted in
     let p = loopback.below_of w in
@@ -192,20 +194,24 @@ runs_sealed {R} {S} {C} {D} G H settles are_steps law m hears given back ended w
     let own = subst (λ (fs : List WireEvent). AllRanAbove (group m) m.me (G.stored given) fs r.trace r.end r.unanswered) (sym made.2)
     (above (group m) m.me (G.stored given) (WentSealed (WentOver (H.traffic (socket_of (wiring.inner_of p))) (wiring.inner_of p)) p)
     w es r.trace r.end r.unanswered looped me r.ran) in
-    let all = subst (λ (u : PacketWire (UdpWire S C) D). AllRanSealed (group m) (wiring.keys_of u) (wiring.sealer_of u) m.me (G.stored given)
-    events r.trace r.end r.unanswered) is (
-      record {
-        addresses = peers_of (wiring.inner_of p);
-        me = me_of (wiring.inner_of p);
-        passages = o.passages;
-        sound = o.sound;
-        below_is = refl;
-        made = made.0;
-        packets_are = made.1 ∙ o.above_is;
-        are = made.3;
-        ran = own.0;
-      },
-      own.1,
+    let all = subst (λ (u : PacketWire (UdpWire S C) D). (a : AllRanSealed (group m) (wiring.keys_of u) (wiring.sealer_of u) m.me
+    (G.stored given) events r.trace r.end r.unanswered) ×
+    (route_of a.0.addresses a.0.me ≡ route_of (peers_of (wiring.inner_of u)) (me_of (wiring.inner_of u)))) is (
+      (
+        record {
+          addresses = peers_of (wiring.inner_of p);
+          me = me_of (wiring.inner_of p);
+          passages = o.passages;
+          sound = o.sound;
+          below_is = refl;
+          made = made.0;
+          packets_are = made.1 ∙ o.above_is;
+          are = made.3;
+          ran = own.0;
+        },
+        own.1,
+      ),
+      refl,
     ) in (
       events,
       subst (λ (u : PacketWire (UdpWire S C) D). H.traffic (socket_of (wiring.inner_of u)) events) is o.below_is,
@@ -214,21 +220,28 @@ runs_sealed {R} {S} {C} {D} G H settles are_steps law m hears given back ended w
           trace = r.trace;
           end = r.end;
           unanswered = r.unanswered;
-          ran = all.0;
-          whole = all.1;
+          ran = all.0.0;
+          whole = all.0.1;
           leaves = r.leaves;
         },
         r.members,
+        all.1,
       ),
     )
 
--- with the keys and the sealer of another wire, which are the same
+-- with the addresses of another wire, which are the same
+pub runs_at_by : {R : Type 0} (G : Ghosts R) (m : Membership) (hears : Bool) (given back : R) (events : List SocketEvent)
+    (x y : List (List ℕ) × ℕ) → x ≡ y → RunsAtHearing G m hears x given back events → RunsAtHearing G m hears y given back events
+runs_at_by G m hears given back events x y e r = subst (λ (z : List (List ℕ) × ℕ). RunsAtHearing G m hears z given back events) e r
+
+-- the same, with the keys and the sealer too
 pub runs_sealed_by : {R : Type 0} (G : Ghosts R) (m : Membership) (hears : Bool) (given back : R) (events : List SocketEvent)
-    (keys keys' : List (List ℕ)) (s s' : Sealer) → keys ≡ keys' → s ≡ s' → RunsSealedHearing G m hears keys s given back events →
-    RunsSealedHearing G m hears keys' s' given back events
-runs_sealed_by G m hears given back events keys keys' s s' e f r =
-    subst (λ (t : Sealer). RunsSealedHearing G m hears keys' t given back events) f
-    (subst (λ (ks : List (List ℕ)). RunsSealedHearing G m hears ks s given back events) e r)
+    (x y : List (List ℕ) × ℕ) (keys keys' : List (List ℕ)) (s s' : Sealer) → x ≡ y → keys ≡ keys' → s ≡ s' →
+    RunsSealedHearing G m hears x keys s given back events → RunsSealedHearing G m hears y keys' s' given back events
+runs_sealed_by G m hears given back events x y keys keys' s s' d e f r =
+    subst (λ (t : Sealer). RunsSealedHearing G m hears y keys' t given back events) f
+    (subst (λ (ks : List (List ℕ)). RunsSealedHearing G m hears y ks s given back events) e
+    (subst (λ (z : List (List ℕ) × ℕ). RunsSealedHearing G m hears z keys s given back events) d r))
 
 -- ---- whose wire it is
 
@@ -240,6 +253,12 @@ me_is m k i j e = some_is m k (ap (λ (x : Identity). x.me) e)
 
 pub below_is : (m k : ℕ) (i j : Identity) → with_me m i ≡ with_me k j → i.sealing ≡ j.sealing
 below_is m k i j e = ap (λ (x : Identity). x.sealing) e
+
+pub route_below : (m k : ℕ) (i j : Identity) → with_me m i ≡ with_me k j → i.route ≡ j.route
+route_below m k i j e = ap (λ (x : Identity). x.route) e
+
+pub route_is : (x y : List (List ℕ) × ℕ) → ◌≡◌ {A = Option (List (List ℕ) × ℕ)} (Some x) (Some y) → x ≡ y
+route_is x y e = some_is {X = List (List ℕ) × ℕ} x y e
 
 pub sealing_is : (keys keys' : List (List ℕ)) (s s' : Sealer) →
     ◌≡◌ {A = Option (List (List ℕ) × Sealer)} (Some (keys, s)) (Some (keys', s')) → (keys ≡ keys') × (s ≡ s')

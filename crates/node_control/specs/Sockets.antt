@@ -16,6 +16,7 @@ use Rattle.px_transport.specs.Steps as steps
 use Rattle.px_transport.specs.Steps.{Step, AreSteps}
 use Rattle.node_loop.specs.Again.{AreAmong}
 use Rattle.node_loop.specs.Living.{Move, LeavesThere, trace_of, events_of, sent_by, AllFromMembers, AreMoves}
+use Rattle.node_udp.specs.Members.{route_of}
 use Rattle.node_udp.specs.Sockets as sockets
 use Rattle.node_udp.specs.Sockets.{SocketEvent, Passage, IsSound}
 use Rattle.node_udp.specs.declared.address.Address.{Address}
@@ -106,14 +107,17 @@ pub record RunsSealed {R : Type 0} (G : Ghosts R) (m : Membership) (keys : List 
 
 -- ---- asks from outside
 
--- A run without a key. Where asks from outside aren't heard, no step is for one.
-abbrev pub RunsAtHearing : {R : Type 0} → Ghosts R → Membership → (hears : Bool) → (given back : R) →
-    List SocketEvent → Type 0
-RunsAtHearing G m hears given back events =
+-- A run without a key, of which what is sent goes to these addresses, as this member's. Where asks from outside aren't
+-- heard, no step is for one.
+abbrev pub RunsAtHearing : {R : Type 0} → Ghosts R → Membership → (hears : Bool) → (route : List (List ℕ) × ℕ) →
+    (given back : R) → List SocketEvent → Type 0
+RunsAtHearing G m hears route given back events =
     (run : RunsAt G m given back events) × (hears ≡ false → AllFromMembers run.trace)
+    × (route_of run.ran.addresses run.ran.me ≡ route)
 
 -- the same with a key
-abbrev pub RunsSealedHearing : {R : Type 0} → Ghosts R → Membership → (hears : Bool) → (keys : List (List ℕ)) →
-    Sealer → (given back : R) → List SocketEvent → Type 0
-RunsSealedHearing G m hears keys s given back events =
+abbrev pub RunsSealedHearing : {R : Type 0} → Ghosts R → Membership → (hears : Bool) → (route : List (List ℕ) × ℕ) →
+    (keys : List (List ℕ)) → Sealer → (given back : R) → List SocketEvent → Type 0
+RunsSealedHearing G m hears route keys s given back events =
     (run : RunsSealed G m keys s given back events) × (hears ≡ false → AllFromMembers run.trace)
+    × (route_of run.ran.addresses run.ran.me ≡ route)

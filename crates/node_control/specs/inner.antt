@@ -5,6 +5,9 @@ pub mod Looping
 pub mod Runs
 pub mod Watching
 pub mod Rows
+pub mod Clients
+pub mod Hearing
+pub mod Observing
 pub mod Answering
 pub mod Ending
 pub mod Serving

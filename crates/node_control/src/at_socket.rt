@@ -1,12 +1,11 @@
 //! A member's run at its socket.
 
 ghost use Rattle.std.specs.Prelude.{◌≡◌, ◌<◌, [], List, None};
-ghost use Rattle.px_transport.specs.Loopback.{me_of};
 ghost use Rattle.px_transport.specs.Wires.{WireEvent};
 ghost use Rattle.px_transport.specs.Wiring.{WentSealed, inner_of, keys_of, sealer_of};
 ghost use Rattle.node_loop.specs.Lives.{HostedRuns, OnFront, Runs};
 ghost use Rattle.node_loop.specs.Timing.{MakesTurns};
-ghost use Rattle.node_udp.specs.Members.{socket_of};
+ghost use Rattle.node_udp.specs.Members.{me_of, peers_of, route_of, socket_of};
 ghost use Rattle.node_udp.specs.Sockets.{SocketEvent, WentOver};
 ghost use Rattle.node_control.specs.Sockets.{RunsAtHearing, RunsSealedHearing};
 ghost use Rattle.node_control.specs.inner.Looping.{WentLooped};
@@ -49,6 +48,7 @@ where
         (λ es. Runs R.Records m records [] es result.0 result.1) }
     ensures made { OnFront result.0 (MakesTurns turns (T.timer_events timer.old) (T.timer_events timer.new)) }
     ensures same { (W.identity result.2).sealing ≡ (W.identity wire).sealing }
+    ensures route { (W.identity result.2).route ≡ (W.identity wire).route }
 {
     let mut wire = LoopbackWire::new(alloc, wire, m.me());
     let (ended, records) = run_member(
@@ -80,7 +80,7 @@ where
     requires here { m.me < m.members }
     ensures ran { WentOver (S.traffic (socket_of wire)) wire [] → R.is_honest result.1 → R.failed records ≡ 0 →
         (events : List SocketEvent) × S.traffic (socket_of result.2) events ×
-        RunsAtHearing R.Records m hears_asks records result.1 events }
+        RunsAtHearing R.Records m hears_asks (route_of (peers_of wire) (me_of wire)) records result.1 events }
     ensures hosted { WentOver (S.traffic (socket_of wire)) wire [] → (events : List WireEvent) ×
         HostedRuns R.Records m hears_asks records [] events result.0 result.1 }
     ensures turns { place.entry ≡ None → WentOver (S.traffic (socket_of wire)) wire [] → (events : List WireEvent) ×
@@ -117,7 +117,8 @@ where
     ensures ran { WentSealed (WentOver (S.traffic (socket_of (inner_of wire))) (inner_of wire)) wire [] →
         R.is_honest result.1 → R.failed records ≡ 0 →
         (events : List SocketEvent) × S.traffic (socket_of (inner_of result.2)) events ×
-        RunsSealedHearing R.Records m hears_asks (keys_of wire) (sealer_of wire) records result.1 events }
+        RunsSealedHearing R.Records m hears_asks (route_of (peers_of (inner_of wire)) (me_of (inner_of wire)))
+        (keys_of wire) (sealer_of wire) records result.1 events }
     ensures hosted { WentSealed (WentOver (S.traffic (socket_of (inner_of wire))) (inner_of wire)) wire [] →
         (events : List WireEvent) × HostedRuns R.Records m hears_asks records [] events result.0 result.1 }
     ensures turns { place.entry ≡ None →

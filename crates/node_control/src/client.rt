@@ -1,7 +1,9 @@
 //! A client: a connection over which requests come.
 
-ghost use Rattle.std.specs.Prelude.{◌≡◌, IfSome};
+ghost use Rattle.std.specs.Prelude.{◌≡◌, ◌≢◌, ◌⊎◌, ◌+◌, ◌&&◌, Some, None, true, false, not, min, nat_lt, IfSome, if◌then◌else◌};
+ghost use Rattle.http_server.specs.Connection.{config_of};
 ghost use Rattle.http_server.specs.Exchange.{Calls};
+ghost use Rattle.node_control.specs.inner.Clients.{IsDoneThere, idle_since, is_late, is_quiet, is_spent};
 ghost use Rattle.node_control.specs.inner.Ending.{has_more};
 ghost use Rattle.node_control.specs.inner.Serving.{calls_of, HasServed};
 
@@ -59,7 +61,10 @@ fn is_waiting(error: &io::Error) -> bool {
 
 impl Client {
     /// A client that asks over the stream, which doesn't wait.
-    pub(crate) fn new(alloc: Global, keys: RandomState, stream: Stream, now: u64) -> Client {
+    pub(crate) fn new(alloc: Global, keys: RandomState, stream: Stream, now: u64) -> Client
+        ensures times { (result.moved ≡ now) × (result.began ≡ Some now) × (result.served ≡ 0) }
+        ensures body { (config_of result.connection).max_body_len ≡ BODY }
+    {
         let config = Config {
             max_body_len: BODY,
             max_pending: 0,
@@ -77,7 +82,9 @@ impl Client {
 
     /// Since when it has done nothing for its client, in microseconds: since a request has been coming, or else since
     /// it moved a byte last.
-    pub(crate) fn idle_since(&self) -> u64 {
+    pub(crate) fn idle_since(&self) -> u64
+        ensures { result ≡ idle_since self.now }
+    {
         self.began.unwrap_or(self.moved)
     }
 
@@ -107,7 +114,9 @@ impl Client {
 
     /// Reads once, if anything has come: whether bytes were moved, and none where the client is let go.
     fn read(&mut self) -> Option<bool>
-        ensures { calls_of self.new ≡ calls_of self.old }
+        ensures calls { calls_of self.new ≡ calls_of self.old }
+        ensures times { (self.new.moved ≡ self.old.moved) × (self.new.began ≡ self.old.began)
+            × (self.new.served ≡ self.old.served) }
     {
         if !self.connection.wants_read() {
             return Some(false);
@@ -128,6 +137,8 @@ impl Client {
     fn write(&mut self) -> Option<bool>
         ensures calls { calls_of self.new ≡ calls_of self.old }
         ensures served { HasServed self.old → HasServed self.new }
+        ensures times { (self.new.moved ≡ self.old.moved) × (self.new.began ≡ self.old.began)
+            × (self.new.served ≡ self.old.served) }
     {
         if !self.connection.wants_write() {
             return Some(false);
@@ -145,7 +156,9 @@ impl Client {
     }
 
     /// Whether a request has been coming for too long.
-    fn is_late(&self, now: u64) -> bool {
+    fn is_late(&self, now: u64) -> bool
+        ensures { result ≡ is_late now self.now }
+    {
         match self.began {
             Some(began) => now > began.saturating_add(COMING),
             None => false,
@@ -153,7 +166,14 @@ impl Client {
     }
 
     /// Whether there is nothing more to be done here.
-    fn is_over(&self, now: u64) -> bool {
+    fn is_over(&self, now: u64) -> bool
+        ensures late { is_late now self.now ≡ true → result ≡ true }
+        ensures quiet { is_quiet now self.now ≡ true → result ≡ true }
+        ensures spent { is_spent self.now ≡ true → result ≡ true }
+        ensures done { IsDoneThere self.now → result ≡ true }
+        ensures why { is_late now self.now ≡ false → is_quiet now self.now ≡ false → is_spent self.now ≡ false →
+            result ≡ true → IsDoneThere self.now }
+    {
         self.connection.is_done()
             || self.is_late(now)
             || now > self.moved.saturating_add(QUIET)
@@ -161,7 +181,16 @@ impl Client {
     }
 
     /// What became of the client, where bytes were moved or a request was answered, or neither.
-    pub(crate) fn looked(&mut self, has_moved: bool, now: u64) -> Look {
+    pub(crate) fn looked(&mut self, has_moved: bool, now: u64) -> Look
+        ensures moved { self.new ≡ (if has_moved then record self.old { moved = now } else self.old) }
+        ensures late { is_late now self.new ≡ true → result ≡ Look.Left }
+        ensures quiet { is_quiet now self.new ≡ true → result ≡ Look.Left }
+        ensures spent { is_spent self.new ≡ true → result ≡ Look.Left }
+        ensures left { is_late now self.new ≡ false → is_quiet now self.new ≡ false → is_spent self.new ≡ false →
+            result ≡ Look.Left → IsDoneThere self.new }
+        ensures busy { result ≡ Look.Busy → has_moved ≡ true }
+        ensures still { result ≡ Look.Quiet → has_moved ≡ false }
+    {
         if has_moved {
             self.moved = now;
         }
@@ -176,6 +205,9 @@ impl Client {
     pub(crate) fn answer<S: Service>(&mut self, service: &mut S, now: u64) -> Option<bool>
         ensures calls { Calls S.answers service.old service.new (calls_of self.old) (calls_of self.new) }
         ensures served { IfSome result (λ _. HasServed self.new) }
+        ensures times { (self.new.moved ≡ self.old.moved) × (self.new.served ≡ self.old.served) }
+        ensures began { (self.new.began ≡ self.old.began)
+            ⊎ ((self.old.began ≡ None) × (self.new.began ≡ Some now)) }
     {
         let has_read = self.read()?;
         if has_read && self.began.is_none() {
@@ -187,13 +219,17 @@ impl Client {
     }
 
     /// A request was answered.
-    pub(crate) fn note_answer(&mut self) {
+    pub(crate) fn note_answer(&mut self)
+        ensures { self.new ≡ record self.old { served = min (self.old.served + 1) 4294967295; began = None } }
+    {
         self.served = self.served.saturating_add(1);
         self.began = None;
     }
 
     /// Whether it has an answer, and all of it was sent.
-    pub(crate) fn is_served(&self) -> bool {
+    pub(crate) fn is_served(&self) -> bool
+        ensures { result ≡ (nat_lt 0 self.now.served && not (has_more self.now)) }
+    {
         self.served > 0 && !self.connection.wants_write()
     }
 }

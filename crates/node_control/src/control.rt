@@ -1,10 +1,13 @@
 //! The control socket: a Unix socket, for figures alone a TCP port too, and the clients of both.
 
-ghost use Rattle.std.specs.Prelude.{◌≡◌, true};
+ghost use Rattle.std.specs.Prelude.{◌≡◌, ◌<◌, ◌&&◌, length, nat_le, not, true, Some, None, unwrap_or, if◌then◌else◌};
+ghost use Rattle.node_requests.specs.Health.{health};
 ghost use Rattle.std.specs.List.{list_any};
 ghost use Rattle.node_loop.specs.Hosting.{AsksUpTo};
 ghost use Rattle.node_control.specs.declared.control.TheConstants.{CHANGES};
+ghost use Rattle.node_control.specs.inner.Clients.{earliest, has_room, most_silent, without};
 ghost use Rattle.node_control.specs.inner.Ending.{has_more, has_more_to_send};
+ghost use Rattle.node_control.specs.inner.Handling.{IsKept};
 ghost use Rattle.node_control.specs.inner.Runs.{AsksWithin, ServesFigures};
 
 use crate::client::{Client, Look};
@@ -178,6 +181,17 @@ fn watch(poll: &Poll, fd: RawFd) -> io::Result<()> {
     )
 }
 
+/// Since when the client has been left alone that has been for the longest time.
+fn earliest(clients: &[Client]) -> u64
+    ensures { result ≡ earliest 18446744073709551615 clients.now }
+{
+    let mut first = u64::MAX;
+    for client in clients {
+        first = first.min(client.idle_since());
+    }
+    first
+}
+
 impl Entrance {
     /// An entrance for the given number of clients.
     fn new(
@@ -205,22 +219,22 @@ impl Entrance {
     }
 
     /// The client whose request has been coming for the longest time, or that has moved no byte for so long.
-    fn most_silent(&self) -> usize {
-        let mut place = 0;
-        let mut since = u64::MAX;
-        for i in 0..self.clients.len() {
-            if let Some(client) = self.clients.get(i) {
-                if client.idle_since() < since {
-                    since = client.idle_since();
-                    place = i;
-                }
-            }
-        }
-        place
+    fn most_silent(&self) -> usize
+        ensures { result ≡ most_silent self.now.clients.items }
+    {
+        let first = earliest(self.clients.as_slice());
+        self.clients
+            .iter()
+            .take_while(|client| client.idle_since() != first)
+            .count()
     }
 
     /// Closes the connection that is silent longest.
-    fn dismiss_silent(&mut self) {
+    fn dismiss_silent(&mut self)
+        ensures clients { 0 < length self.old.clients.items →
+            self.new.clients.items ≡ without (most_silent self.old.clients.items) self.old.clients.items }
+        ensures most { self.new.most ≡ self.old.most }
+    {
         let place = self.most_silent();
         if place < self.clients.len() {
             let _silent = self.clients.remove(place);
@@ -228,7 +242,9 @@ impl Entrance {
     }
 
     /// Whether there is room for a client, or one is silent and is to go for whoever comes.
-    fn has_room(&self, now: u64) -> bool {
+    fn has_room(&self, now: u64) -> bool
+        ensures { result ≡ has_room now self.now.most self.now.clients.items }
+    {
         self.clients.len() <= self.most
             || match self.clients.get(self.most_silent()) {
                 Some(client) => now > client.idle_since().saturating_add(SILENT),
@@ -270,6 +286,7 @@ impl Entrance {
         ensures handler { service.new.handler ≡ service.old.handler }
         ensures left { service.new.changes_left ≡ service.old.changes_left }
         ensures scraped { service.new.is_scraped ≡ service.old.is_scraped }
+        ensures kept { IsKept service.old service.new }
     {
         if place >= self.clients.len() {
             return;
@@ -285,6 +302,7 @@ impl Entrance {
     fn look_at<R: Records>(&mut self, place: usize, service: &mut HttpService<R>, now: u64) -> Look
         ensures asks { AsksWithin service.old service.new }
         ensures figures { ServesFigures service.old service.new }
+        ensures kept { IsKept service.old service.new }
     {
         let Some(client) = self.clients.get_mut(place) else {
             return Look::Quiet;
@@ -308,6 +326,7 @@ impl Entrance {
     fn look<R: Records>(&mut self, service: &mut HttpService<R>, now: u64) -> Look
         ensures asks { AsksWithin service.old service.new }
         ensures figures { ServesFigures service.old service.new }
+        ensures kept { IsKept service.old service.new }
     {
         if self.next >= self.clients.len() {
             self.next = 0;
@@ -333,6 +352,7 @@ impl Entrance {
     ) -> bool
         ensures asks { AsksWithin service.old service.new }
         ensures figures { is_scraped ≡ true → service.new.handler ≡ service.old.handler }
+        ensures kept { IsKept service.old service.new }
     {
         service.is_scraped = is_scraped;
         let mut is_busy = self.take_in(poll, now);
@@ -420,16 +440,29 @@ impl ControlSocket {
         let _woken = self.poll.poll(&mut self.events, Some(timeout));
     }
 
+    /// The node's health, if it is to be said, since it is another than was said last: then it is noted.
+    fn changed<R: Records>(&mut self, service: &HttpService<R>) -> Option<Health>
+        ensures said { result ≡ (if not (⟦<Health as PartialEq>⟧.eq
+            (health service.now.handler.node service.now.counters) self.old.health) && nat_le START service.now.counters.up
+            then Some (health service.now.handler.node service.now.counters) else None) }
+        ensures noted { self.new ≡ record self.old { health = unwrap_or result self.old.health } }
+    {
+        let health = service.handler.health(&service.counters);
+        if health == self.health || service.counters.up < START {
+            return None;
+        }
+        self.health = health;
+        Some(health)
+    }
+
     /// Says on standard error that the node's health has changed, if it has.
     pub(crate) fn note<R: Records, RT: Clock + Eprint>(
         &mut self,
         rt: &RT,
         service: &HttpService<R>,
     ) {
-        let health = service.handler.health(&service.counters);
-        if health != self.health && service.counters.up >= START {
+        if let Some(health) = self.changed(service) {
             say(rt, service, health);
-            self.health = health;
         }
     }
 
@@ -442,6 +475,7 @@ impl ControlSocket {
     fn serve_figures<R: Records>(&mut self, service: &mut HttpService<R>, now: u64) -> bool
         ensures asks { AsksWithin service.old service.new }
         ensures figures { service.new.handler ≡ service.old.handler }
+        ensures kept { IsKept service.old service.new }
     {
         match &mut self.figures {
             Some(figures) => figures.serve(&self.poll, service, true, now),
@@ -451,7 +485,8 @@ impl ControlSocket {
 
     /// Serves the clients of figures, and operators where nothing was done there.
     fn figures_first<R: Records>(&mut self, service: &mut HttpService<R>, now: u64) -> bool
-        ensures { AsksWithin service.old service.new }
+        ensures asks { AsksWithin service.old service.new }
+        ensures kept { IsKept service.old service.new }
     {
         if self.serve_figures(service, now) {
             return true;
@@ -461,7 +496,8 @@ impl ControlSocket {
 
     /// Serves operators, and the clients of figures where nothing was done there.
     fn operators_first<R: Records>(&mut self, service: &mut HttpService<R>, now: u64) -> bool
-        ensures { AsksWithin service.old service.new }
+        ensures asks { AsksWithin service.old service.new }
+        ensures kept { IsKept service.old service.new }
     {
         if self.operators.serve(&self.poll, service, false, now) {
             return true;
@@ -472,7 +508,8 @@ impl ControlSocket {
     /// Serves clients between two rounds of the node, operators and the clients of figures first in turn: some
     /// changes are asked, or one other request is worked at. Whether anything was done.
     pub(crate) fn serve<R: Records>(&mut self, service: &mut HttpService<R>, now: u64) -> bool
-        ensures { AsksUpTo CHANGES service.old.handler.node service.new.handler.node }
+        ensures asks { AsksUpTo CHANGES service.old.handler.node service.new.handler.node }
+        ensures kept { IsKept service.old service.new }
     {
         service.changes_left = CHANGES;
         self.is_figures_first = !self.is_figures_first;

@@ -1,5 +1,9 @@
 //! Who is heard, on standard error.
 
+ghost use Rattle.std.specs.Prelude.{◌≡◌, ◌||◌};
+ghost use Rattle.node_control.specs.inner.Hearing.{after_round, all_heard, count_heard, heard_by, is_within, judged};
+ghost use Rattle.node_control.specs.inner.Hearing.{lacking_since, said_at, says_caught_up, says_end, with_end};
+
 use node_loop::RoundCounts;
 use px_wire::{Head, Membership};
 use std::io::Eprint;
@@ -44,8 +48,21 @@ pub(crate) struct Hearing {
     is_quiet: bool,
 }
 
+/// What is written of the members that are heard.
+#[derive(Clone, Copy, PartialEq, Eq)]
+enum Said {
+    /// Nothing.
+    Nothing,
+    /// That this number of other members is heard, no majority.
+    Alone(u8),
+    /// That a majority is heard again.
+    Again,
+}
+
 /// Whether fewer seconds have passed since then.
-fn is_within(since: u64, now: u64, seconds: u64) -> bool {
+fn is_within(since: u64, now: u64, seconds: u64) -> bool
+    ensures { result ≡ is_within since now seconds }
+{
     now.saturating_sub(since) / 1_000_000 < seconds
 }
 
@@ -64,7 +81,9 @@ impl Hearing {
     }
 
     /// How many other members were heard lately.
-    fn count_heard(&self, now: u64) -> u8 {
+    fn count_heard(&self, now: u64) -> u8
+        ensures { result ≡ count_heard now self.now }
+    {
         let mut count = 0u8;
         for member in 0..self.m.members() {
             if let Some(since) = self.heard.get(usize::from(member)) {
@@ -76,44 +95,82 @@ impl Hearing {
         count
     }
 
-    /// Writes that a majority is heard no longer, or again.
-    fn say_majority<RT: Eprint>(&mut self, rt: &RT, now: u64) {
+    /// What is to be written of the members that are heard, if anything: that a majority is heard no longer, or again.
+    /// It is noted.
+    fn judge(&mut self, now: u64) -> Said
+        ensures said { result ≡ said_at now self.old }
+        ensures noted { self.new ≡ judged now self.old }
+    {
         let heard = self.count_heard(now);
         let is_alone = 2 * (u32::from(heard) + 1) <= u32::from(self.m.members());
-        if is_alone && !self.is_said {
-            let _said = eprintln!(rt;
-                "pfx: warning: node {} has heard {} of {} other members for {} seconds, no majority; {} datagrams came \
-                 that aren't theirs. {}",
-                self.m.me(),
-                heard,
-                self.m.members().saturating_sub(1),
-                QUIET,
-                self.others,
-                ADVICE
-            );
-        }
-        if !is_alone && self.is_said && !self.is_quiet {
-            let _said = eprintln!(rt; "pfx: info: node {} hears a majority again", self.m.me());
-        }
+        let was_alone = self.is_said;
         self.is_said = is_alone;
+        match (is_alone, was_alone) {
+            (true, false) => Said::Alone(heard),
+            (false, true) => if self.is_quiet {
+                Said::Nothing
+            } else {
+                Said::Again
+            },
+            _ => Said::Nothing,
+        }
+    }
+
+    /// Writes that a majority is heard no longer, or again.
+    fn say_majority<RT: Eprint>(&mut self, rt: &RT, now: u64)
+        ensures { self.new ≡ judged now self.old }
+    {
+        match self.judge(now) {
+            Said::Nothing => {}
+            Said::Alone(heard) => {
+                let _said = eprintln!(rt;
+                    "pfx: warning: node {} has heard {} of {} other members for {} seconds, no majority; {} datagrams \
+                     came that aren't theirs. {}",
+                    self.m.me(),
+                    heard,
+                    self.m.members().saturating_sub(1),
+                    QUIET,
+                    self.others,
+                    ADVICE
+                );
+            }
+            Said::Again => {
+                let _said = eprintln!(rt; "pfx: info: node {} hears a majority again", self.m.me());
+            }
+        }
+    }
+
+    /// Whether it is to be written that a member's message is of a position near the end of the log, which is noted.
+    fn nears_end(&mut self, head: &Head) -> bool
+        ensures said { result ≡ says_end head.now self.old }
+        ensures noted { self.new ≡ with_end head.now self.old }
+    {
+        if head.from == self.m.me() || head.from >= self.m.members() || self.is_ending {
+            return false;
+        }
+        self.is_ending = head.position.unwrap_or(0) >= NEAR_THE_END;
+        self.is_ending
     }
 
     /// Writes, once, that others are at a position near the end of the log.
-    fn say_end<RT: Eprint>(&mut self, rt: &RT, position: u32) {
-        if position < NEAR_THE_END || self.is_ending {
-            return;
+    fn say_end<RT: Eprint>(&mut self, rt: &RT, head: &Head)
+        ensures { self.new ≡ with_end head.now self.old }
+    {
+        if self.nears_end(head) {
+            let position = head.position.unwrap_or(0);
+            let _said = eprintln!(rt;
+                "pfx: warning: node {} hears of position {}: {} are left in the log, make a successor",
+                self.m.me(),
+                position,
+                POSITIONS.saturating_sub(position)
+            );
         }
-        self.is_ending = true;
-        let _said = eprintln!(rt;
-            "pfx: warning: node {} hears of position {}: {} are left in the log, make a successor",
-            self.m.me(),
-            position,
-            POSITIONS.saturating_sub(position)
-        );
     }
 
     /// Notes who sent a message with this head.
-    fn note<RT: Eprint>(&mut self, rt: &RT, head: &Head, now: u64) {
+    fn note(&mut self, head: &Head, now: u64)
+        ensures { self.new ≡ heard_by now head.now self.old }
+    {
         if head.from == self.m.me() {
             return;
         }
@@ -121,11 +178,11 @@ impl Hearing {
             self.others = self.others.saturating_add(1);
             return;
         }
-        if let Some(since) = self.heard.get_mut(usize::from(head.from)) {
-            *since = now;
+        let place = usize::from(head.from);
+        if place < MEMBERS {
+            self.heard[place] = now;
         }
         self.others = 0;
-        self.say_end(rt, head.position.unwrap_or(0));
     }
 
     /// Looks at what came in a round, at this time: the messages with these heads, and other datagrams.
@@ -135,29 +192,43 @@ impl Hearing {
         heads: &[Head],
         counts: &RoundCounts,
         now: u64,
-    ) {
+    )
+        ensures { self.new ≡ judged now (after_round now heads.now counts.now self.old) }
+    {
         let known = u64::from(counts.answered).saturating_add(heads.len() as u64);
         let others = u64::from(counts.came).saturating_sub(known);
         self.others = self.others.saturating_add(others);
         for head in heads {
-            self.note(rt, head, now);
+            self.say_end(rt, head);
+            self.note(head, now);
         }
         self.say_majority(rt, now);
     }
 
-    /// Writes that the node has caught up, if it lacked for long what others have.
-    pub(crate) fn note_lack<RT: Eprint>(&mut self, rt: &RT, is_lacking: bool, now: u64) {
+    /// Whether it is to be written that the node has caught up, since it lacked for long what others have. Since when it
+    /// lacks that is noted.
+    fn catches_up(&mut self, is_lacking: bool, now: u64) -> bool
+        ensures said { result ≡ says_caught_up is_lacking now self.old.lacking self.old.is_quiet }
+        ensures noted { self.new ≡ record self.old { lacking = lacking_since is_lacking now self.old.lacking } }
+    {
         let Some(since) = self.lacking else {
             if is_lacking {
                 self.lacking = Some(now);
             }
-            return;
+            return false;
         };
         if is_lacking {
-            return;
+            return false;
         }
         self.lacking = None;
-        if !self.is_quiet && !is_within(since, now, LACKING) {
+        !self.is_quiet && !is_within(since, now, LACKING)
+    }
+
+    /// Writes that the node has caught up, if it lacked for long what others have.
+    pub(crate) fn note_lack<RT: Eprint>(&mut self, rt: &RT, is_lacking: bool, now: u64)
+        ensures { self.new ≡ record self.old { lacking = lacking_since is_lacking now self.old.lacking } }
+    {
+        if self.catches_up(is_lacking, now) {
             let _said = eprintln!(rt; "pfx: info: node {} has caught up", self.m.me());
         }
     }

@@ -12,7 +12,7 @@ use crate::control::{ControlFault, ControlSocket};
 use crate::observer::Observer;
 use crate::running::pass_on;
 use crate::service::HttpService;
-use node_loop::{Ended, Membership, NodeFault, Room, Timer, Wire};
+use node_loop::{Ended, Membership, NodeFault, Room, SystemClock, Timer, Wire};
 use pf_node::Node;
 use px_records::Records;
 use std::alloc::Global;
@@ -127,6 +127,7 @@ fn run_node<R: Records, W: Wire, T: Timer, RT: Clock + Eprint>(
         return (Ended::Fault(NodeFault::Memory), node);
     };
     let mut service = HttpService::new(alloc, node, counters);
+    let mut clock = SystemClock { clock: rt };
     let is_stopped = pass_on(
         rt,
         &mut service,
@@ -135,6 +136,7 @@ fn run_node<R: Records, W: Wire, T: Timer, RT: Clock + Eprint>(
         &mut room,
         control,
         timer,
+        &mut clock,
         turns,
     );
     let node = service.close();

@@ -3,6 +3,7 @@
 ghost use Rattle.std.specs.Prelude.{◌≡◌, ◌==◌, ◌||◌, not, if◌then◌else◌, map, length, IfOk, string_bytes};
 ghost use Rattle.node_control.specs.inner.Watching.{proposed_by, proposed_after, proposed_then};
 ghost use Rattle.node_control.specs.inner.Watching.{is_proposed, stood_since, seconds_since};
+ghost use Rattle.node_control.specs.inner.Observing.{IsShown, begun, counted, in_all, is_nack, noted, seen_of, stood_at};
 ghost use Rattle.node_control.specs.inner.Rows.{is_due, sampled, reported, sent_more, heard_from, rows_after, first_rows};
 
 use crate::hearing::Hearing;
@@ -135,6 +136,26 @@ fn seconds_since(since: Option<u64>, now: u64) -> u64
     match since {
         Some(since) => now.saturating_sub(since) / 1_000_000,
         None => 0,
+    }
+}
+
+/// Whether a message of this kind refuses a proposal for one of a higher round.
+fn is_nack(kind: Kind) -> bool
+    ensures { result ≡ is_nack kind }
+{
+    match kind {
+        Kind::Nack => true,
+        Kind::Prepare
+        | Kind::Promise
+        | Kind::Accept
+        | Kind::Vote
+        | Kind::Need
+        | Kind::Learned
+        | Kind::Ask
+        | Kind::Asked
+        | Kind::AskRefused
+        | Kind::PrepareAll
+        | Kind::PromiseAll => false,
     }
 }
 
@@ -292,6 +313,7 @@ impl Observer {
         ensures sampled { self.new.sampled ≡ (if is_due self.old.sampled now then now else self.old.sampled) }
         ensures rows { self.new.rows.items ≡
             (if is_due self.old.sampled now then map sampled self.old.rows.items else self.old.rows.items) }
+        ensures seen { seen_of self.new ≡ begun now front is_waiting (seen_of self.old) }
     {
         self.now = now;
         if now >= self.sampled.saturating_add(SAMPLED) {
@@ -308,6 +330,7 @@ impl Observer {
             (is_waiting || is_proposed front self.old.now self.old.proposed) self.old.since self.old.now }
         ensures rest { (self.new.now ≡ self.old.now) × (self.new.proposed ≡ self.old.proposed) ×
             (self.new.sampled ≡ self.old.sampled) × (self.new.rows ≡ self.old.rows) }
+        ensures seen { seen_of self.new ≡ stood_at front is_waiting (seen_of self.old) }
     {
         let has_moved = front != self.front;
         if has_moved {
@@ -334,6 +357,7 @@ impl Observer {
     /// Tells what was counted, after a round that came to this. A turn that neither took a datagram nor is to be
     /// followed by a wait was a tick.
     pub(crate) fn tell(&self, counters: &mut Counters, made: Progress)
+        ensures shown { IsShown (seen_of self.entry.now) made counters.old counters.new }
         ensures stood { counters.new.stood ≡ seconds_since self.entry.now.since self.entry.now.now }
         ensures outrun { counters.new.outrun ≡ self.entry.now.outrun }
         ensures large { counters.new.large ≡ self.entry.now.large }
@@ -359,6 +383,9 @@ impl Observer {
         ensures round { (self.new.front ≡ self.old.front) × (self.new.now ≡ self.old.now) }
         ensures proposed { self.new.proposed ≡ self.old.proposed }
         ensures rows { self.new.rows.items ≡ map (heard_from from shown self.old.now) self.old.rows.items }
+        ensures seen { seen_of self.new ≡ record (seen_of self.old) {
+          rows = map (heard_from from shown self.old.now) self.old.rows.items;
+        } }
     {
         for row in self.rows.iter_mut() {
             row.count_from(from, shown, self.now);
@@ -370,12 +397,13 @@ impl Observer {
         ensures round { (self.new.front ≡ self.old.front) × (self.new.now ≡ self.old.now) }
         ensures proposed { self.new.proposed ≡ proposed_by self.old.front self.old.now head.now self.old.proposed }
         ensures rows { self.new.rows ≡ self.old.rows }
+        ensures seen { seen_of self.new ≡ noted head.now (seen_of self.old) }
     {
         if head.from == head.to {
             return;
         }
         self.proposed = proposed_then(self.front, self.now, head.proposal(), self.proposed);
-        if head.kind == Kind::Nack {
+        if is_nack(head.kind) {
             self.outrun = self.outrun.saturating_add(1);
         }
     }
@@ -385,6 +413,7 @@ impl Observer {
         ensures round { (self.new.front ≡ self.old.front) × (self.new.now ≡ self.old.now) }
         ensures proposed { self.new.proposed ≡ self.old.proposed }
         ensures rows { self.new.rows ≡ self.old.rows }
+        ensures seen { seen_of self.new ≡ in_all datagrams counts.now (seen_of self.old) }
     {
         self.came = counts.came;
         self.unsent = self.unsent.saturating_add(u64::from(counts.unsent));
@@ -404,6 +433,7 @@ impl Observer {
         ensures proposed { self.new.proposed ≡ proposed_after self.old.front self.old.now heads.now self.old.proposed }
         ensures rows { self.new.rows.items ≡
             rows_after self.old.now heads.now (map (sent_more counts.now.sent) self.old.rows.items) }
+        ensures seen { seen_of self.new ≡ counted heads.now counts.now (seen_of self.old) }
     {
         self.count_round(heads.len(), counts);
         count_sent(&mut self.rows, counts);
@@ -421,7 +451,9 @@ impl Observer {
         heads: &[Head],
         counts: &RoundCounts,
         is_lacking: bool,
-    ) {
+    )
+        ensures { seen_of self.new ≡ seen_of self.old }
+    {
         self.hearing.look(rt, heads, counts, self.now);
         self.hearing.note_lack(rt, is_lacking, self.now);
     }

@@ -1,19 +1,26 @@
 //! The loop of a node, with a control socket or without one.
 
-ghost use Rattle.std.specs.Prelude.{◌≡◌, ◌≤◌, None, true, false, length, IfOk, OnOk};
-ghost use Rattle.pf_node.specs.Nodes.{state_in};
+ghost use Rattle.std.specs.Prelude.{◌≡◌, ◌≤◌, [], ◌∷◌, None, true, false, length, nat_lt, IfOk, OnOk};
+ghost use Rattle.px_model.specs.Step.{front};
+ghost use Rattle.pf_node.specs.Nodes.{learned_by, state_in};
 ghost use Rattle.px_replica.specs.Faults.{fault_of};
 ghost use Rattle.px_transport.specs.Wires.{IsQuiet, Moves};
 ghost use Rattle.node_loop.specs.Hosting.{AsksUpTo, Hosted};
+ghost use Rattle.node_loop.specs.Progress.{counts_in, heads_in};
+ghost use Rattle.node_loop.specs.Times.{IsTimed, IsTimedRun, LooksAt};
 ghost use Rattle.node_loop.specs.Timing.{LooksTimes, MakesTurns};
 ghost use Rattle.node_loop.specs.Turns.{Served, standing};
+ghost use Rattle.node_loop.specs.declared.running.Progress.{Progress};
+ghost use Rattle.node_requests.specs.declared.counters.Counters.{Counters};
 ghost use Rattle.node_control.specs.inner.Ending.{is_ending};
+ghost use Rattle.node_control.specs.inner.Handling.{IsKept};
+ghost use Rattle.node_control.specs.inner.Observing.{AreKept, IsShown, begun, counted, seen_of};
 ghost use Rattle.node_control.specs.inner.Runs.{AsksAfterTurns, Finishes, MakesRounds};
 
 use crate::control::ControlSocket;
 use crate::observer::Observer;
 use crate::service::HttpService;
-use node_loop::{NodeFault, Room, Timer, Wire, finish, microseconds, round};
+use node_loop::{NodeFault, Room, Stopwatch, Timer, Wire, finish, microseconds, round};
 use px_records::Records;
 use std::io::Eprint;
 use std::time::{Clock, Instant};
@@ -27,6 +34,7 @@ fn serve<R: Records, RT: Clock + Eprint>(
 ) -> bool
     ensures asks { AsksUpTo 8 service.old.handler.node service.new.handler.node }
     ensures none { control.old ≡ None → (service.new.handler ≡ service.old.handler) × (control.new ≡ None) }
+    ensures kept { IsKept service.old service.new }
 {
     match control {
         Some(control) => {
@@ -72,6 +80,13 @@ fn pass<R: Records, W: Wire, T: Timer, RT: Clock + Eprint>(
         (standing service.new.handler.node es' room.new))) }
     ensures few { IfOk result (λ turns. turns ≤ 65) }
     ensures looks { OnOk result (LooksTimes 1 (T.timer_events timer.old) (T.timer_events timer.new)) }
+    ensures at { OnOk result (LooksAt (now ∷ []) (T.timer_events timer.old) (T.timer_events timer.new)) }
+    ensures seen { OnOk result (seen_of observer.new ≡ counted (heads_in room.new) (counts_in room.new)
+        (begun now (front (learned_by service.old.handler.node))
+        (nat_lt 0 (length (state_in service.old.handler.node).volatile.waiting)) (seen_of observer.old))) }
+    ensures shown { IfOk result (λ turns. (made : Progress) × (made.turns ≡ turns) × (counters : Counters)
+        × IsShown (seen_of observer.new) made service.old.counters counters × AreKept counters service.new.counters) }
+    ensures listening { OnOk result (service.new.is_listening ≡ T.listens timer.new now) }
     ensures same { W.identity wire.new ≡ W.identity wire.old }
 {
     observer.begin(
@@ -105,7 +120,7 @@ fn is_ending<R: Records>(service: &HttpService<R>, control: &Option<ControlSocke
 
 /// Round after round, until the given number of turns is over, or an operator asked for the end and has the answer:
 /// whether one did.
-fn passes<R: Records, W: Wire, T: Timer, RT: Clock + Eprint>(
+fn passes<R: Records, W: Wire, T: Timer, S: Stopwatch, RT: Clock + Eprint>(
     rt: &RT,
     service: &mut HttpService<R>,
     wire: &mut W,
@@ -113,6 +128,7 @@ fn passes<R: Records, W: Wire, T: Timer, RT: Clock + Eprint>(
     room: &mut Room,
     control: &mut Option<ControlSocket>,
     timer: &mut T,
+    clock: &mut S,
     start: Option<Instant>,
     turns: u64,
 ) -> Result<bool, NodeFault>
@@ -124,6 +140,8 @@ fn passes<R: Records, W: Wire, T: Timer, RT: Clock + Eprint>(
         (standing service.new.handler.node es' room.new) (fault_of result)) × (control.new ≡ None) }
     ensures made { IfOk result (λ is_stopped.
         MakesRounds is_stopped turns (T.timer_events timer.old) (T.timer_events timer.new)) }
+    ensures timed { OnOk result (IsTimed start (S.readings clock.old) (S.readings clock.new)
+        (T.timer_events timer.old) (T.timer_events timer.new)) }
     ensures stopped { IfOk result (λ is_stopped. is_stopped ≡ true →
         is_ending service.new.handler.is_stopping control.new ≡ true) }
     ensures none { control.old ≡ None → IfOk result (λ is_stopped. is_stopped ≡ false) }
@@ -145,7 +163,7 @@ fn passes<R: Records, W: Wire, T: Timer, RT: Clock + Eprint>(
             room,
             control,
             timer,
-            microseconds(rt, start),
+            microseconds(clock, start),
         ) {
             Ok(used) => left = left.saturating_sub(u64::from(used)),
             Err(fault) => return Err(fault),
@@ -155,7 +173,7 @@ fn passes<R: Records, W: Wire, T: Timer, RT: Clock + Eprint>(
 }
 
 /// All rounds, and then what waits to be proposed ([`finish`]): whether an operator asked for the end.
-pub(crate) fn pass_on<R: Records, W: Wire, T: Timer, RT: Clock + Eprint>(
+pub(crate) fn pass_on<R: Records, W: Wire, T: Timer, S: Stopwatch, RT: Clock + Eprint>(
     rt: &RT,
     service: &mut HttpService<R>,
     wire: &mut W,
@@ -163,6 +181,7 @@ pub(crate) fn pass_on<R: Records, W: Wire, T: Timer, RT: Clock + Eprint>(
     room: &mut Room,
     control: &mut Option<ControlSocket>,
     timer: &mut T,
+    clock: &mut S,
     turns: u64,
 ) -> Result<bool, NodeFault>
     ensures hosted { Moves (W.traffic wire.old) (W.traffic wire.new)
@@ -176,16 +195,18 @@ pub(crate) fn pass_on<R: Records, W: Wire, T: Timer, RT: Clock + Eprint>(
     ensures finished { IfOk result (λ is_stopped.
         Finishes is_stopped turns (length (state_in service.new.handler.node).volatile.waiting)
         (T.timer_events timer.old) (T.timer_events timer.new)) }
+    ensures timed { OnOk result (IsTimedRun (S.readings clock.old) (S.readings clock.new)
+        (T.timer_events timer.old) (T.timer_events timer.new)) }
     ensures stopped { IfOk result (λ is_stopped. is_stopped ≡ true → service.new.handler.is_stopping ≡ true) }
     ensures none { control.old ≡ None → IfOk result (λ is_stopped. is_stopped ≡ false) }
     ensures same { W.identity wire.new ≡ W.identity wire.old }
 {
-    let start = Instant::now(rt).ok();
+    let start = clock.read();
     match passes(
-        rt, service, wire, observer, room, control, timer, start, turns,
+        rt, service, wire, observer, room, control, timer, clock, start, turns,
     ) {
         Ok(is_stopped) => {
-            match finish(&mut service.handler.node, wire, room, timer, rt, start) {
+            match finish(&mut service.handler.node, wire, room, timer, clock, start) {
                 Ok(()) => Ok(is_stopped),
                 Err(fault) => Err(fault),
             }

@@ -9,7 +9,7 @@ ghost use Rattle.node_requests.specs.Answers.{answer_value};
 ghost use Rattle.node_requests.specs.Routing.{routed_value};
 ghost use Rattle.node_control.specs.inner.Answering.{standing_fields, answer_fields, content_type};
 ghost use Rattle.node_control.specs.inner.Asking.{accepts_json, asked_for, is_of_figures};
-ghost use Rattle.node_control.specs.inner.Handling.{Says, IsAnswered, IsTurnedAway, IsPassedOn, HandledAs, IsHandled};
+ghost use Rattle.node_control.specs.inner.Handling.{Says, IsAnswered, IsKept, IsTurnedAway, IsPassedOn, HandledAs, IsHandled};
 ghost use Rattle.node_control.specs.inner.Handling.{is_served, is_urgent, is_change, is_read};
 ghost use Rattle.node_control.specs.inner.Handling.{waiting, no_text, not_found};
 
@@ -251,6 +251,7 @@ impl<R: Records> HttpService<R> {
     pub(crate) fn count(&mut self, status: u16)
         ensures handler { self.new.handler ≡ self.old.handler }
         ensures scraped { self.new.is_scraped ≡ self.old.is_scraped }
+        ensures kept { IsKept self.old self.new }
         ensures left { self.new.changes_left ≡ self.old.changes_left }
     {
         self.answered = self.answered.wrapping_add(1);
@@ -273,6 +274,7 @@ impl<R: Records> HttpService<R> {
             (IsAnswered self.old.handler self.new.handler self.old.counters request.now response.new) }
         ensures memory { OnErr result (self.new ≡ self.old) }
         ensures scraped { self.new.is_scraped ≡ self.old.is_scraped }
+        ensures kept { IsKept self.old self.new }
         ensures left { self.new.changes_left ≡ self.old.changes_left }
     {
         let answer = self.handler.answer(request, &self.counters)?;
@@ -286,6 +288,7 @@ impl<R: Records> HttpService<R> {
         requires { IsBlank response.old }
         ensures away { IsTurnedAway self.old self.new (answer_value answer.now) response.new }
         ensures scraped { self.new.is_scraped ≡ self.old.is_scraped }
+        ensures kept { IsKept self.old self.new }
     {
         self.write(answer, TEXT, response);
         self.count(response.status.as_u16());
@@ -296,6 +299,7 @@ impl<R: Records> HttpService<R> {
         requires { IsBlank response.old }
         ensures away { IsTurnedAway self.old self.new (no_text status) response.new }
         ensures scraped { self.new.is_scraped ≡ self.old.is_scraped }
+        ensures kept { IsKept self.old self.new }
     {
         let answer = Answer {
             code: status,
@@ -309,6 +313,7 @@ impl<R: Records> HttpService<R> {
         requires { IsBlank response.old }
         ensures away { IsTurnedAway self.old self.new not_found response.new }
         ensures scraped { self.new.is_scraped ≡ self.old.is_scraped }
+        ensures kept { IsKept self.old self.new }
     {
         self.refuse(404, response);
     }
@@ -320,6 +325,7 @@ impl<R: Records> HttpService<R> {
         ensures still { self.new.handler ≡ self.old.handler }
         ensures memory { OnErr result (self.new ≡ self.old) }
         ensures scraped { self.new.is_scraped ≡ self.old.is_scraped }
+        ensures kept { IsKept self.old self.new }
     {
         let answer = Answer {
             code: 503,
@@ -340,6 +346,7 @@ impl<R: Records> HttpService<R> {
         ensures left { self.new.changes_left ≡ self.old.changes_left }
         ensures memory { OnErr result (self.new ≡ self.old) }
         ensures scraped { self.new.is_scraped ≡ self.old.is_scraped }
+        ensures kept { IsKept self.old self.new }
     {
         match request {
             Request::Read { at: _, read: _ } => self.ask(request, response),
@@ -361,6 +368,7 @@ impl<R: Records> HttpService<R> {
             (IsTurnedAway self.old self.new waiting response.new) }
         ensures memory { OnErr result (self.new ≡ self.old) }
         ensures scraped { self.new.is_scraped ≡ self.old.is_scraped }
+        ensures kept { IsKept self.old self.new }
     {
         if self.is_listening || self.changes_left == 0 {
             return self.put_off(response);
@@ -378,6 +386,7 @@ impl<R: Records> HttpService<R> {
         ensures still { self.old.is_scraped ≡ true → self.new.handler ≡ self.old.handler }
         ensures memory { OnErr result (self.new ≡ self.old) }
         ensures scraped { self.new.is_scraped ≡ self.old.is_scraped }
+        ensures kept { IsKept self.old self.new }
     {
         if self.is_spare && !is_urgent(request) {
             return self.put_off(response);
@@ -398,6 +407,7 @@ impl<R: Records> HttpService<R> {
         ensures still { self.old.is_scraped ≡ true → self.new.handler ≡ self.old.handler }
         ensures memory { OnErr result (self.new ≡ self.old) }
         ensures scraped { self.new.is_scraped ≡ self.old.is_scraped }
+        ensures kept { IsKept self.old self.new }
     {
         match routed {
             Routed::Asked(request) => self.pass_on(request, response),
@@ -431,6 +441,7 @@ impl<R: Records> HttpService<R> {
         ensures still { self.old.is_scraped ≡ true → self.new.handler ≡ self.old.handler }
         ensures memory { OnErr result (self.new ≡ self.old) }
         ensures scraped { self.new.is_scraped ≡ self.old.is_scraped }
+        ensures kept { IsKept self.old self.new }
     {
         if !self.is_served(request) {
             self.not_found(response);
@@ -443,7 +454,8 @@ impl<R: Records> HttpService<R> {
 
 impl<R: Records> Service for HttpService<R> {
     ghost answers = { λ old request response new. IsHandled old new request response
-        × (old.is_scraped ≡ true → new.handler ≡ old.handler) × (new.is_scraped ≡ old.is_scraped) };
+        × (old.is_scraped ≡ true → new.handler ≡ old.handler) × (new.is_scraped ≡ old.is_scraped)
+        × IsKept old new };
 
     fn call(
         &mut self,

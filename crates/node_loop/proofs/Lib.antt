@@ -3,6 +3,7 @@ mod Kept
 mod Given
 pub mod Chains
 pub mod Looking
+pub mod Clocks
 pub mod Traffic
 pub mod Lives
 pub mod Hosting

@@ -8,6 +8,7 @@ pub mod Turns
 pub mod Hosting
 pub mod Progress
 pub mod Timing
+pub mod Times
 pub mod Pacing
 pub mod Living
 pub mod inner

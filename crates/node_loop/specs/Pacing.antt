@@ -1,5 +1,6 @@
 -- When a member's clock ticks, as its timer says. Times are in microseconds.
-use Rattle.std.specs.Prelude.{◌≡◌, ◌≤◌, ◌+◌, ◌-◌, ◌*◌, ◌^◌, ℕ, max, min}
+use Rattle.std.specs.Prelude.{◌≡◌, ◌≤◌, ◌+◌, ◌-◌, ◌*◌, ◌^◌, ◌&&◌, ◌||◌, ℕ, Bool, max, min, nat_lt}
+use Rattle.node_loop.specs.declared.pacing.TheConstants.{START, BEHIND}
 use Rattle.node_loop.specs.declared.tick_timer.TickTimer.{TickTimer}
 use Rattle.node_loop.specs.declared.timer.Action.{Action}
 use Rattle.node_loop.specs.declared.timer.Action.TheVariants as actions
@@ -55,3 +56,9 @@ latest_of p = max p.hold (max p.moved p.ticked + patience_of p)
 abbrev pub AreTimes : (before after : TickTimer) → Type 0
 AreTimes p q =
     (q.hold ≡ p.hold) × (q.rest ≡ p.rest) × (q.ticked ≡ p.ticked) × (q.moved ≡ p.moved) × (q.front ≡ p.front)
+
+-- No command is accepted where the member has just started, where it lacks entries and its front moved, or that was
+-- first seen, a while ago at most, and where it is to end.
+-- Example: one that is behind at 3 s, and whose front moved at 2 s.
+abbrev pub is_listening : TickTimer → (now : ℕ) → Bool
+is_listening p now = nat_lt now START || ((p.is_behind && nat_lt now (later p.moved BEHIND)) || p.is_ending)

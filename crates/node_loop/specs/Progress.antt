@@ -13,6 +13,7 @@ use Rattle.px_replica.specs.Replicas.{membership_of, IsUnspelled}
 use Rattle.px_replica.specs.declared.state.Replica.{Replica}
 use Rattle.node_loop.specs.Turns.{Stand, IsHeard, Took, Passed, Same}
 use Rattle.node_loop.specs.declared.room.Room.{Room}
+use Rattle.node_loop.specs.declared.counts.RoundCounts.{RoundCounts}
 use Rattle.node_loop.specs.declared.peer_progress.PeerProgress.{PeerProgress}
 
 -- a datagram spells no message for this member: it is of another cluster or list of members, for another member, or no
@@ -31,6 +32,10 @@ seen_in room = room.peer_progress
 -- the heads of the messages that were taken last
 abbrev pub heads_in : Room → List Head
 heads_in room = room.heads.items
+
+-- what went over the wire in the last round
+abbrev pub counts_in : Room → RoundCounts
+counts_in room = room.counts
 
 -- ---- what a message shows of its sender
 

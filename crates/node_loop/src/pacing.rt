@@ -1,13 +1,12 @@
 //! When a node's clock ticks.
 
 ghost use Rattle.std.specs.Prelude.{◌≡◌, ◌≤◌, ◌<◌, ◌+◌, ◌/◌, false, max};
-ghost use Rattle.node_loop.specs.Pacing.{AreTimes, IfTicks, IfWaits, answer_of, front_of, hold_of, later};
+ghost use Rattle.node_loop.specs.Pacing.{AreTimes, IfTicks, IfWaits, answer_of, front_of, hold_of, is_listening, later};
 ghost use Rattle.node_loop.specs.Timing.{IsShort};
 ghost use Rattle.node_loop.specs.Pacing.{latest_of, moved_of, patience_of, rest_of, ticked_of};
 
 use crate::tick_timer::TickTimer;
 use crate::timer::{Action, Timer, View};
-use std::time::{Clock, Instant};
 
 /// How long a round trip is taken to be before one was measured, in microseconds.
 const FIRST_TRIP: u64 = 20_000;
@@ -436,6 +435,8 @@ impl Timer for TickTimer {
     // what it was given isn't kept, and is all that it decides by
     ghost timer_events = { λ p timer_events. Unit {0} };
 
+    ghost listens = { is_listening };
+
     fn action(&mut self, now: u64, view: View) -> Action
         // The clock ticks in time, whatever is seen.
         ensures latest { IfWaits result (now < latest_of self.new) }
@@ -494,15 +495,5 @@ impl Timer for TickTimer {
     fn is_listening(&self, now: u64) -> bool {
         let is_catching_up = self.is_behind && now < self.moved.saturating_add(BEHIND);
         now < START || is_catching_up || self.is_ending
-    }
-}
-
-/// The time since a reading of the clock, in microseconds; none has passed where the clock can't be read.
-pub fn microseconds<C: Clock>(clock: &C, start: Option<Instant>) -> u64 {
-    match (start, Instant::now(clock)) {
-        (Some(start), Ok(now)) => {
-            u64::try_from(now.duration_since(start).as_micros()).unwrap_or(u64::MAX)
-        }
-        _ => 0,
     }
 }

@@ -1,6 +1,6 @@
 //! A node that runs.
 
-ghost use Rattle.std.specs.Prelude.{◌≡◌, ◌≤◌, ◌+◌, ℕ, Bool, List, length, IfOk, OnOk};
+ghost use Rattle.std.specs.Prelude.{◌≡◌, ◌≤◌, ◌+◌, ℕ, Bool, List, [], ◌∷◌, length, IfOk, OnOk};
 ghost use Rattle.px_replica.specs.Faults.{fault_of};
 ghost use Rattle.px_transport.specs.Wires.{Adds, Moves, WireEvent};
 ghost use Rattle.node_loop.specs.Again.{HandsAgain};
@@ -8,19 +8,20 @@ ghost use Rattle.node_loop.specs.Resends.{kept_of, requests_of};
 ghost use Rattle.pf_node.specs.Nodes.{applied_of, replica_of, state_in};
 ghost use Rattle.node_loop.specs.Progress.{looked, seen_in};
 ghost use Rattle.node_loop.specs.Timing.{IsShort, LooksTimes, SawThenLooked, WorksOff, looks, view_of};
+ghost use Rattle.node_loop.specs.Times.{IsTimed, LooksAt};
 ghost use Rattle.node_loop.specs.Turns.{Served, TickedIf, TookThenTicked, standing};
 
-use crate::pacing::microseconds;
 use crate::peer_progress::PeerProgress;
 use crate::resender::Resender;
 use crate::room::Room;
 use crate::serving::{drain, tick_now};
+use crate::stopwatch::{Stopwatch, microseconds};
 use crate::timer::{Action, Timer, View};
 use pf_node::Node;
 use px_records::Records;
 use px_replica::NodeFault;
 use px_transport::Wire;
-use std::time::{Clock, Instant};
+use std::time::Instant;
 
 /// How many datagrams are taken before it is looked whether the clock is to tick.
 const MOST: u32 = 64;
@@ -211,6 +212,7 @@ pub fn round<R: Records, W: Wire, T: Timer>(
         (T.timer_events timer.new)) }
     ensures few { IfOk result (λ made. made.turns ≤ 65) }
     ensures looks { OnOk result (LooksTimes 1 (T.timer_events timer.old) (T.timer_events timer.new)) }
+    ensures at { OnOk result (LooksAt (now ∷ []) (T.timer_events timer.old) (T.timer_events timer.new)) }
     ensures wait { IfOk result (λ p. p.wait ≤ 100) }
     ensures grows { applied_of node.old ≤ applied_of node.new }
     ensures same { W.identity wire.new ≡ W.identity wire.old }
@@ -233,18 +235,20 @@ pub fn round<R: Records, W: Wire, T: Timer>(
 /// with a wait counts for its milliseconds. These are turns of the node and nothing else.
 ///
 /// `start` is when the node started by this clock. The faults are those of [`Node::receive`] and [`Node::tick`].
-pub fn finish<R: Records, W: Wire, T: Timer, C: Clock>(
+pub fn finish<R: Records, W: Wire, T: Timer, S: Stopwatch>(
     node: &mut Node<R>,
     wire: &mut W,
     room: &mut Room,
     timer: &mut T,
-    clock: &C,
+    clock: &mut S,
     start: Option<Instant>,
 ) -> Result<(), NodeFault>
     ensures served { Moves (W.traffic wire.old) (W.traffic wire.new)
         (λ es es'. Served (standing node.old es room.old) (standing node.new es' room.new) (fault_of result)) }
     ensures grows { applied_of node.old ≤ applied_of node.new }
     ensures worked { OnOk result (WorksOff (length (state_in node.new).volatile.waiting)
+        (T.timer_events timer.old) (T.timer_events timer.new)) }
+    ensures timed { OnOk result (IsTimed start (S.readings clock.old) (S.readings clock.new)
         (T.timer_events timer.old) (T.timer_events timer.new)) }
     ensures same { W.identity wire.new ≡ W.identity wire.old }
 {

@@ -10,7 +10,7 @@ ghost use Rattle.pf_node.specs.Nodes.{replica_of, applied_of, membership_of};
 ghost use Rattle.px_transport.specs.Wires.{Adds, IsQuiet, Moves, gives};
 ghost use Rattle.node_loop.specs.Again.{AreAmong, HandsAgain};
 ghost use Rattle.node_loop.specs.Resends.{kept_of, requests_of};
-ghost use Rattle.node_loop.specs.Progress.{IsFrom, heads_in, IsNobodys, SawAll, seen_in, shown_by};
+ghost use Rattle.node_loop.specs.Progress.{IsFrom, counts_in, heads_in, IsNobodys, SawAll, seen_in, shown_by};
 ghost use Rattle.node_loop.specs.Turns.{Acts, Ticked, Served, standing};
 ghost use Rattle.node_loop.specs.Resending.{IsKnown};
 ghost use Rattle.node_loop.specs.inner.Turns.{SawIf};
@@ -38,7 +38,9 @@ impl Room {
     }
 
     /// What went over the wire in the last round.
-    pub fn counts(&self) -> &RoundCounts {
+    pub fn counts(&self) -> &RoundCounts
+        ensures { result.now ≡ counts_in self.now }
+    {
         &self.counts
     }
 }

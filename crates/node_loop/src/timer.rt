@@ -1,6 +1,6 @@
 //! What a node asks when its clock ticks.
 
-ghost use Rattle.std.specs.Prelude.{ℕ, List, [], ◌∷◌};
+ghost use Rattle.std.specs.Prelude.{◌≡◌, ℕ, Bool, List, [], ◌∷◌};
 ghost use Rattle.px_transport.specs.Wires.{Adds};
 ghost use Rattle.node_loop.specs.Timing.{IsShort, TimerEvent};
 ghost use Rattle.node_loop.specs.Timing.TimerEvent.{Looks, Sends, Repeats, Ends};
@@ -37,6 +37,9 @@ pub trait Timer {
     // it was given this so far, in order
     ghost timer_events: { Self → List TimerEvent → Type 0 };
 
+    // at this time the node accepts no command
+    ghost listens: { Self → ℕ → Bool };
+
     /// What the node does next, at this time, where this is seen of it.
     fn action(&mut self, now: u64, view: View) -> Action
         ensures timer_events { Adds (timer_events self.old) (timer_events self.new) (Looks now view ∷ []) }
@@ -56,5 +59,6 @@ pub trait Timer {
         ensures timer_events { Adds (timer_events self.old) (timer_events self.new) (Ends ∷ []) };
 
     /// Whether the node listens, and accepts no command.
-    fn is_listening(&self, now: u64) -> bool;
+    fn is_listening(&self, now: u64) -> bool
+        ensures { result ≡ listens self.now now };
 }

@@ -6,7 +6,7 @@ use Rattle.std.specs.List.{AllByRecursion}
 use Rattle.std.specs.declared.net.socket_addr.SocketAddr.{SocketAddr}
 use Rattle.px_transport.specs.Wires.{Gave, Handed, Adds, IsQuiet}
 use Rattle.px_transport.proofs.Traffic.{adds_none}
-use Rattle.node_udp.specs.Members.{peers_of, me_of, last_of}
+use Rattle.node_udp.specs.Members.{peers_of, me_of, last_of, hears_of}
 use Rattle.node_udp.specs.Sockets.{SocketEvent, Came, Went, Passage, Hears, Sends, Loses, below_in, above_in, GoesTo, HasNoAddress, IsSound, WentOver, IsStill, heard_last, AnswersLast}
 use Rattle.node_udp.specs.inner.Heard.{last_after}
 use Rattle.node_udp.specs.declared.udp.UdpWire.{UdpWire}
@@ -62,6 +62,7 @@ still_then t0 t1 t2 w0 w1 w2 a b = record {
   peers_is = b.peers_is ∙ a.peers_is;
   me_is = b.me_is ∙ a.me_is;
   last_is = b.last_is ∙ a.last_is;
+  hears_is = b.hears_is ∙ a.hears_is;
 }
 
 sound_then : {S C : Type 0} (w w' : UdpWire S C) (xs : List Passage) → peers_of w' ≡ peers_of w → me_of w' ≡ me_of w →
@@ -125,6 +126,7 @@ still_last t0 t1 w0 w1 from r a = record {
   peers_is = a.peers_is;
   me_is = a.me_is;
   last_is = ap (λ o. last_after from r o) a.last_is;
+  hears_is = a.hears_is;
 }
 
 -- what the socket gave is given, or an empty datagram in its place

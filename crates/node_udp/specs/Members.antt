@@ -1,7 +1,14 @@
 -- What a wire over UDP was made with.
-use Rattle.std.specs.Prelude.{◌≡◌, ◌⊎◌, ℕ, List, Option, Some}
+use Rattle.std.specs.Prelude.{◌≡◌, ◌⊎◌, ℕ, Bool, List, Option, Some, map}
 use Rattle.std.specs.declared.net.socket_addr.SocketAddr.{SocketAddr}
+use Rattle.std.specs.declared.net.ip_addr.IpAddr.{IpAddr}
+use Rattle.std.specs.declared.net.ip_addr.IpAddr.TheVariants as ips
+use Rattle.std.specs.Net.Addr.{ipv4_bits, ipv6_bits}
+use Rattle.std.specs.Net.Socket.{socket_ip, socket_port}
+use Rattle.pf_addr.specs.declared.addr.Addr.{Addr}
+use Rattle.pf_addr.specs.declared.addr.Addr.TheVariants.{V4, V6}
 use Rattle.px_transport.specs.Wires.{one_more}
+use Rattle.node_udp.specs.Addresses.{shown_address}
 use Rattle.node_udp.specs.declared.address.Address.{Address}
 use Rattle.node_udp.specs.declared.udp.UdpWire.{UdpWire}
 
@@ -17,9 +24,26 @@ peers_of w = w.peers.items
 abbrev pub me_of : {S C : Type 0} → UdpWire S C → ℕ
 me_of w = w.me
 
+-- the members' addresses, as they are shown, and which member this is
+abbrev pub route_of : List Address → (me : ℕ) → List (List ℕ) × ℕ
+route_of peers me = (map shown_address peers, me)
+
 -- where the last datagram came from of which it gave any byte
 abbrev pub last_of : {S C : Type 0} → UdpWire S C → Option SocketAddr
 last_of w = w.last
+
+-- whether it hears clients, from wherever they send
+abbrev pub hears_of : {S C : Type 0} → UdpWire S C → Bool
+hears_of w = w.hears_asks
+
+-- an IP address of the system's
+abbrev pub ip_at : IpAddr → Addr
+ip_at (ips.V4 ip) = V4 (ipv4_bits ip)
+ip_at (ips.V6 ip) = V6 (ipv6_bits ip)
+
+-- the address of whoever sends from there
+abbrev pub address_at : SocketAddr → Address
+address_at there = record { ip = ip_at (socket_ip there); port = socket_port there }
 
 -- how many datagrams were dropped whose source is no member's address, up to 2^64 - 1
 abbrev pub strangers_of : {S C : Type 0} → UdpWire S C → ℕ

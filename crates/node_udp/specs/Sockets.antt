@@ -11,7 +11,7 @@ use Rattle.pf_addr.specs.declared.addr.Addr.TheVariants.{V4, V6}
 use Rattle.px_transport.specs.Wires.{WireEvent, Gave, Handed}
 use Rattle.node_udp.specs.declared.address.Address.{Address}
 use Rattle.node_udp.specs.declared.udp.UdpWire.{UdpWire}
-use Rattle.node_udp.specs.Members.{peers_of, me_of, last_of}
+use Rattle.node_udp.specs.Members.{peers_of, me_of, last_of, hears_of}
 
 -- ---- a socket
 
@@ -112,3 +112,4 @@ pub record IsStill {S C : Type 0} (old new : List SocketEvent → Type 0) (w w' 
   pub peers_is : peers_of w' ≡ peers_of w
   pub me_is : me_of w' ≡ me_of w
   pub last_is : last_of w' ≡ last_of w
+  pub hears_is : hears_of w' ≡ hears_of w

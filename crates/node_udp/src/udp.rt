@@ -1,16 +1,18 @@
 //! Datagrams over a UDP socket.
 
 ghost use Rattle.std.specs.Prelude.{◌≡◌, ◌⊎◌, ◌<◌, ◌≤◌, ◌==◌, Some, None, Err, IfOk, IfSome, OnErr, IsTrue};
-ghost use Rattle.std.specs.Prelude.{[], ◌∷◌, ◌≢◌, map, length, option_map, take, true, false};
+ghost use Rattle.std.specs.Prelude.{ℕ, [], ◌∷◌, ◌≢◌, map, length, option_map, take, true, false};
 ghost use Rattle.std.specs.List.{list_any};
 ghost use Rattle.pf_entry.specs.declared.limits.TheConstants.{CLIENT};
-ghost use Rattle.px_transport.specs.Identities.{plain};
-ghost use Rattle.px_transport.specs.Wires.{Adds, IsQuiet, gives, one_more};
+ghost use Rattle.px_transport.specs.Identities.{plain, with_route};
+ghost use Rattle.px_transport.specs.Wires.{Adds, Counts, Handed, IsQuiet, gives, one_more};
 ghost use Rattle.node_udp.specs.declared.udp.BindFault.TheVariants.{Memory};
-ghost use Rattle.node_udp.specs.Addresses.{AreFound};
-ghost use Rattle.node_udp.specs.Members.{socket_of, peers_of, me_of, last_of, strangers_of, Drops};
+ghost use Rattle.node_udp.specs.Addresses.{AreFound, shown_address};
+ghost use Rattle.px_wire.specs.Message.{Group, Message, DatagramBytes};
+ghost use Rattle.node_udp.specs.Members.{socket_of, peers_of, me_of, last_of, hears_of, strangers_of, Drops};
+ghost use Rattle.node_udp.specs.Members.{address_at};
 ghost use Rattle.node_udp.specs.Sockets.{GoesTo, HasNoAddress, IsStill, Went, WentOver};
-ghost use Rattle.node_udp.specs.inner.Heard.{address_at, last_after, own_of};
+ghost use Rattle.node_udp.specs.inner.Heard.{last_after, own_of};
 
 use crate::address::Address;
 use crate::host::find;
@@ -147,7 +149,10 @@ fn reading<C: Clock>(clock: &C, me: u8) -> Option<Instant> {
 }
 
 /// Whether a datagram is of a client, by its head.
-fn is_asking(datagram: &[u8]) -> bool {
+fn is_asking(datagram: &[u8]) -> bool
+    ensures { (g : Group) (from to : ℕ) (message : Message) →
+        DatagramBytes g from to message datagram.now → result ≡ (from == CLIENT) }
+{
     match Head::read(datagram) {
         Some(head) => head.from == CLIENT,
         None => false,
@@ -178,6 +183,7 @@ impl<R: Net + Clock + Copy> UdpWire<UdpSocket, R> {
         ensures peers { IfOk result (λ w. AreFound (map (λ t. t.now) addrs.now) (peers_of w)) }
         ensures me { IfOk result (λ w. me_of w ≡ me) }
         ensures strangers { IfOk result (λ w. strangers_of w ≡ 0) }
+        ensures hears { IfOk result (λ w. hears_of w ≡ true) }
         ensures traffic { IfOk result (λ w. WentOver (⟦<UdpSocket as Socket>⟧.traffic (socket_of w)) w []) }
     {
         let peers = addresses(rt, alloc, addrs)?;
@@ -213,6 +219,7 @@ impl<S: Socket + Drop, C: Clock + Drop> UdpWire<S, C> {
         ensures peers { IfOk result (λ w. peers_of w ≡ peers.items) }
         ensures me { IfOk result (λ w. me_of w ≡ me) }
         ensures strangers { IfOk result (λ w. strangers_of w ≡ 0) }
+        ensures hears { IfOk result (λ w. hears_of w ≡ true) }
         ensures traffic { IfOk result (λ w. S.traffic socket [] → WentOver (S.traffic (socket_of w)) w []) }
     {
         let wait = Duration::from_millis(u64::from(wait_ms));
@@ -250,6 +257,7 @@ impl<S: Socket, C> UdpWire<S, C> {
     pub fn hear_members(&mut self)
         ensures quiet { IsQuiet (WentOver (S.traffic (socket_of self.old)) self.old)
             (WentOver (S.traffic (socket_of self.new)) self.new) }
+        ensures hears { hears_of self.new ≡ false }
         ensures strangers { strangers_of self.new ≡ strangers_of self.old }
         ensures peers { peers_of self.new ≡ peers_of self.old }
         ensures me { me_of self.new ≡ me_of self.old }
@@ -323,10 +331,10 @@ impl<S: Socket, C> UdpWire<S, C> {
 
     /// Whether a datagram is heard: it comes from a member's address, or is of a client, where such are heard.
     fn is_heard(&self, from: SocketAddr, datagram: &[u8]) -> bool
-        ensures member { list_any (λ a. ⟦<Address as PartialEq>⟧.eq a (address_at from)) (peers_of self.now) ≡ true →
-            result ≡ true }
-        ensures stranger { list_any (λ a. ⟦<Address as PartialEq>⟧.eq a (address_at from)) (peers_of self.now) ≡ false →
-            self.now.hears_asks ≡ false → result ≡ false }
+        ensures member { list_any (λ a. ⟦<Address as PartialEq>⟧.eq a (address_at from)) (peers_of self.now) ≡ true → result ≡ true }
+        ensures only { hears_of self.now ≡ false → result ≡ list_any (λ a. ⟦<Address as PartialEq>⟧.eq a (address_at from)) (peers_of self.now) }
+        ensures client { (g : Group) (to : ℕ) (message : Message) → hears_of self.now ≡ true →
+            DatagramBytes g CLIENT to message datagram.now → result ≡ true }
     {
         is_among(self.peers.as_slice(), Address::of_socket(from))
             || (self.hears_asks && is_asking(datagram))
@@ -336,9 +344,13 @@ impl<S: Socket, C> UdpWire<S, C> {
     fn admit(&mut self, from: SocketAddr, datagram: &[u8]) -> usize
         ensures member { list_any (λ a. ⟦<Address as PartialEq>⟧.eq a (address_at from)) (peers_of self.old) ≡ true →
             (result ≡ length datagram.now) × (strangers_of self.new ≡ strangers_of self.old) }
-        ensures stranger { list_any (λ a. ⟦<Address as PartialEq>⟧.eq a (address_at from)) (peers_of self.old) ≡ false →
-            self.old.hears_asks ≡ false →
+        ensures stranger { list_any (λ a. ⟦<Address as PartialEq>⟧.eq a (address_at from)) (peers_of self.old) ≡ false → hears_of self.old ≡ false →
             (result ≡ 0) × (strangers_of self.new ≡ one_more (strangers_of self.old)) }
+        ensures client { (g : Group) (to : ℕ) (message : Message) → hears_of self.old ≡ true →
+            DatagramBytes g CLIENT to message datagram.now → result ≡ length datagram.now }
+        ensures members { hears_of self.old ≡ false → 0 < result → option_map (λ there.
+            list_any (λ a. ⟦<Address as PartialEq>⟧.eq a (address_at there)) (peers_of self.old)) (last_of self.new)
+            ≡ Some true }
         ensures heard { IsStill (S.traffic (socket_of self.old)) (S.traffic (socket_of self.new))
             (record self.old { last = last_after from result (last_of self.old) }) self.new }
         ensures whole { (result ≡ length datagram.now) ⊎ (result ≡ 0) }
@@ -432,6 +444,7 @@ impl<S: Socket, C: Clock> UdpWire<S, C> {
         ensures went { Adds (S.traffic (socket_of self.old)) (S.traffic (socket_of self.new)) (Went to bytes.now ∷ []) }
         ensures rest { (peers_of self.new ≡ peers_of self.old) × (me_of self.new ≡ me_of self.old) ×
             (self.new.failures ≡ self.old.failures) }
+        ensures hears { hears_of self.new ≡ hears_of self.old }
         ensures last { last_of self.new ≡ last_of self.old }
     {
         match self.socket.send(bytes, to) {
@@ -446,11 +459,17 @@ impl<S: Socket, C: Clock> Wire for UdpWire<S, C> {
 
     ghost failed = { λ w. w.failures };
 
-    ghost identity = { λ w. plain };
+    ghost identity = { λ w. with_route (map shown_address (peers_of w)) (me_of w) plain };
 
     fn recv(&mut self, into: &mut [u8]) -> Option<usize>
         ensures dropped { Drops (strangers_of self.old) result (strangers_of self.new) }
         ensures fits { IfSome result (λ n. n ≤ length into.new) }
+        ensures hears { hears_of self.new ≡ hears_of self.old }
+        ensures same { with_route (map shown_address (peers_of self.new)) (me_of self.new) plain ≡
+            with_route (map shown_address (peers_of self.old)) (me_of self.old) plain }
+        ensures members { hears_of self.old ≡ false → IfSome result (λ n. 0 < n → option_map (λ there.
+            list_any (λ a. ⟦<Address as PartialEq>⟧.eq a (address_at there)) (peers_of self.old)) (last_of self.new)
+            ≡ Some true) }
         ensures gave { Adds (WentOver (S.traffic (socket_of self.old)) self.old)
             (WentOver (S.traffic (socket_of self.new)) self.new) (gives (option_map (λ n. take n into.new) result)) }
         ensures counts { self.old.failures ≤ self.new.failures }
@@ -477,6 +496,12 @@ impl<S: Socket, C: Clock> Wire for UdpWire<S, C> {
     fn poll(&mut self, into: &mut [u8]) -> Option<usize>
         ensures dropped { Drops (strangers_of self.old) result (strangers_of self.new) }
         ensures fits { IfSome result (λ n. n ≤ length into.new) }
+        ensures hears { hears_of self.new ≡ hears_of self.old }
+        ensures same { with_route (map shown_address (peers_of self.new)) (me_of self.new) plain ≡
+            with_route (map shown_address (peers_of self.old)) (me_of self.old) plain }
+        ensures members { hears_of self.old ≡ false → IfSome result (λ n. 0 < n → option_map (λ there.
+            list_any (λ a. ⟦<Address as PartialEq>⟧.eq a (address_at there)) (peers_of self.old)) (last_of self.new)
+            ≡ Some true) }
         ensures gave { Adds (WentOver (S.traffic (socket_of self.old)) self.old)
             (WentOver (S.traffic (socket_of self.new)) self.new) (gives (option_map (λ n. take n into.new) result)) }
         ensures counts { self.old.failures ≤ self.new.failures }
@@ -493,7 +518,14 @@ impl<S: Socket, C: Clock> Wire for UdpWire<S, C> {
         }
     }
 
-    fn wait(&mut self, milliseconds: u32) {
+    fn wait(&mut self, milliseconds: u32)
+        ensures hears { hears_of self.new ≡ hears_of self.old }
+        ensures same { with_route (map shown_address (peers_of self.new)) (me_of self.new) plain ≡
+            with_route (map shown_address (peers_of self.old)) (me_of self.old) plain }
+        ensures quiet { IsQuiet (WentOver (S.traffic (socket_of self.old)) self.old)
+            (WentOver (S.traffic (socket_of self.new)) self.new) }
+        ensures counts { self.old.failures ≤ self.new.failures }
+    {
         if milliseconds == 0 || !self.set_blocking(true) {
             return;
         }
@@ -511,7 +543,14 @@ impl<S: Socket, C: Clock> Wire for UdpWire<S, C> {
         milliseconds
     }
 
-    fn send(&mut self, to: u8, bytes: &[u8]) -> bool {
+    fn send(&mut self, to: u8, bytes: &[u8]) -> bool
+        ensures hears { hears_of self.new ≡ hears_of self.old }
+        ensures same { with_route (map shown_address (peers_of self.new)) (me_of self.new) plain ≡
+            with_route (map shown_address (peers_of self.old)) (me_of self.old) plain }
+        ensures handed { Adds (WentOver (S.traffic (socket_of self.old)) self.old)
+            (WentOver (S.traffic (socket_of self.new)) self.new) (Handed to bytes.now ∷ []) }
+        ensures counts { Counts result self.old.failures self.new.failures }
+    {
         let sent = match self.address(to) {
             Some(there) => self.sent_to(bytes, there),
             None => false,

@@ -12,7 +12,8 @@ use Rattle.px_records.specs.declared.records.StoreFault.TheVariants as fault
 use Rattle.px_store.specs.Tables.{schema_3}
 use Rattle.px_store.specs.Seen.{record_in, seen, meta_columns, meta_row}
 use Rattle.sqlite_value.specs.Order.{Row}
-use Rattle.px_store.specs.inner.Effect.{IsSettled, LeavesOld, Serves}
+use Rattle.px_store.specs.inner.Effect.{IsSettled, Serves}
+use Rattle.px_store.specs.Adopting.{LeavesOld}
 use Rattle.px_store.specs.inner.Store.{Changed}
 use Rattle.px_store.specs.Ready.{stored_of}
 use Rattle.px_store.specs.inner.Ready.{IsMeta, IsNamed, IsOwned}

@@ -13,7 +13,8 @@ use Rattle.px_model.specs.declared.record.Meta as kept
 use Rattle.px_store.specs.Tables.{schema_3}
 use Rattle.px_store.specs.Seen.{seen, meta_columns, slot_columns, floor_columns, learned_columns, has_ballot, any_row}
 use Rattle.px_store.specs.inner.Seen.{IsLast}
-use Rattle.px_store.specs.inner.Effect.{IsAlike, IsStill, LeavesOld, Serves}
+use Rattle.px_store.specs.inner.Effect.{IsAlike, IsStill, Serves}
+use Rattle.px_store.specs.Adopting.{LeavesOld}
 use Rattle.px_store.specs.inner.Ahead.{AreAlike, IsAhead}
 use Rattle.px_store.specs.Formats.{schema_at, has_table, trees_at}
 use Rattle.px_store.specs.inner.Store.{OnlyReads}

@@ -13,7 +13,8 @@ use Rattle.sqlite.specs.State.{State, HasCleanDisk}
 use Rattle.px_store.specs.Seen.{seen, is_key, are_slot_rows, are_learned_rows, meta_columns, meta_row, floor_columns}
 use Rattle.px_store.specs.Seen.{number_at, record_in}
 use Rattle.px_store.specs.inner.Seen.{IsKeyed, floor_row, floor_rows}
-use Rattle.px_store.specs.inner.Effect.{Puts, IsSettled, LeavesOld, IsAlike}
+use Rattle.px_store.specs.inner.Effect.{Puts, IsSettled, IsAlike}
+use Rattle.px_store.specs.Adopting.{LeavesOld}
 use Rattle.px_store.specs.inner.Store.{Keeps, OnlyReads}
 use Rattle.px_store.specs.Ready.{is_good, stored_of}
 use Rattle.px_store.specs.inner.Ready.{IsMeta}

@@ -72,6 +72,10 @@ abbrev pub IsBrought : Format → Identity → Trees → Trees → Type 0
 IsBrought f id was = IsWhole id (number_at 5 (seen meta_columns (was 0) 1)) (number_at 6 (seen meta_columns (was 0) 1))
     (was 1) (trees_at f was 2) (trees_at f was 3) (record_at f was)
 
+-- what an open after a stop may find is what it could find before
+abbrev pub LeavesOld : State → State → Type 0
+LeavesOld old new = (db : Trees) → new.may_leave db → old.may_leave db
+
 -- what an open after a stop may find is what it could find before, or this, whole
 abbrev pub LeavesOr : (Trees → Type 0) → State → State → Type 0
 LeavesOr whole old new = (db : Trees) → new.may_leave db → old.may_leave db ⊎ whole db

@@ -4,7 +4,7 @@ ghost use Rattle.sqlite.specs.Held.{state};
 ghost use Rattle.sqlite.specs.State.{HasCleanDisk};
 ghost use Rattle.px_model.specs.World.{nothing_stored};
 ghost use Rattle.px_store.specs.Tables.{no_schema, schema_3};
-ghost use Rattle.px_store.specs.inner.Effect.{LeavesOld};
+ghost use Rattle.px_store.specs.Adopting.{LeavesOld};
 ghost use Rattle.px_store.specs.Formats.{record_at};
 ghost use Rattle.px_store.specs.Adopting.{Began, IsKnown, IsVerdict, IsSame};
 ghost use Rattle.px_store.specs.inner.Adopting.{IsRefused, Shows};

@@ -4,7 +4,8 @@ ghost use Rattle.std.specs.Prelude.{◌≡◌, ◌<◌, ◌↔◌, pos, true, []
 ghost use Rattle.sqlite.specs.Held.{state};
 ghost use Rattle.sqlite.specs.State.{HasCleanDisk, Survives, Executes, CommitsBy};
 ghost use Rattle.sqlite.specs.State.{Shown, FailsToQuery, CommitsShowing};
-ghost use Rattle.px_store.specs.inner.Effect.{LeavesOld, Serves};
+ghost use Rattle.px_store.specs.inner.Effect.{Serves};
+ghost use Rattle.px_store.specs.Adopting.{LeavesOld};
 ghost use Rattle.px_store.specs.Formats.{has_table};
 ghost use Rattle.px_store.specs.Adopting.{Began};
 ghost use Rattle.px_store.specs.inner.Questions.{asked_by, given_with, table_of, Looked};

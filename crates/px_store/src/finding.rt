@@ -5,7 +5,8 @@ ghost use Rattle.sqlite.specs.Held.{state};
 ghost use Rattle.sqlite.specs.State.{HasCleanDisk};
 ghost use Rattle.sqlite_value.specs.Order.{column};
 ghost use Rattle.px_store.specs.Seen.{seen, meta_columns, floor_columns, number_at, number_in};
-ghost use Rattle.px_store.specs.inner.Effect.{LeavesOld, IsAlike, IsStill};
+ghost use Rattle.px_store.specs.inner.Effect.{IsAlike, IsStill};
+ghost use Rattle.px_store.specs.Adopting.{LeavesOld};
 ghost use Rattle.px_store.specs.Formats.{schema_at, trees_at, has_table};
 ghost use Rattle.px_store.specs.Adopting.{Began, IsSame, IsVerdict};
 ghost use Rattle.px_store.specs.Judging.{has_rows, says_format, says_member, says_numbers, is_member_of};
@@ -117,7 +118,7 @@ fn is_member_of(cluster: u64, members: u64, node: u64) -> bool
 }
 
 /// What the row for the whole node says, if a node writes such a row.
-fn found_in_row(row: &Row) -> Result<Found, ReadFault>
+pub(crate) fn found_in_row(row: &Row) -> Result<Found, ReadFault>
     ensures good { OnOk result ((says_member row.now && says_numbers row.now) ≡ true) }
     ensures bad { result ≡ Err ReadFault.Bad → (says_member row.now && says_numbers row.now) ≡ false }
     ensures member { IfOk result (λ f. number_in (column row.now 3) ≡ f.members) }

@@ -71,6 +71,7 @@
 mod adopt;
 mod ahead;
 mod calls;
+mod examining;
 mod fault;
 mod finding;
 mod formats;
@@ -85,6 +86,7 @@ mod taking;
 mod writing;
 
 pub use calls::Identity;
+pub use examining::{examine, owner_in};
 pub use fault::AdoptFault;
 pub use formats::Format;
 pub use keeper::SqlRecords;

@@ -4,7 +4,7 @@ ghost use Rattle.sqlite.specs.Held.{state};
 ghost use Rattle.sqlite.specs.State.{HasCleanDisk, ExecutesInside, Survives};
 ghost use Rattle.px_store.specs.Tables.{no_schema, schema_3};
 ghost use Rattle.px_store.specs.inner.Tables.{put_meta, meta_params};
-ghost use Rattle.px_store.specs.inner.Effect.{LeavesOld};
+ghost use Rattle.px_store.specs.Adopting.{LeavesOld};
 ghost use Rattle.px_store.specs.Formats.{schema_at, trees_at};
 ghost use Rattle.px_store.specs.Adopting.{AreBrought, LeavesOr};
 ghost use Rattle.px_store.specs.inner.Making.{text_of, schema_before, Grows, PutsMeta, Brought, Raised};

@@ -1,26 +1,49 @@
 //! Runs of `ask` and `follow` at a node's control socket.
 
-use crate::operator::Operator;
+use crate::network::Network;
+use crate::operator::{Operator, text_of};
+use crate::scripted::run_steps;
 use crate::serving::SOCKET;
 use cli_ask::run_control_ask;
 use cli_follow::run_follow;
 use cli_io::Status;
+use std::alloc::{AllocError, Global};
 use std::fs;
 use std::io::{self, Cursor};
 
-/// Runs the program's words, in which `~` stands for a blank, at the control socket; prints how it ended, and what it
-/// wrote to the output and to standard error.
+/// The words, in which `~` stands for a blank, with the program's name before them.
+pub(crate) fn words_of(alloc: Global, words: &str) -> Result<Vec<String>, AllocError> {
+    let mut all = Vec::new(alloc);
+    all.push(String::from_str(alloc, "pfx")?)?;
+    for word in words.split(' ') {
+        all.push(word.replace(alloc, "~", " ")?)?;
+    }
+    Ok(all)
+}
+
+/// Prints how a run of the program ended, and what it wrote to the output and to standard error.
+pub(crate) fn print_run(
+    rt: &HostRuntime,
+    status: Status,
+    written: &[u8],
+    said: &[u8],
+) -> io::Result<()> {
+    println!(rt; "-- {}", status.code())?;
+    print!(rt; "{}", text_of(written))?;
+    if !said.is_empty() {
+        print!(rt; "-- said\n{}", text_of(said))?;
+    }
+    Ok(())
+}
+
+/// Runs the program's words at the control socket.
 fn run(rt: &HostRuntime, operator: &Operator<'_>, words: &str, input: &str) -> io::Result<()> {
     let alloc = rt.alloc();
-    let mut owned = Vec::new(alloc);
-    for word in words.split(' ') {
-        owned.push(word.replace(alloc, "~", " ")?)?;
-    }
+    let owned = words_of(alloc, words)?;
     let mut all = Vec::new(alloc);
-    all.push("pfx")?;
     for (at, word) in owned.iter().enumerate() {
         all.push(word.as_str())?;
-        if at == 0 {
+        if at == 1 {
             all.push("--control")?;
             all.push(SOCKET)?;
         }
@@ -40,44 +63,43 @@ fn run(rt: &HostRuntime, operator: &Operator<'_>, words: &str, input: &str) -> i
             false,
         )
     };
-    println!(rt; "-- {}", status.code())?;
-    print!(rt;
-        "{}",
-        std::str::from_utf8(&written).unwrap_or("not UTF-8\n")
-    )?;
-    if !said.is_empty() {
-        print!(rt;
-            "-- said\n{}",
-            std::str::from_utf8(&said).unwrap_or("not UTF-8\n")
-        )?;
-    }
-    Ok(())
+    // what was sent and isn't waited for is answered too
+    operator.answer()?;
+    print_run(rt, status, &written, &said)
 }
 
-/// Does what a row is for, if it is one of the control socket: whether it is.
+/// Prints how many bytes a file has, and a sum of them in which each place counts.
+fn print_sum(rt: &HostRuntime, path: &str) -> io::Result<()> {
+    let bytes = fs::read(rt, path)?;
+    let mut sum = 0u64;
+    for byte in &bytes {
+        sum = sum.wrapping_mul(31).wrapping_add(u64::from(*byte));
+    }
+    println!(rt; "{} bytes, {sum}", bytes.len())
+}
+
+/// Does what a row is for, if it is one of a running node or of the program: whether it is.
 pub(crate) fn run_row(
     rt: &HostRuntime,
     operator: &Operator<'_>,
+    network: &Network,
     line: &str,
     body: &str,
 ) -> io::Result<bool> {
-    if let Some(words) = line.strip_prefix("RUN ") {
-        operator.set_late(false);
-        run(rt, operator, words, body)?;
-        return Ok(true);
+    let (kind, words) = line.split_once(' ').unwrap_or((line, ""));
+    match kind {
+        "RUN" | "LATE" | "CUT" => {
+            operator.set_late(kind == "LATE");
+            operator.set_cut(kind == "CUT");
+            run(rt, operator, words, body)?;
+        }
+        "PFX" => network.run(rt, words)?,
+        "STRANGER" => network.print_heard(rt)?,
+        "NODE" => run_steps(operator, network, words, body)?,
+        "SUM" => print_sum(rt, words)?,
+        "FILE" => print!(rt; "{}", fs::read_to_string(rt, words)?)?,
+        "SOCKET" => println!(rt; "{:o}", operator.mode())?,
+        _ => return Ok(false),
     }
-    if let Some(words) = line.strip_prefix("LATE ") {
-        operator.set_late(true);
-        run(rt, operator, words, body)?;
-        return Ok(true);
-    }
-    if let Some(name) = line.strip_prefix("FILE ") {
-        print!(rt; "{}", fs::read_to_string(rt, name)?)?;
-        return Ok(true);
-    }
-    if line == "SOCKET" {
-        println!(rt; "{:o}", operator.mode())?;
-        return Ok(true);
-    }
-    Ok(false)
+    Ok(true)
 }

@@ -21,13 +21,15 @@ struct FollowedNode<'a> {
     handler: RequestHandler<MemoryRecords>,
     /// The changes that are left, a line each, with `|` for a newline.
     changes: &'a str,
+    /// Where rulesets are written. It is made where it is missing, before the third ask.
+    folder: &'a str,
     /// Whether the lines have the members' guard.
     is_guarded: bool,
 }
 
-/// Prints a file.
-fn print_file(rt: &HostRuntime, name: &str) -> io::Result<()> {
-    let text = fs::read_to_string(rt, name)?;
+/// Prints a file of the folder.
+fn print_file(rt: &HostRuntime, folder: &str, name: &str) -> io::Result<()> {
+    let text = fs::read_to_string(rt, format!(in rt.alloc(); "{folder}/{name}")?.as_str())?;
     print!(rt; "{name}:\n{text}")
 }
 
@@ -37,10 +39,14 @@ fn print_count(rt: &HostRuntime, name: &str) -> io::Result<()> {
     println!(rt; "{} lines", text.lines().count())
 }
 
-/// The names of the rulesets in the folder, those too that have another name until they are whole, in byte order.
-fn ruleset_names(rt: &HostRuntime) -> io::Result<Vec<String>> {
+/// The names of the rulesets in the folder, if it is there, those too that have another name until they are whole, in
+/// byte order.
+fn ruleset_names(rt: &HostRuntime, folder: &str) -> io::Result<Vec<String>> {
     let mut names = Vec::new(rt.alloc());
-    for entry in fs::read_dir(rt, ".")? {
+    let Ok(entries) = fs::read_dir(rt, folder) else {
+        return Ok(names);
+    };
+    for entry in entries {
         let entry = entry?;
         if entry.file_name().contains(".conf") {
             names.push(String::from_str(rt.alloc(), entry.file_name())?)?;
@@ -51,10 +57,10 @@ fn ruleset_names(rt: &HostRuntime) -> io::Result<Vec<String>> {
 }
 
 /// Prints what was written so far: the rulesets, unless the run is guarded, and how many lines there are.
-fn print_written(rt: &HostRuntime, is_guarded: bool) -> io::Result<()> {
+fn print_written(rt: &HostRuntime, folder: &str, is_guarded: bool) -> io::Result<()> {
     if !is_guarded {
-        for name in &ruleset_names(rt)? {
-            print_file(rt, name.as_str())?;
+        for name in &ruleset_names(rt, folder)? {
+            print_file(rt, folder, name.as_str())?;
         }
     }
     print_count(rt, LINES)
@@ -97,7 +103,11 @@ impl FollowedNode<'_> {
     /// What was written is printed, the next change is made, and the entries are read.
     fn turn(&mut self, alloc: Global, from: u32) -> io::Result<Reply> {
         println!(self.rt; "-- asked from {from}")?;
-        print_written(self.rt, self.is_guarded)?;
+        print_written(self.rt, self.folder, self.is_guarded)?;
+        if from > 1 {
+            // it may be there
+            let _made = fs::create_dir(self.rt, self.folder);
+        }
         self.change(alloc)?;
         let line = format!(in alloc; "GET /v1/entries?from={from}")?;
         self.read(alloc, line.as_str())
@@ -131,9 +141,9 @@ fn run(rt: &HostRuntime, node: &mut FollowedNode<'_>, turns: u64) -> io::Result<
     let files = if node.is_guarded {
         None
     } else {
-        Some(TextFiles::new(alloc, ".")?)
+        Some(TextFiles::new(alloc, node.folder)?)
     };
-    let is_guarded = node.is_guarded;
+    let (folder, is_guarded) = (node.folder, node.is_guarded);
     let mut lines = fs::create(rt, LINES)?;
     let mut errors = io::writer(rt);
     let interfaces = Vec::from_slice(alloc, b"em0 egress\n")?;
@@ -149,15 +159,16 @@ fn run(rt: &HostRuntime, node: &mut FollowedNode<'_>, turns: u64) -> io::Result<
         &mut errors,
     );
     println!(rt; "-- {}", if ended.is_ok() { "ended" } else { "failed" })?;
-    print_written(rt, is_guarded)?;
+    print_written(rt, folder, is_guarded)?;
     if is_guarded {
-        print_file(rt, LINES)?;
+        print_file(rt, ".", LINES)?;
     }
     Ok(())
 }
 
 /// A new node is followed while changes are made, a line each; behind `follow` what was written is printed once more.
-pub(crate) fn follow_node(rt: &HostRuntime, changes: &str, is_guarded: bool) -> io::Result<()> {
+/// `LATE` has a folder that isn't there at first.
+pub(crate) fn follow_node(rt: &HostRuntime, changes: &str, kind: &str) -> io::Result<()> {
     let Some(node) = opened(rt.alloc()) else {
         return println!(rt; "memory");
     };
@@ -165,7 +176,8 @@ pub(crate) fn follow_node(rt: &HostRuntime, changes: &str, is_guarded: bool) -> 
         rt,
         handler: RequestHandler::new(rt.alloc(), node),
         changes,
-        is_guarded,
+        folder: if kind == "LATE" { "late" } else { "." },
+        is_guarded: kind == "GUARDED",
     };
     let turns = changes.lines().count() as u64 + 1;
     let done = run(rt, &mut node, turns);

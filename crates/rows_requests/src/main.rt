@@ -9,23 +9,47 @@
 //! A row `== FOLLOW` runs `follow` over a new node, with rulesets in the folder and the file `lines` as its output. Its
 //! body has changes, a line each, with `|` for a newline. At each ask what was written so far is printed: the rulesets,
 //! and how many lines `lines` has; then the next change is made, and answered. A row `== FOLLOW GUARDED` has no
-//! rulesets, but lines with the members' guard, which are printed in the end.
+//! rulesets, but lines with the members' guard, which are printed in the end. A row `== FOLLOW LATE` has rulesets in a
+//! folder that is made before the third ask.
 //!
 //! A row `== RUN WORDS` runs `ask` or `follow` with these words, in which `~` stands for a blank, and the body as the
 //! input, at the control socket of another node, which runs for a few turns for each connection. Of each request the
 //! first line is printed, and the head of the answer without its date and length; then a line `-- STATUS`, and what the
-//! program wrote. In a row `== LATE WORDS` the node's clock ticks at the end of its turns alone. `== SOCKET` prints the
-//! mode of that control socket, and `== FILE NAME` a file.
+//! program wrote. In a row `== LATE WORDS` the node's clock ticks at the end of its turns alone, and in a row
+//! `== CUT WORDS` half of the answer comes, and nothing more in time. `== SOCKET` prints the mode of that control
+//! socket, and `== FILE NAME` a file. Of a file that can't be opened the path is printed.
+//!
+//! A row `== NODE N` runs the first of N members at its control socket, with the timer that a node has, and a clock of
+//! the row's own: a round of the node takes a millisecond. Its body has steps, a line each, behind each of which the
+//! node makes six rounds and what the clients received is printed, and what the node reports on standard error:
+//!
+//! | Step | Does |
+//! |---|---|
+//! | `pass N` | N milliseconds pass |
+//! | `datagram HEX` | a datagram comes |
+//! | `pfx WORDS` | as a row `== PFX WORDS` |
+//! | `K` | client K connects; a client that isn't there connects first in the steps below too |
+//! | `K tcp` | client K connects to the port of figures |
+//! | `K METHOD TARGET BODY` | client K sends a request; without a target the front of one |
+//!
+//! A row `== PFX WORDS` runs the program's `node`, `key`, or `ask` over UDP, in a cluster of two, of which `@1` is the
+//! address of the first member, `@2` that of the second, at which the row listens, and `@3` that of figures of the node
+//! of such rows: it prints what came to the second member.
+//! `== SUM NAME` prints a sum of a file's bytes, which shows whether it has changed.
+//! `== STRANGER` prints how many bytes are given of datagrams of a member and of a stranger where members are heard.
 #![tactic(auto)]
 
 mod asking;
 mod following;
+mod network;
 mod node;
 mod operator;
+mod scripted;
 mod serving;
 
 use crate::asking::run_row;
 use crate::following::follow_node;
+use crate::network::Network;
 use crate::node::{answered, opened, settle};
 use crate::operator::Operator;
 use crate::serving::Member;
@@ -52,18 +76,19 @@ fn main(rt: HostRuntime) -> io::Result<()> {
         return println!(rt; "memory");
     };
     let mut handler = RequestHandler::new(alloc, node);
-    let operator = Rc::new(alloc, Operator::new(&rt, Member::new(alloc)))?;
+    let operator = Rc::new(alloc, Operator::new(&rt, Member::new(alloc, 1)))?;
+    let network = Network::new(&rt)?;
     for row in input.split("\n== ").skip(1) {
         let (line, body) = match row.split_once('\n') {
             Some((line, body)) => (line, body),
             None => (row, ""),
         };
         println!(rt; "== {line}")?;
-        if run_row(&rt, &operator, line, body)? {
+        if run_row(&rt, &operator, &network, line, body)? {
             continue;
         }
-        if line == "FOLLOW" || line == "FOLLOW GUARDED" {
-            follow_node(&rt, body, line != "FOLLOW")?;
+        if let Some(kind) = line.strip_prefix("FOLLOW") {
+            follow_node(&rt, body, kind.trim_start())?;
             continue;
         }
         respond(&rt, &mut handler, line, body)?;

@@ -1,23 +1,35 @@
-//! An operator's handle of the system: who connects to the node's control socket is answered by a node that runs for
-//! that, as soon as the time is asked.
+//! An operator's handle of the system: a client of the node's control socket is answered by a node that runs for that,
+//! as soon as the time is read. A node that runs with this handle has the system's sockets, and the same clock.
 
 use crate::serving::{Member, Served};
 use node_loop::Ended;
 use std::alloc::Allocator;
 use std::cell::Cell;
+use std::fmt::Display;
 use std::fs::{Files, Metadata, OpenOptions, Permissions};
-use std::io::{self, ErrorKind, Read, Write};
+use std::io::{self, Eprint, ErrorKind, Read, Write};
 use std::net::{Net, SocketAddr, TcpListener, TcpStream};
+use std::os::fd::{BorrowedFd, OwnedFd};
 use std::os::unix::net::{self, UnixStream};
+use std::random::RandomSource;
 use std::time::{Clock, Duration};
 
-/// How often a request is read at most, 8,192 bytes each time.
+/// How often a stream is read at most, 8,192 bytes each time.
 const READS: usize = 64;
+
+/// What is left of the ten seconds in which an answer has to come is waited for, in milliseconds of the row's clock.
+const PATIENCE: u64 = 9_980;
 
 /// The system's files, and a node in place of its network.
 #[derive(Drop)]
 pub(crate) struct Operator<'a> {
-    rt: &'a HostRuntime,
+    pub(crate) rt: &'a HostRuntime,
+    /// The time by its clock, in milliseconds. Each reading adds one.
+    now: Cell<u64>,
+    /// Whether connections are the system's.
+    is_node: Cell<bool>,
+    /// The datagram that comes next to a node that runs with this handle.
+    pub(crate) coming: Cell<Option<Vec<u8>>>,
     member: Cell<Option<Member>>,
     /// The other end of the connection that was made last.
     far: Cell<Option<UnixStream>>,
@@ -25,10 +37,12 @@ pub(crate) struct Operator<'a> {
     mode: Cell<u32>,
     /// Whether the node's clock ticks, so that what waits is proposed, at its end alone.
     is_late: Cell<bool>,
+    /// Whether half of an answer comes, and nothing more in time.
+    is_cut: Cell<bool>,
 }
 
 /// What is read as text.
-fn text_of(bytes: &[u8]) -> &str {
+pub(crate) fn text_of(bytes: &[u8]) -> &str {
     std::str::from_utf8(bytes).unwrap_or("not UTF-8")
 }
 
@@ -45,24 +59,34 @@ fn print_head(rt: &HostRuntime, answer: &[u8]) -> io::Result<()> {
     println!(rt; "< nothing more")
 }
 
-/// What has come of a request.
-fn request_in(rt: &HostRuntime, stream: &mut UnixStream) -> io::Result<Vec<u8>> {
-    let mut request = Vec::new(rt.alloc());
+/// What has come over a stream that doesn't wait, and whether its other end is closed.
+pub(crate) fn come(rt: &HostRuntime, stream: &mut UnixStream) -> io::Result<(Vec<u8>, bool)> {
+    let mut all = Vec::new(rt.alloc());
     let mut bytes = [0; 8192];
-    stream.set_nonblocking(true)?;
     for _ in 0..READS {
         match stream.read(&mut bytes) {
-            Ok(0) => return Ok(request),
+            Ok(0) => return Ok((all, true)),
             Ok(count) => {
                 if let Some(part) = bytes.get(..count) {
-                    request.extend_from_slice(part)?;
+                    all.extend_from_slice(part)?;
                 }
             }
-            Err(error) if error.kind() == ErrorKind::WouldBlock => return Ok(request),
-            Err(error) => return Err(error),
+            Err(error) if error.kind() == ErrorKind::WouldBlock => return Ok((all, false)),
+            Err(_) => return Ok((all, true)),
         }
     }
-    Ok(request)
+    Ok((all, false))
+}
+
+/// Prints how a node ended where that is by itself.
+pub(crate) fn print_end(rt: &HostRuntime, ended: &Ended) -> io::Result<()> {
+    match ended {
+        Ended::Front { .. } => Ok(()),
+        Ended::Stopped { front, applied } => {
+            println!(rt; "stopped, front {front}, applied {applied}")
+        }
+        _ => println!(rt; "failed"),
+    }
 }
 
 impl<'a> Operator<'a> {
@@ -70,11 +94,26 @@ impl<'a> Operator<'a> {
     pub(crate) fn new(rt: &'a HostRuntime, member: Option<Member>) -> Operator<'a> {
         Operator {
             rt,
+            now: Cell::new(0),
+            is_node: Cell::new(false),
+            coming: Cell::new(None),
             member: Cell::new(member),
             far: Cell::new(None),
             mode: Cell::new(0),
             is_late: Cell::new(false),
+            is_cut: Cell::new(false),
         }
+    }
+
+    /// Time passes, in milliseconds.
+    pub(crate) fn pass(&self, time: u64) {
+        self.now.set(self.now.get().saturating_add(time));
+    }
+
+    /// Whether a node is to run with this handle. Its clock begins anew.
+    pub(crate) fn set_node(&self, is_node: bool) {
+        self.is_node.set(is_node);
+        self.now.set(0);
     }
 
     /// The mode of the control socket at the last answer.
@@ -87,25 +126,25 @@ impl<'a> Operator<'a> {
         self.is_late.set(is_late);
     }
 
+    /// Whether half of an answer is to come, and nothing more in time.
+    pub(crate) fn set_cut(&self, is_cut: bool) {
+        self.is_cut.set(is_cut);
+    }
+
     /// Prints a request's first line and the head of its answer, and how the node ended where that is by itself.
     fn print(&self, request: &[u8], served: &Served) -> io::Result<()> {
         println!(self.rt; "> {}", text_of(request).lines().next().unwrap_or(""))?;
         print_head(self.rt, served.answer.as_slice())?;
-        match served.ended {
-            Ended::Front { .. } => Ok(()),
-            Ended::Stopped { front, applied } => {
-                println!(self.rt; "stopped, front {front}, applied {applied}")
-            }
-            _ => println!(self.rt; "failed"),
-        }
+        print_end(self.rt, &served.ended)
     }
 
     /// The node runs and answers, where a client has sent a request.
-    fn answer(&self) -> io::Result<()> {
+    pub(crate) fn answer(&self) -> io::Result<()> {
         let Some(mut far) = self.far.take() else {
             return Ok(());
         };
-        let request = request_in(self.rt, &mut far)?;
+        far.set_nonblocking(true)?;
+        let (request, _is_closed) = come(self.rt, &mut far)?;
         if request.is_empty() {
             self.far.set(Some(far));
             return Ok(());
@@ -117,18 +156,42 @@ impl<'a> Operator<'a> {
         self.member.set(member);
         self.mode.set(served.mode);
         self.print(request.as_slice(), &served)?;
-        far.write_all(served.answer.as_slice())
+        let answer = served.answer.as_slice();
+        if !self.is_cut.get() {
+            return far.write_all(answer);
+        }
+        far.write_all(answer.get(..answer.len() / 2).unwrap_or(answer))?;
+        self.far.set(Some(far));
+        self.pass(PATIENCE);
+        Ok(())
     }
 }
 
 impl Clock for Operator<'_> {
     fn monotonic(&self) -> io::Result<Duration> {
         self.answer()?;
-        self.rt.monotonic()
+        self.pass(1);
+        self.since_1970()
     }
 
     fn since_1970(&self) -> io::Result<Duration> {
-        self.rt.since_1970()
+        Ok(Duration::from_millis(self.now.get()))
+    }
+}
+
+impl Eprint for Operator<'_> {
+    fn eprint<D: Display + Drop>(&self, value: D) -> io::Result<()> {
+        print!(self.rt; "{value}")
+    }
+
+    fn eprintln<D: Display + Drop>(&self, value: D) -> io::Result<()> {
+        println!(self.rt; "{value}")
+    }
+}
+
+impl RandomSource for Operator<'_> {
+    fn fill_bytes(&self, bytes: &mut [u8]) -> io::Result<()> {
+        self.rt.fill_bytes(bytes)
     }
 }
 
@@ -145,7 +208,10 @@ impl Net for Operator<'_> {
         self.rt.connect(addr)
     }
 
-    fn connect_unix(&self, _addr: &net::SocketAddr) -> io::Result<UnixStream> {
+    fn connect_unix(&self, addr: &net::SocketAddr) -> io::Result<UnixStream> {
+        if self.is_node.get() {
+            return self.rt.connect_unix(addr);
+        }
         let (near, far) = UnixStream::pair(self.rt)?;
         self.far.set(Some(far));
         Ok(near)
@@ -153,6 +219,10 @@ impl Net for Operator<'_> {
 
     fn unix_pair(&self) -> io::Result<(UnixStream, UnixStream)> {
         UnixStream::pair(self.rt)
+    }
+
+    fn unix_socket(&self) -> io::Result<OwnedFd> {
+        self.rt.unix_socket()
     }
 }
 
@@ -162,7 +232,11 @@ impl Files for Operator<'_> {
     type Dir = <HostRuntime as Files>::Dir;
 
     fn open_file(&self, how: &OpenOptions, path: &str) -> io::Result<Self::File> {
-        self.rt.open_file(how, path)
+        let file = self.rt.open_file(how, path);
+        if file.is_err() {
+            println!(self.rt; "not opened: {path}")?;
+        }
+        file
     }
 
     fn open_dir(&self, path: &str) -> io::Result<Self::Dir> {
@@ -203,5 +277,17 @@ impl Files for Operator<'_> {
 
     fn set_permissions(&self, path: &str, perm: Permissions) -> io::Result<()> {
         self.rt.set_permissions(path, perm)
+    }
+
+    fn hard_link(&self, original: &str, link: &str) -> io::Result<()> {
+        self.rt.hard_link(original, link)
+    }
+
+    fn create_dir_with_mode(&self, path: &str, mode: u32) -> io::Result<()> {
+        self.rt.create_dir_with_mode(path, mode)
+    }
+
+    fn bind_unix(&self, socket: BorrowedFd<'_>, addr: &net::SocketAddr) -> io::Result<()> {
+        self.rt.bind_unix(socket, addr)
     }
 }

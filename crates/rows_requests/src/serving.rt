@@ -1,17 +1,20 @@
-//! A node of a cluster of one that runs at a control socket while one request is answered.
+//! A node that runs at a control socket, of a cluster of one while one request is answered.
 
-ghost use Rattle.std.specs.Prelude.{◌≡◌, ◌<◌, ⊤};
+ghost use Rattle.std.specs.Prelude.{◌≡◌, ◌<◌, ⊤, false};
 
 use node_control::{ControlPlace, Observer, run_member};
-use node_loop::{Action, Ended, Membership, MemoryWire, Timer, View};
+use node_loop::{Action, Ended, Membership, MemoryWire, Timer, View, Wire};
 use px_records::{MemoryRecords, Records};
 use px_transport::LoopbackWire;
 use std::alloc::{AllocError, Global};
-use std::fs;
-use std::io::{self, Read, Write};
+use std::fs::{self, Files};
+use std::io::{self, Eprint, Read, Write};
+use std::net::{Net, SocketAddr, TcpListener, TcpStream};
 use std::os::fd::AsRawFd;
 use std::os::unix::fs::PermissionsExt;
 use std::os::unix::net::UnixStream;
+use std::random::RandomSource;
+use std::time::Clock;
 
 /// The path of the node's control socket.
 pub(crate) const SOCKET: &str = "socket";
@@ -77,6 +80,8 @@ impl Timer for Client<'_> {
     // what comes of it is shown by rows
     ghost timer_events = { λ _ _. ⊤ };
 
+    ghost listens = { λ _ _. false };
+
     fn action(&mut self, _now: u64, view: View) -> Action {
         self.go_on();
         if view.waiting > 0 && !view.is_attempting && (self.is_ending || !self.is_late) {
@@ -101,7 +106,7 @@ impl Timer for Client<'_> {
     }
 }
 
-/// A member of a cluster of one, and its record.
+/// The first member of a cluster, and its record.
 #[derive(Drop)]
 pub(crate) struct Member {
     membership: Membership,
@@ -133,28 +138,62 @@ fn member_of(membership: Membership, records: MemoryRecords) -> Option<Member> {
 }
 
 impl Member {
-    /// A member that learned nothing.
-    pub(crate) fn new(alloc: Global) -> Option<Member> {
-        let membership = Membership::new(7, 1, 0)?;
-        member_of(membership, MemoryRecords::new(alloc, membership.members()))
+    /// The first of n members, which learned nothing.
+    pub(crate) fn new(alloc: Global, members: u8) -> Option<Member> {
+        let membership = Membership::new(7, members, 0)?;
+        member_of(membership, MemoryRecords::new(alloc, members))
     }
 
-    /// Runs at the control socket while the request is answered. The member afterwards is none where its record is of
-    /// a group of another size.
+    /// Runs at the control socket, and at a port for figures, if one is given. The member afterwards is none where its
+    /// record is of a group of another size.
+    pub(crate) fn run<W: Wire, T: Timer, RT>(
+        self,
+        rt: &RT,
+        alloc: Global,
+        wire: &mut W,
+        timer: &mut T,
+        figures: Option<SocketAddr>,
+        turns: u64,
+    ) -> io::Result<(Ended, Option<Member>)>
+    where
+        RT: Clock + Eprint + Files + Net<Listener = TcpListener, Stream = TcpStream> + RandomSource,
+    {
+        let Member {
+            membership,
+            records,
+        } = self;
+        let (near, _far) = UnixStream::pair(rt)?;
+        let mut observer = Observer::new(alloc, membership, false, true)?;
+        let place = ControlPlace {
+            path: SOCKET,
+            figures,
+            members: "192.0.2.1:4711",
+            fd: near.as_raw_fd(),
+        };
+        let (ended, records) = run_member(
+            rt,
+            alloc,
+            membership,
+            records,
+            wire,
+            timer,
+            &mut observer,
+            false,
+            Some(place),
+            turns,
+        );
+        Ok((ended, member_of(membership, records)))
+    }
+
+    /// Runs at the control socket while the request is answered.
     pub(crate) fn serve(
         self,
         rt: &HostRuntime,
         request: &[u8],
         is_late: bool,
     ) -> io::Result<(Served, Option<Member>)> {
-        let Member {
-            membership,
-            records,
-        } = self;
         let alloc = rt.alloc();
-        let (near, _far) = UnixStream::pair(rt)?;
         let mut wire = LoopbackWire::new(alloc, MemoryWire::new(alloc, Vec::new(alloc)), 0);
-        let mut observer = Observer::new(alloc, membership, false, true)?;
         let mut client = Client {
             rt,
             request,
@@ -165,24 +204,7 @@ impl Member {
             is_late,
             is_ending: false,
         };
-        let place = ControlPlace {
-            path: SOCKET,
-            figures: None,
-            members: "192.0.2.1:4711",
-            fd: near.as_raw_fd(),
-        };
-        let (ended, records) = run_member(
-            rt,
-            alloc,
-            membership,
-            records,
-            &mut wire,
-            &mut client,
-            &mut observer,
-            false,
-            Some(place),
-            TURNS,
-        );
+        let (ended, member) = self.run(rt, alloc, &mut wire, &mut client, None, TURNS)?;
         for _ in 0..TURNS {
             if !client.take() {
                 break;
@@ -194,6 +216,6 @@ impl Member {
             mode,
             ended,
         };
-        Ok((served, member_of(membership, records)))
+        Ok((served, member))
     }
 }

@@ -1,6 +1,6 @@
 //! Members with empty records in memory, and what is asked of them.
 
-use node_loop::{Room, TickTimer, finish, round};
+use node_loop::{Room, SystemClock, TickTimer, finish, round};
 use pf_entry::Profile;
 use pf_node::{Command, Membership, Node};
 use pf_rules::Path;
@@ -70,6 +70,15 @@ pub(crate) fn runs(
         return false;
     };
     let mut timer = TickTimer::new(0);
+    let mut clock = SystemClock { clock: rt };
     round(node, wire, &mut room, &mut timer, 0).is_ok()
-        && finish(node, wire, &mut room, &mut timer, rt, Instant::now(rt).ok()).is_ok()
+        && finish(
+            node,
+            wire,
+            &mut room,
+            &mut timer,
+            &mut clock,
+            Instant::now(rt).ok(),
+        )
+        .is_ok()
 }

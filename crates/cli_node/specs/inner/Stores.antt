@@ -1,12 +1,23 @@
 -- Whether a node's store is opened or made.
-use Rattle.std.specs.Prelude.{◌≡◌, ◌≢◌, ◌⊎◌, ◌||◌, not, ℕ, Bool, true, false}
+use Rattle.std.specs.Prelude.{◌≡◌, ◌≢◌, ◌⊎◌, ◌||◌, ⊤, not, ℕ, Bool, true, false}
+use Rattle.sqlite.specs.State.{State, HasCleanDisk}
+use Rattle.sqlite.specs.Effect.{Database}
+use Rattle.px_store.specs.Formats.{schema_at}
+use Rattle.px_store.specs.declared.formats.Format.{Format}
+use Rattle.px_store.specs.declared.calls.Identity.{Identity}
+use Rattle.px_wire.specs.declared.membership.Membership.{Membership}
 use Rattle.cli_node.specs.declared.outcome.Outcome.{Outcome}
-use Rattle.cli_node.specs.declared.outcome.Outcome.TheVariants.{Memory, Refused}
+use Rattle.cli_node.specs.declared.outcome.Outcome.TheVariants.{Front, Stopped, Asked, Key, Refused, RefusedLine}
+use Rattle.cli_node.specs.declared.outcome.Outcome.TheVariants.{NoAnswer, Sound, Made, Memory, Unread}
 use Rattle.cli_node.specs.declared.store.Found.{Found}
 use Rattle.cli_node.specs.declared.store.Found.TheVariants as found
 use Rattle.cli_node.specs.declared.store.Opening.{Opening}
 use Rattle.cli_node.specs.declared.store.Opening.TheVariants.{Opens, Makes, Refuses}
 use Rattle.cli_node.specs.declared.store.TheConstants.{NO_STORE, FILE_IS_THERE}
+
+-- whom the store of a member belongs to
+abbrev pub identity_at : Membership → Identity
+identity_at m = record { cluster = m.cluster; members = m.members; node = m.me }
 
 -- no store is there: nothing, or a file without a byte
 abbrev pub IsNone : Found → Type 0
@@ -37,6 +48,27 @@ pub record IsOpening (is_from_file is_new : Bool) (f : Found) (o : Opening) : Ty
   pub held : is_new ≡ true → f ≡ found.Store → o ≡ Refuses FILE_IS_THERE
   pub lost : is_from_file ≡ true → is_new ≡ false → IsNone f → o ≡ Refuses NO_STORE
   pub refused : (code : ℕ) → o ≡ Refuses code → IsRefused is_from_file is_new f code
+
+-- a database that was held, within a transaction or not, is now in this state, and what it held in its format is opened
+abbrev pub IsKept : (held : Database → (within : Bool) → Type 0) → (now : State) → (is_opened : Format → Database → Type 0) →
+    Type 0
+IsKept held now is_opened =
+    (was : Database) × (within : Bool) × held was within
+    × (HasCleanDisk now → (f : Format) → was.schema ≡ schema_at f → within ≡ false → is_opened f was)
+
+-- nothing but out of memory and refusals
+abbrev pub IsRefusal : Outcome → Type 0
+IsRefusal Memory = ⊤
+IsRefusal (Refused code) = ⊤
+IsRefusal (Front front applied) = ⊥
+IsRefusal (Stopped front applied) = ⊥
+IsRefusal (Asked node number) = ⊥
+IsRefusal (Key key) = ⊥
+IsRefusal (RefusedLine code at) = ⊥
+IsRefusal NoAnswer = ⊥
+IsRefusal Sound = ⊥
+IsRefusal Made = ⊥
+IsRefusal Unread = ⊥
 
 -- why no store is made: its file or its database can't be, or its node would have no socket
 abbrev pub IsUnmade : Outcome → Type 0

@@ -15,6 +15,7 @@ use Rattle.node_requests.specs.Requests.{Answers}
 use Rattle.node_requests.specs.Routing.{RoutedValue, Asked, Refused, Unread, request_value}
 use Rattle.node_control.specs.declared.service.HttpService.{HttpService}
 use Rattle.node_control.specs.inner.Asking.{path_of, asked_for, is_of_figures}
+use Rattle.node_control.specs.inner.Observing.{AreKept}
 
 -- a response says an answer, its status and its body; or it is 503 without one, if memory runs out for it
 abbrev pub Says : Response → AnswerValue → Type 0
@@ -33,6 +34,11 @@ pub record IsTurnedAway {R : Type 0} {G : Ghosts R} (c d : HttpService R G) (a :
   pub still : d.handler ≡ c.handler
   pub left : d.changes_left ≡ c.changes_left
   pub says : Says r a
+
+-- clients change nothing of what the loop says of the node
+pub record IsKept {R : Type 0} {G : Ghosts R} (c d : HttpService R G) : Type 0 where
+  pub listening : d.is_listening ≡ c.is_listening
+  pub counted : AreKept c.counters d.counters
 
 -- ---- who is answered
 

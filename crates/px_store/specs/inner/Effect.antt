@@ -38,10 +38,6 @@ pub record Stays (old new : State) : Type 0 where
   pub auto : new.in_transaction ≡ false
   pub was_open : IsTrue new.is_open → IsTrue old.is_open
 
--- what a stop leaves is what it left before
-abbrev pub LeavesOld : State → State → Type 0
-LeavesOld old new = (db : Trees) → new.may_leave db → old.may_leave db
-
 -- the connection is open, and shows what it showed
 pub record Serves (old new : State) : Type 0 where
   pub was_open : IsTrue old.is_open

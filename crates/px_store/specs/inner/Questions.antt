@@ -9,7 +9,8 @@ use Rattle.px_store.specs.inner.Tables.{get_end, get_last, key_params, span_para
 use Rattle.px_store.specs.Seen.{seen, meta_columns, slot_columns, floor_columns, learned_columns}
 use Rattle.px_store.specs.Seen.{has_ballot, any_row}
 use Rattle.px_store.specs.inner.Seen.{IsLast}
-use Rattle.px_store.specs.inner.Effect.{IsAlike, IsStill, LeavesOld}
+use Rattle.px_store.specs.inner.Effect.{IsAlike, IsStill}
+use Rattle.px_store.specs.Adopting.{LeavesOld}
 use Rattle.px_store.specs.inner.Ahead.{AreAlike}
 use Rattle.px_store.specs.declared.calls.Question.{Question}
 use Rattle.px_store.specs.declared.calls.Question.TheVariants.{Meta, Floor, Slot, Learned, Span, Top, End, LastSlot}

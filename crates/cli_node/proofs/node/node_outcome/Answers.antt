@@ -1,5 +1,6 @@
--- what the run ended with
+-- whatever turns were made
+use Rattle.cli_node.proofs.Endings.{node_any}
 use Rattle.cli_node.proofs.node.node_outcome.Goals as goal
 
-pub returns-in-Ok-record_at-clause-store : goal.returns-in-Ok-record_at-clause-store
-returns-in-Ok-record_at-clause-store c = c.run_sealed.ensures.store c.args.words.is_from_file c.args.words.is_new
+pub returns-clause-ran : goal.returns-clause-ran
+returns-clause-ran c = node_any _ _ _ _ _ _ _ _ _ _ c.run_node.ensures.ran

@@ -1,5 +1,7 @@
 -- a run at the socket, without keys or with them
-use Rattle.std.proofs.Common.{inr}
+use Rattle.std.proofs.Common.{◌∙◌, ap, inr, sym}
+use Rattle.px_transport.specs.Wiring.{inner_of}
+use Rattle.node_udp.specs.Members.{me_of, peers_of, route_of}
 use Rattle.cli_node.proofs.Refusing.{wire_is}
 use Rattle.cli_node.proofs.Sealed.{as_sealed, hearing_is}
 use Rattle.cli_node.proofs.node.run_at.Goals as goal
@@ -11,9 +13,12 @@ returns-in_default-sealing-clause-ran g c = inr (
   c.run_at_socket-ended.ensures.made,
   λ honest.
       let r = c.run_at_socket-ended.ensures.ran (wire_is _ _ _ c.in-Ok.is c.requires.new) honest c.requires.failed in (
+        peers_of c.in-Ok.wire,
+        wire_is _ _ _ c.in-Ok.is c.requires.peers,
         r.0,
-        hearing_is g.R.Records c.args.m _ _ c.args.records c.run_at_socket-ended.result.1 r.0 _ _ c.in_default-sealing.is
-            c.hears_asks-hears.ensures r.2,
+        hearing_is g.R.Records c.args.m _ _ c.args.records c.run_at_socket-ended.result.1 r.0 _ _ _ _ c.in_default-sealing.is
+            c.hears_asks-hears.ensures
+            (ap (route_of (peers_of c.in-Ok.wire)) (wire_is _ _ _ c.in-Ok.is c.requires.own ∙ sym c.requires.is)) r.2,
       ),
 )
 
@@ -24,9 +29,13 @@ returns-clause-ran g c = inr (
   c.run_sealed_at_socket-ended.ensures.made,
   λ honest.
       let r = c.run_sealed_at_socket-ended.ensures.ran c.in-Ok-sealed.ensures.new honest c.requires.failed in (
+        peers_of c.in-Ok.wire,
+        wire_is _ _ _ c.in-Ok.is c.requires.peers,
         r.0,
-        hearing_is g.R.Records c.args.m _ _ c.args.records c.run_sealed_at_socket-ended.result.1 r.0 _ _ c.in-Some.is
+        hearing_is g.R.Records c.args.m _ _ c.args.records c.run_sealed_at_socket-ended.result.1 r.0 _ _ _ _ c.in-Some.is
             c.hears_asks-hears.ensures
-            (as_sealed _ _ _ _ _ _ _ _ _ _ c.in-Ok-sealed.ensures.keys c.in-Ok-sealed.ensures.sealer r.2),
+            (ap (λ (w : _). route_of (peers_of w) (me_of w)) c.in-Ok-sealed.ensures.inner
+            ∙ ap (route_of (peers_of c.in-Ok.wire)) (wire_is _ _ _ c.in-Ok.is c.requires.own ∙ sym c.requires.is))
+            (as_sealed _ _ _ _ _ _ _ _ _ _ _ c.in-Ok-sealed.ensures.keys c.in-Ok-sealed.ensures.sealer r.2),
       ),
 )

@@ -1,5 +1,23 @@
 -- what the run ended with
+use Rattle.std.proofs.Common.{inl, inr}
+use Rattle.cli_node.proofs.Endings.{refusal_of}
 use Rattle.cli_node.proofs.node.run_new.Goals as goal
 
 pub returns-in-Ok-record_at-clause-store : goal.returns-in-Ok-record_at-clause-store
-returns-in-Ok-record_at-clause-store c = c.run_on.ensures.store c.args.words.is_from_file c.args.words.is_new
+returns-in-Ok-record_at-clause-store g c = c.run_on.ensures.store c.args.words.is_from_file c.args.words.is_new
+
+pub returns-in-Err-clause-ran : goal.returns-in-Err-clause-ran
+returns-in-Err-clause-ran g c =
+    inl (refusal_of 95 c.sealing_for.result c.in-Err.outcome c.in-Err.is c.sealing_for.ensures.refused)
+
+pub returns-in-Ok-record_at-clause-ran : goal.returns-in-Ok-record_at-clause-ran
+returns-in-Ok-record_at-clause-ran g c = inr (
+  c.in-Ok-record_at.records,
+  c.in-Ok-record_at.ensures.members,
+  c.in-Ok-record_at.ensures.begins,
+  c.in-Ok-record_at.ensures.rows,
+  inl (c.in-Ok.sealing, c.in-Ok.ensures.keys, c.in-Ok.ensures.start, c.run_on.ensures.ran),
+)
+
+pub returns-in-Err-record_at-clause-ran : goal.returns-in-Err-record_at-clause-ran
+returns-in-Err-record_at-clause-ran g c = inl c.in-Err-record_at.ensures.kind

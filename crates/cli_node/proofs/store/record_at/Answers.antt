@@ -1,10 +1,29 @@
-use Rattle.std.proofs.Common.{sym, subst}
+-- what a store that isn't taken comes to, and what one that is taken held
+use Rattle.std.proofs.Common.{◌≡◌, ◌∙◌, sym, subst}
 use Rattle.cli_node.specs.declared.outcome.Outcome.{Outcome}
-use Rattle.cli_node.specs.inner.Stores.{IsStoreless}
-use Rattle.cli_node.proofs.Stores.{by_fault}
+use Rattle.cli_node.specs.declared.outcome.Outcome.TheVariants.{Refused}
+use Rattle.cli_node.specs.inner.Stores.{IsRefusal, IsStoreless}
+use Rattle.cli_node.proofs.Stores.{by_fault, kind_of_fault, unfailed_fault}
 use Rattle.cli_node.proofs.store.record_at.Goals as goal
 
+pub returns-in-Ok-record_in-clause-rows : goal.returns-in-Ok-record_in-clause-rows
+returns-in-Ok-record_in-clause-rows g c = (
+  _,
+  _,
+  c.in-Ok.ensures.at,
+  λ clean f schema auto. c.in-Ok-record_in.ensures.rows clean f (record { schema = schema; auto = auto }),
+)
+
 pub returns-in-Err-record_in-clause-refused : goal.returns-in-Err-record_in-clause-refused
-returns-in-Err-record_in-clause-refused c =
-    subst (λ (o : Outcome). IsStoreless c.args.words.is_from_file c.args.words.is_new o) (sym c.untaken.ensures)
+returns-in-Err-record_in-clause-refused g c =
+    subst (λ (o : Outcome). IsStoreless c.args.words.is_from_file c.args.words.is_new o) (sym c.untaken.ensures.is)
     (by_fault c.args.words.is_from_file c.args.words.is_new c.in-Err-record_in.fault)
+
+pub returns-in-Err-record_in-clause-kind : goal.returns-in-Err-record_in-clause-kind
+returns-in-Err-record_in-clause-kind g c =
+    subst IsRefusal (sym c.untaken.ensures.is) (kind_of_fault c.in-Err-record_in.fault)
+
+pub returns-in-Err-record_in-clause-unfailed : goal.returns-in-Err-record_in-clause-unfailed
+returns-in-Err-record_in-clause-unfailed g c = λ e.
+    let same : c.untaken.result ≡ Refused 80 = cc in
+    unfailed_fault c.in-Err-record_in.fault (sym c.untaken.ensures.is ∙ same)

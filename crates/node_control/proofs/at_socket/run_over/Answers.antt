@@ -1,7 +1,7 @@
 -- the wire stays the member's, and the one below is given back
 use Rattle.std.proofs.Common.{◌∙◌, [], sym, ap}
 use Rattle.px_transport.specs.Loopback.{below_of}
-use Rattle.node_control.proofs.AtSockets.{me_is, below_is}
+use Rattle.node_control.proofs.AtSockets.{me_is, below_is, route_below}
 use Rattle.node_control.proofs.at_socket.run_over.Goals as goal
 
 pub returns-clause-hosted : goal.returns-clause-hosted
@@ -34,3 +34,10 @@ returns-clause-same g c =
     ∙ below_is _ _ (g.W.Wire.identity (below_of c.run_member-ended.new.wire)) (g.W.Wire.identity (below_of c.new-wire.result))
     c.run_member-ended.ensures.same
     ∙ ap (λ (w : _). (g.W.Wire.identity w).sealing) c.new-wire.ensures.below
+
+pub returns-clause-route : goal.returns-clause-route
+returns-clause-route g c =
+    ap (λ (w : _). (g.W.Wire.identity w).route) c.into_inner.ensures
+    ∙ route_below _ _ (g.W.Wire.identity (below_of c.run_member-ended.new.wire)) (g.W.Wire.identity (below_of c.new-wire.result))
+    c.run_member-ended.ensures.same
+    ∙ ap (λ (w : _). (g.W.Wire.identity w).route) c.new-wire.ensures.below

@@ -1,6 +1,6 @@
 -- the run over the wire is one of packets at its socket
 use Rattle.px_transport.specs.Wiring.{keys_of, sealer_of}
-use Rattle.node_control.proofs.AtSockets.{runs_sealed, runs_sealed_by, sealing_is}
+use Rattle.node_control.proofs.AtSockets.{runs_sealed, runs_sealed_by, route_is, sealing_is}
 use Rattle.node_control.proofs.at_socket.run_sealed_at_socket.Goals as goal
 
 pub returns-clause-same : goal.returns-clause-same
@@ -13,8 +13,9 @@ returns-clause-ran g c new honest fresh =
     c.args.hears_asks c.args.records c.run_over.result.1 c.run_over.result.0 c.run_over.result.2 honest fresh (c.run_over.ensures.hosted new) in (
       r.0,
       r.1,
-      runs_sealed_by g.R.Records c.args.m c.args.hears_asks c.args.records c.run_over.result.1 r.0 (keys_of c.run_over.result.2)
-          (keys_of c.args.wire) (sealer_of c.run_over.result.2) (sealer_of c.args.wire) same.0 same.1 r.2,
+      runs_sealed_by g.R.Records c.args.m c.args.hears_asks c.args.records c.run_over.result.1 r.0 _ _
+          (keys_of c.run_over.result.2) (keys_of c.args.wire) (sealer_of c.run_over.result.2) (sealer_of c.args.wire)
+          (route_is _ _ c.run_over.ensures.route) same.0 same.1 r.2,
     )
 
 pub returns-clause-hosted : goal.returns-clause-hosted

@@ -1,9 +1,10 @@
 -- turns, and the requests behind them
-use Rattle.std.proofs.Common.{None, refl}
+use Rattle.std.proofs.Common.{None, refl, subst, sym}
 use Rattle.node_loop.specs.Turns.{standing}
 use Rattle.node_loop.proofs.Chains.{served_then}
 use Rattle.node_loop.proofs.Hosting.{hosted_served, hosted_on}
 use Rattle.node_control.proofs.Rounds.{still, served_over}
+use Rattle.node_control.specs.inner.Observing.{IsShown}
 use Rattle.node_control.proofs.running.pass.Goals as goal
 
 pub returns-in-Err-clause-hosted : goal.returns-in-Err-clause-hosted
@@ -55,3 +56,21 @@ returns-then-not-serve-clause-asked g c es t =
     let r = c.in-Ok.ensures.served es t in
     let a = c.serve.ensures.asks in
     (r.0, c.wait.ensures.quiet r.0 r.1, (standing c.round.new.node r.0 c.round.new.room, r.2, a.0, a.1, a.2))
+
+pub returns-else-not-serve-clause-shown : goal.returns-else-not-serve-clause-shown
+returns-else-not-serve-clause-shown g c = (
+  c.in-Ok.made,
+  refl,
+  c.tell.new.counters,
+  subst (λ s. IsShown s c.in-Ok.made c.args.service.now.counters c.tell.new.counters) (sym c.hear.ensures) c.tell.ensures.shown,
+  c.serve.ensures.kept.counted,
+)
+
+pub returns-then-not-serve-clause-shown : goal.returns-then-not-serve-clause-shown
+returns-then-not-serve-clause-shown g c = (
+  c.in-Ok.made,
+  refl,
+  c.tell.new.counters,
+  subst (λ s. IsShown s c.in-Ok.made c.args.service.now.counters c.tell.new.counters) (sym c.hear.ensures) c.tell.ensures.shown,
+  c.serve.ensures.kept.counted,
+)

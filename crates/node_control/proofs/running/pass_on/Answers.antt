@@ -1,5 +1,6 @@
 -- all rounds, and the last ones
 use Rattle.node_loop.specs.Turns.{standing}
+use Rattle.node_loop.proofs.Clocks.{timed_both, timed_run}
 use Rattle.node_control.proofs.Rounds.{ending_stops, finished, hosted_over, made_all, over_then, served_over}
 use Rattle.node_control.proofs.running.pass_on.Goals as goal
 
@@ -46,3 +47,11 @@ returns-in-Ok-finish-clause-finished g c = finished c.in-Ok.is_stopped c.args.tu
 
 pub returns-in-Ok-finish-clause-stopped : goal.returns-in-Ok-finish-clause-stopped
 returns-in-Ok-finish-clause-stopped g c = λ stopped. ending_stops _ _ (c.in-Ok.ensures.stopped stopped)
+
+pub returns-in-Ok-finish-clause-timed : goal.returns-in-Ok-finish-clause-timed
+returns-in-Ok-finish-clause-timed g c =
+    timed_run c.read-start.result (g.S.Stopwatch.readings c.args.clock.now) (g.S.Stopwatch.readings c.read-start.new.self)
+    (g.S.Stopwatch.readings c.finish.new.clock) (g.T.Timer.timer_events c.args.timer.now) (g.T.Timer.timer_events c.finish.new.timer) c.read-start.ensures
+    (timed_both c.read-start.result (g.S.Stopwatch.readings c.read-start.new.self) (g.S.Stopwatch.readings c.passes.new.clock)
+    (g.S.Stopwatch.readings c.finish.new.clock) (g.T.Timer.timer_events c.args.timer.now) (g.T.Timer.timer_events c.passes.new.timer)
+    (g.T.Timer.timer_events c.finish.new.timer) c.in-Ok.ensures.timed c.in-Ok-finish.ensures.timed)

@@ -1,9 +1,11 @@
 -- one round more
-use Rattle.std.proofs.Common.{◌∙◌, arith, refl}
+use Rattle.std.proofs.Common.{◌∙◌, [], arith, refl}
 use Rattle.node_loop.specs.Turns.{standing}
 use Rattle.node_loop.proofs.Chains.{served_none, same_all}
 use Rattle.node_loop.proofs.Hosting.{hosted_none}
+use Rattle.px_transport.proofs.Traffic.{adds_none}
 use Rattle.node_loop.proofs.Looking.{looks_never, looks_then}
+use Rattle.node_loop.proofs.Clocks.{timed_then}
 use Rattle.node_control.proofs.Rounds.{hosted_over, turns_then}
 use Rattle.node_control.proofs.running.passes.Goals as goal
 
@@ -13,6 +15,11 @@ loop-round-init g c = record {
   turns = λ none. (λ es t. (es, t, served_none _ _ (same_all _)), none);
   left = omega arith;
   looks = looks_never (g.T.Timer.timer_events c.args.timer.now);
+  timed = (
+    [],
+    adds_none (g.S.Stopwatch.readings c.args.clock.now) (g.S.Stopwatch.readings c.args.clock.now) (λ rs h. h),
+    ([], refl, adds_none (g.T.Timer.timer_events c.args.timer.now) (g.T.Timer.timer_events c.args.timer.now) (λ ts h. h)),
+  );
   same = refl;
 }
 
@@ -27,6 +34,9 @@ loop-round-preserved g c = record {
   left = omega (arith, c.loop-round.invariant.left, c.in-Ok.ensures.few);
   looks = looks_then c.loop-round._round 1 (g.T.Timer.timer_events c.args.timer.now) (g.T.Timer.timer_events c.loop-round.timer) (g.T.Timer.timer_events c.pass.new.timer)
       c.loop-round.invariant.looks c.in-Ok.ensures.looks;
+  timed = timed_then c.args.start (g.S.Stopwatch.readings c.args.clock.now) (g.S.Stopwatch.readings c.loop-round.clock)
+      (g.S.Stopwatch.readings c.microseconds.new.clock) (g.T.Timer.timer_events c.args.timer.now) (g.T.Timer.timer_events c.loop-round.timer)
+      (g.T.Timer.timer_events c.pass.new.timer) c.microseconds.result c.loop-round.invariant.timed c.microseconds.ensures c.in-Ok.ensures.at;
   same = c.pass.ensures.same ∙ c.loop-round.invariant.same;
 }
 

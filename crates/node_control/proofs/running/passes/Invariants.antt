@@ -2,6 +2,7 @@
 use Rattle.std.proofs.Common.{◌≡◌, ◌≤◌, ◌+◌, ◌*◌, None}
 use Rattle.px_transport.specs.Wires.{Moves}
 use Rattle.node_loop.specs.Hosting.{Hosted}
+use Rattle.node_loop.specs.Times.{IsTimed}
 use Rattle.node_loop.specs.Timing.{LooksTimes}
 use Rattle.node_loop.specs.Turns.{Served, standing}
 use Rattle.node_control.proofs.running.passes.Given as goal
@@ -15,5 +16,7 @@ invariant-loop-round g l = record {
       × (l.control ≡ None);
   left : l.turns ≤ l.left + 65 * l._round;
   looks : LooksTimes l._round (g.T.Timer.timer_events l.fn.timer) (g.T.Timer.timer_events l.timer);
+  timed : IsTimed l.fn.start (g.S.Stopwatch.readings l.fn.clock) (g.S.Stopwatch.readings l.clock)
+      (g.T.Timer.timer_events l.fn.timer) (g.T.Timer.timer_events l.timer);
   same : g.W.Wire.identity l.wire ≡ g.W.Wire.identity l.fn.wire;
 }

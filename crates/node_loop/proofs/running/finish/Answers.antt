@@ -1,8 +1,11 @@
 -- one round more, and a wait
-use Rattle.std.proofs.Common.{◌∙◌, [], arith, refl}
+use Rattle.std.proofs.Common.{◌∙◌, [], ◌∷◌, arith, refl}
+use Rattle.px_transport.proofs.Traffic.{adds_none}
+use Rattle.node_loop.specs.Timing.{TimerEvent}
 use Rattle.node_loop.specs.Turns.{standing}
 use Rattle.node_loop.proofs.Chains.{served_none, same_all}
 use Rattle.node_loop.proofs.Looking.{ends_then}
+use Rattle.node_loop.proofs.Clocks.{timed_then}
 use Rattle.node_loop.proofs.Given.{over_then, over_same}
 use Rattle.node_loop.proofs.running.finish.Goals as goal
 
@@ -11,6 +14,11 @@ loop-round-init g c = record {
   served = λ es t. (es, t, served_none _ _ (same_all _));
   grows = omega arith;
   looks = ([], refl, c.end.ensures.timer_events);
+  timed = (
+    [],
+    adds_none (g.S.Stopwatch.readings c.args.clock.now) (g.S.Stopwatch.readings c.args.clock.now) (λ rs h. h),
+    (TimerEvent.Ends ∷ [], refl, c.end.ensures.timer_events),
+  );
   left = omega arith;
   same = refl;
 }
@@ -35,6 +43,9 @@ loop-round-preserved g c = record {
   grows = omega (arith, c.loop-round.invariant.grows, c.round.ensures.grows);
   looks = ends_then c.loop-round._round (g.T.Timer.timer_events c.args.timer.now) (g.T.Timer.timer_events c.loop-round.timer)
       (g.T.Timer.timer_events c.round.new.timer) c.loop-round.invariant.looks c.in-Ok.ensures.looks;
+  timed = timed_then c.args.start (g.S.Stopwatch.readings c.args.clock.now) (g.S.Stopwatch.readings c.loop-round.clock)
+      (g.S.Stopwatch.readings c.microseconds.new.clock) (g.T.Timer.timer_events c.args.timer.now) (g.T.Timer.timer_events c.loop-round.timer)
+      (g.T.Timer.timer_events c.round.new.timer) c.microseconds.result c.loop-round.invariant.timed c.microseconds.ensures c.in-Ok.ensures.at;
   left = omega (arith, c.loop-round.invariant.left, c.in-Ok.ensures.wait, c.max.ensures, c.saturating_sub-left.ensures);
   same = c.wait.ensures.same ∙ (c.round.ensures.same ∙ c.loop-round.invariant.same);
 }

@@ -3,6 +3,7 @@ use Rattle.std.proofs.Common.{◌≡◌, ◌≤◌, ◌+◌, ◌*◌, List, ◌�
 use Rattle.px_transport.specs.Wires.{Adds, Moves}
 use Rattle.pf_node.specs.Nodes.{applied_of}
 use Rattle.node_loop.specs.Timing.{TimerEvent, looks_in}
+use Rattle.node_loop.specs.Times.{IsTimed}
 use Rattle.node_loop.specs.Turns.{Served, standing}
 use Rattle.node_loop.proofs.running.finish.Given as goal
 
@@ -13,6 +14,8 @@ invariant-loop-round g l = record {
   grows : applied_of l.fn.node ≤ applied_of l.node;
   looks : (more : List TimerEvent) × (looks_in more ≡ l._round) ×
       Adds (g.T.Timer.timer_events l.fn.timer) (g.T.Timer.timer_events l.timer) (TimerEvent.Ends ∷ more);
+  timed : IsTimed l.fn.start (g.S.Stopwatch.readings l.fn.clock) (g.S.Stopwatch.readings l.clock)
+      (g.T.Timer.timer_events l.fn.timer) (g.T.Timer.timer_events l.timer);
   left : 3000 ≤ l.left + 100 * l._round;
   same : g.W.Wire.identity l.wire ≡ g.W.Wire.identity l.fn.wire;
 }

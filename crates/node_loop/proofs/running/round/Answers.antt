@@ -4,6 +4,7 @@ use Rattle.node_loop.specs.Turns.{standing}
 use Rattle.node_loop.specs.Resends.{kept_of, requests_of}
 use Rattle.node_loop.proofs.Chains.{round_took, round_saw}
 use Rattle.node_loop.proofs.Looking.{looks_once}
+use Rattle.node_loop.proofs.Clocks.{looks_at_once}
 use Rattle.node_loop.proofs.Given.{over_then, over_same, over_resent, over_between, on_ok}
 use Rattle.node_loop.proofs.running.round.Goals as goal
 
@@ -101,4 +102,9 @@ returns-clause-saw g c =
 pub returns-clause-looks : goal.returns-clause-looks
 returns-clause-looks g c =
     on_ok c.tick_if.result (λ _. looks_once (g.T.Timer.timer_events c.args.timer.now) (g.T.Timer.timer_events c.action-action.new.timer)
+    (g.T.Timer.timer_events c.repeats-is_due.new.self) c.args.now c.view_of-view.result c.drain.new.room.peer_progress c.action-action.ensures.timer_events c.repeats-is_due.ensures.timer_events) c.tick_if.ensures.ticked
+
+pub returns-clause-at : goal.returns-clause-at
+returns-clause-at g c =
+    on_ok c.tick_if.result (λ _. looks_at_once (g.T.Timer.timer_events c.args.timer.now) (g.T.Timer.timer_events c.action-action.new.timer)
     (g.T.Timer.timer_events c.repeats-is_due.new.self) c.args.now c.view_of-view.result c.drain.new.room.peer_progress c.action-action.ensures.timer_events c.repeats-is_due.ensures.timer_events) c.tick_if.ensures.ticked

@@ -1,6 +1,9 @@
 -- one entrance, then the other
-use Rattle.node_control.proofs.Asked.{within_then}
+use Rattle.node_control.proofs.Asked.{within_then, kept_then}
 use Rattle.node_control.proofs.control.ControlSocket.operators_first.Goals as goal
 
-pub returns : goal.returns
-returns g c = within_then _ _ _ c.serve.ensures.asks c.serve_figures.ensures.asks
+pub returns-clause-asks : goal.returns-clause-asks
+returns-clause-asks g c = within_then _ _ _ c.serve.ensures.asks c.serve_figures.ensures.asks
+
+pub returns-clause-kept : goal.returns-clause-kept
+returns-clause-kept g c = kept_then _ _ _ c.serve.ensures.kept c.serve_figures.ensures.kept

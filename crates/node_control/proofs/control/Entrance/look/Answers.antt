@@ -1,5 +1,5 @@
 -- what was asked at the client
-use Rattle.node_control.proofs.Asked.{turned, within_then, figures_turned, figures_then}
+use Rattle.node_control.proofs.Asked.{turned, within_then, figures_turned, figures_then, kept_then}
 use Rattle.node_control.proofs.control.Entrance.look.Goals as goal
 
 pub returns-then-eq-clause-asks : goal.returns-then-eq-clause-asks
@@ -14,3 +14,9 @@ returns-else-eq-clause-asks g c = c.look_at-look.ensures.asks
 
 pub returns-else-eq-clause-figures : goal.returns-else-eq-clause-figures
 returns-else-eq-clause-figures g c = c.look_at-look.ensures.figures
+
+pub returns-then-eq-clause-kept : goal.returns-then-eq-clause-kept
+returns-then-eq-clause-kept g c = kept_then _ _ _ c.look_at-look.ensures.kept c.leave.ensures.kept
+
+pub returns-else-eq-clause-kept : goal.returns-else-eq-clause-kept
+returns-else-eq-clause-kept g c = c.look_at-look.ensures.kept

@@ -1,6 +1,6 @@
 -- one client more
 use Rattle.std.proofs.Common.{◌∙◌}
-use Rattle.node_control.proofs.Asked.{within_then}
+use Rattle.node_control.proofs.Asked.{within_then, kept_then}
 use Rattle.node_control.proofs.control.Entrance.serve.Goals as goal
 
 pub loop-client-preserved : goal.loop-client-preserved
@@ -9,6 +9,7 @@ loop-client-preserved g c =
     record {
       asks = within_then _ _ _ before.asks c.look.ensures.asks;
       figures = λ scraped. c.look.ensures.figures.still (before.scraped ∙ scraped) ∙ before.figures scraped;
+      kept = kept_then _ _ _ before.kept c.look.ensures.kept;
       scraped = c.look.ensures.figures.scraped ∙ before.scraped;
     }
 
@@ -19,3 +20,6 @@ pub returns-then-service-left-clause-figures : goal.returns-then-service-left-cl
 returns-then-service-left-clause-figures g c scraped =
     let before = c.loop-client.invariant in
     c.look.ensures.figures.still (before.scraped ∙ scraped) ∙ before.figures scraped
+
+pub returns-then-service-left-clause-kept : goal.returns-then-service-left-clause-kept
+returns-then-service-left-clause-kept g c = kept_then _ _ _ c.loop-client.invariant.kept c.look.ensures.kept

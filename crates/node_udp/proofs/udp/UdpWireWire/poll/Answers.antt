@@ -15,8 +15,8 @@ returns-in-Ok-clause-gave g c =
     over_hears (g.S.Socket.traffic c.args.self.now.socket) (g.S.Socket.traffic c.set_blocking.new.self.socket) (g.S.Socket.traffic c.receive.new.self)
     (g.S.Socket.traffic c.receive.new.self) (g.S.Socket.traffic c.admit.new.self.socket) c.args.self.now c.set_blocking.new.self heard heard
     c.admit.new.self c.in-Ok.from c.in-Ok.n c.admit.result c.receive.new.into c.set_blocking.ensures.still c.in-Ok.ensures.came
-    (record { quiet = λ es h. h; peers_is = refl; me_is = refl; last_is = refl })
-    (record { quiet = λ es h. h; peers_is = refl; me_is = refl; last_is = refl }) c.admit.ensures.heard c.admit.ensures.whole c.in-Ok.ensures.fits
+    (record { quiet = λ es h. h; peers_is = refl; me_is = refl; last_is = refl; hears_is = refl })
+    (record { quiet = λ es h. h; peers_is = refl; me_is = refl; last_is = refl; hears_is = refl }) c.admit.ensures.heard c.admit.ensures.whole c.in-Ok.ensures.fits
 
 pub returns-in-Err-clause-gave : goal.returns-in-Err-clause-gave
 returns-in-Err-clause-gave g c =
@@ -31,4 +31,5 @@ returns-in-Err-clause-gave g c =
       peers_is = refl;
       me_is = refl;
       last_is = refl;
+      hears_is = refl;
     }) c.met.ensures.still))

@@ -17,7 +17,7 @@ returns-in-Ok-clause-gave g c =
     (g.S.Socket.traffic c.pass.new.self.socket) (g.S.Socket.traffic c.admit.new.self.socket) c.args.self.now c.is_waiting.new.self
     (record c.is_waiting.new.self { socket = c.receive.new.self; since = c.now-self.result }) c.pass.new.self c.admit.new.self c.in-Ok.from
     c.in-Ok.n c.admit.result c.receive.new.into c.is_waiting.ensures.still c.in-Ok.ensures.came
-    (record { quiet = λ es h. h; peers_is = refl; me_is = refl; last_is = refl }) c.pass.ensures.still c.admit.ensures.heard
+    (record { quiet = λ es h. h; peers_is = refl; me_is = refl; last_is = refl; hears_is = refl }) c.pass.ensures.still c.admit.ensures.heard
     c.admit.ensures.whole c.in-Ok.ensures.fits
 
 pub returns-in-Err-clause-gave : goal.returns-in-Err-clause-gave
@@ -33,6 +33,7 @@ returns-in-Err-clause-gave g c =
       peers_is = refl;
       me_is = refl;
       last_is = refl;
+      hears_is = refl;
     })
     (still_then (g.S.Socket.traffic c.receive.new.self) (g.S.Socket.traffic c.met.new.self.socket) (g.S.Socket.traffic c.end_wait-in-Err.new.self.socket)
     (record c.is_waiting.new.self { socket = c.receive.new.self }) c.met.new.self c.end_wait-in-Err.new.self c.met.ensures.still c.end_wait-in-Err.ensures.still)))

@@ -21,7 +21,7 @@ returns-else-not-sent-clause-handed g c =
           (λ (s : _). Adds (WentOver (g.S.Socket.traffic (socket_of c.args.self.now)) c.args.self.now)
           (WentOver (g.S.Socket.traffic (socket_of s)) s) (Handed c.args.to c.args.bytes.now ∷ [])) (sym w.self-is)
           (over_loses (g.S.Socket.traffic c.args.self.now.socket) (g.S.Socket.traffic c.args.self.now.socket) c.args.self.now c.args.self.now
-          c.args.to c.args.bytes.now c.address.result w.in-None.is (record { quiet = λ es h. h; peers_is = refl; me_is = refl; last_is = refl })
+          c.args.to c.args.bytes.now c.address.result w.in-None.is (record { quiet = λ es h. h; peers_is = refl; me_is = refl; last_is = refl; hears_is = refl })
           (w.in-None.ensures.none refl) c.address.ensures.client)
     ]
 
@@ -41,9 +41,9 @@ returns-then-not-sent-clause-handed g c =
           (λ (s : _). Adds (WentOver (g.S.Socket.traffic (socket_of c.args.self.now)) c.args.self.now)
           (WentOver (g.S.Socket.traffic (socket_of s)) s) (Handed c.args.to c.args.bytes.now ∷ [])) (sym w.self-is)
           (over_loses (g.S.Socket.traffic c.args.self.now.socket) (g.S.Socket.traffic c.args.self.now.socket) c.args.self.now c.args.self.now
-          c.args.to c.args.bytes.now c.address.result w.in-None.is (record { quiet = λ es h. h; peers_is = refl; me_is = refl; last_is = refl })
+          c.args.to c.args.bytes.now c.address.result w.in-None.is (record { quiet = λ es h. h; peers_is = refl; me_is = refl; last_is = refl; hears_is = refl })
           (w.in-None.ensures.none refl) c.address.ensures.client)
     ] in
     λ es h. over_still (g.S.Socket.traffic (socket_of c.match-address.self)) (g.S.Socket.traffic (socket_of c.match-address.self))
     c.match-address.self (record c.match-address.self { failures = c.saturating_add-self.result })
-    (record { quiet = λ fs i. i; peers_is = refl; me_is = refl; last_is = refl }) (es ++ Handed c.args.to c.args.bytes.now ∷ []) (sent es h)
+    (record { quiet = λ fs i. i; peers_is = refl; me_is = refl; last_is = refl; hears_is = refl }) (es ++ Handed c.args.to c.args.bytes.now ∷ []) (sent es h)

@@ -1,0 +1,17 @@
+-- it was asked over the wire that was made
+use Rattle.std.proofs.Common.{inr}
+use Rattle.cli_node.proofs.ask.ask_outcome.Goals as goal
+
+pub returns-in-Ok-bind-clause-asked : goal.returns-in-Ok-bind-clause-asked
+returns-in-Ok-bind-clause-asked g c = inr (
+  c.in-Some.m,
+  c.deref.result.now,
+  c.in-Ok-change_in.command,
+  c.in-Ok-bind.wire,
+  c.asked_over.new.wire,
+  c.in-Some.ensures.some.0,
+  c.in-Some.ensures.some.1,
+  c.in-Ok-change_in.ensures.change,
+  c.in-Ok-bind.ensures.reaches,
+  c.asked_over.ensures,
+)

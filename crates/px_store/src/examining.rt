@@ -1,0 +1,105 @@
+//! What a node would be refused for of a store, which is looked at and not changed.
+ghost use Rattle.std.specs.Prelude.{◌≡◌, false, OnOk, Err, IfErr, Some, None};
+ghost use Rattle.sqlite.specs.Held.{state};
+ghost use Rattle.sqlite.specs.State.{HasCleanDisk};
+ghost use Rattle.px_store.specs.Formats.{schema_at};
+ghost use Rattle.px_store.specs.Adopting.{Began, IsVerdict, IsSame, LeavesOld};
+ghost use Rattle.px_store.specs.Judging.{refusal, reopen_refusal};
+
+use crate::calls::{Identity, Question};
+use crate::fault::AdoptFault;
+use crate::finding::{found_in_row, judge, look, read_store, refuse_lost, rows_in};
+use crate::formats::Format;
+use crate::reading::ReadFault;
+use crate::tables::format_in;
+use sqlite::{Alter, Connection};
+
+/// A store that has the tables of a format.
+fn examine_at<S: Alter>(
+    conn: &mut Connection<S>,
+    identity: Identity,
+    format: Format,
+) -> Result<(), AdoptFault>
+    ensures stays { HasCleanDisk (state S.Store conn.new) → Began format (state S.Store conn.old) →
+        OnOk result (IsSame (state S.Store conn.old) (state S.Store conn.new)) }
+    ensures as_it_was { HasCleanDisk (state S.Store conn.new) → Began format (state S.Store conn.old) →
+        IfErr result (λ e. IsVerdict e → IsSame (state S.Store conn.old) (state S.Store conn.new)) }
+    ensures clean { HasCleanDisk (state S.Store conn.new) → HasCleanDisk (state S.Store conn.old) }
+    ensures stop { HasCleanDisk (state S.Store conn.new) → Began format (state S.Store conn.old) →
+        LeavesOld (state S.Store conn.old) (state S.Store conn.new) }
+    ensures adopted { HasCleanDisk (state S.Store conn.new) → Began format (state S.Store conn.old) →
+        OnOk result (refusal format identity (state S.Store conn.old).now.trees ≡ None) }
+    ensures judged { HasCleanDisk (state S.Store conn.new) → Began format (state S.Store conn.old) →
+        IfErr result (λ e. IsVerdict e → refusal format identity (state S.Store conn.old).now.trees ≡ Some e) }
+{
+    let read = read_store(conn, format)?;
+    match judge(&read, format.number(), identity) {
+        Ok(_found) => Ok(()),
+        Err(fault) => Err(fault),
+    }
+}
+
+/// What [`SqlRecords::reopen`](crate::SqlRecords::reopen) would refuse of a store, as its rows say: 73, 72 and 71, in this
+/// order. Nothing is changed.
+pub fn examine<S: Alter>(conn: &mut Connection<S>, identity: Identity) -> Result<(), AdoptFault>
+    ensures known { OnOk result ((f : Format) × Began f (state S.Store conn.old)) }
+    ensures unknown { (state S.Store conn.old).in_transaction ≡ false →
+        ((f : Format) → (state S.Store conn.old).now.schema ≡ schema_at f → ⊥) →
+        (result ≡ Err AdoptFault.StoreVersion) × (conn.new ≡ conn.old) }
+    ensures stays { HasCleanDisk (state S.Store conn.new) →
+        OnOk result (IsSame (state S.Store conn.old) (state S.Store conn.new)) }
+    ensures as_it_was { HasCleanDisk (state S.Store conn.new) →
+        IfErr result (λ e. IsVerdict e → IsSame (state S.Store conn.old) (state S.Store conn.new)) }
+    ensures clean { HasCleanDisk (state S.Store conn.new) → HasCleanDisk (state S.Store conn.old) }
+    ensures stop { HasCleanDisk (state S.Store conn.new) →
+        LeavesOld (state S.Store conn.old) (state S.Store conn.new) }
+    ensures adopted { HasCleanDisk (state S.Store conn.new) → (f : Format) → Began f (state S.Store conn.old) →
+        OnOk result (reopen_refusal f identity (state S.Store conn.old).now.trees ≡ None) }
+    ensures judged { HasCleanDisk (state S.Store conn.new) → (f : Format) → Began f (state S.Store conn.old) →
+        IfErr result (λ e. IsVerdict e → reopen_refusal f identity (state S.Store conn.old).now.trees ≡ Some e) }
+{
+    if let Err(fault) = refuse_lost(conn) {
+        return Err(fault);
+    }
+    let found = format_in(conn.schema());
+    match found {
+        Some(format) => examine_at(conn, identity, format),
+        None => Err(AdoptFault::StoreVersion),
+    }
+}
+
+/// Whose a store is, as its row for the whole node says: 73 without the tables of a format, 72 without one such row.
+/// Nothing is changed.
+pub fn owner_in<S: Alter>(conn: &mut Connection<S>) -> Result<Identity, AdoptFault>
+    ensures stays { HasCleanDisk (state S.Store conn.new) →
+        OnOk result (IsSame (state S.Store conn.old) (state S.Store conn.new)) }
+    ensures as_it_was { HasCleanDisk (state S.Store conn.new) →
+        IfErr result (λ e. IsVerdict e → IsSame (state S.Store conn.old) (state S.Store conn.new)) }
+    ensures clean { HasCleanDisk (state S.Store conn.new) → HasCleanDisk (state S.Store conn.old) }
+    ensures stop { HasCleanDisk (state S.Store conn.new) →
+        LeavesOld (state S.Store conn.old) (state S.Store conn.new) }
+{
+    if !conn.is_autocommit() {
+        return Err(AdoptFault::Failed);
+    }
+    let found = format_in(conn.schema());
+    let Some(format) = found else {
+        return Err(AdoptFault::StoreVersion);
+    };
+    let rows = match look(conn, format, Question::Meta) {
+        Ok(rows) => rows,
+        Err(fault) => return Err(fault),
+    };
+    let [row] = rows_in(&rows) else {
+        return Err(AdoptFault::BadStore);
+    };
+    match found_in_row(row) {
+        Ok(found) => Ok(Identity {
+            cluster: found.cluster as u32,
+            members: found.members,
+            node: found.node as u8,
+        }),
+        Err(ReadFault::Memory) => Err(AdoptFault::Memory),
+        Err(ReadFault::Bad) => Err(AdoptFault::BadStore),
+    }
+}
