@@ -181,6 +181,10 @@ unfailed_fault adopt.StoreVersion e = let b : 73 ≡ 80 = same_number 73 80 e in
 unfailed_fault adopt.BadStore e = let b : 72 ≡ 80 = same_number 72 80 e in omega (arith, b)
 unfailed_fault adopt.WrongNode e = let b : 71 ≡ 80 = same_number 71 80 e in omega (arith, b)
 
+pub unfailed_by : {C : Type 0} (e : AdoptFault) (o : Outcome) (r : Result C Outcome) → o ≡ adopt_outcome e → r ≡ Err o → r ≢ Err (Refused 80)
+unfailed_by e o (Ok c) is same h = cc
+unfailed_by e o (Err p) is same h = let b : o ≡ Refused 80 = cc in unfailed_fault e (sym is ∙ b)
+
 pub unfailed_file : {C : Type 0} (r : Result C Outcome) (outcome : Outcome) → r ≡ Err outcome →
     OnErr r ((r ≡ Err Memory) ⊎ (r ≡ Err (Refused 70))) → outcome ≢ Refused 80
 unfailed_file (Ok c) outcome is h e = cc

@@ -1,9 +1,8 @@
 -- what a store that isn't taken comes to, and what one that is taken held
-use Rattle.std.proofs.Common.{◌≡◌, ◌∙◌, sym, subst}
+use Rattle.std.proofs.Common.{refl, sym, subst}
 use Rattle.cli_node.specs.declared.outcome.Outcome.{Outcome}
-use Rattle.cli_node.specs.declared.outcome.Outcome.TheVariants.{Refused}
 use Rattle.cli_node.specs.inner.Stores.{IsRefusal, IsStoreless}
-use Rattle.cli_node.proofs.Stores.{by_fault, kind_of_fault, unfailed_fault}
+use Rattle.cli_node.proofs.Stores.{by_fault, kind_of_fault, unfailed_by}
 use Rattle.cli_node.proofs.store.record_at.Goals as goal
 
 pub returns-in-Ok-record_in-clause-rows : goal.returns-in-Ok-record_in-clause-rows
@@ -24,6 +23,5 @@ returns-in-Err-record_in-clause-kind g c =
     subst IsRefusal (sym c.untaken.ensures.is) (kind_of_fault c.in-Err-record_in.fault)
 
 pub returns-in-Err-record_in-clause-unfailed : goal.returns-in-Err-record_in-clause-unfailed
-returns-in-Err-record_in-clause-unfailed g c = λ e.
-    let same : c.untaken.result ≡ Refused 80 = cc in
-    unfailed_fault c.in-Err-record_in.fault (sym c.untaken.ensures.is ∙ same)
+returns-in-Err-record_in-clause-unfailed g c =
+    unfailed_by c.in-Err-record_in.fault c.untaken.result _ c.untaken.ensures.is refl
