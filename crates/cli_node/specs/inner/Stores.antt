@@ -1,5 +1,5 @@
 -- Whether a node's store is opened or made.
-use Rattle.std.specs.Prelude.{◌≡◌, ◌≢◌, ◌⊎◌, ◌||◌, ⊤, not, ℕ, Bool, true, false}
+use Rattle.std.specs.Prelude.{◌≡◌, ◌≢◌, ◌⊎◌, ◌||◌, ◌&&◌, ◌==◌, if◌then◌else◌, ⊤, not, ℕ, Bool, true, false, List, ◌++◌, codes}
 use Rattle.sqlite.specs.State.{State, HasCleanDisk}
 use Rattle.sqlite.specs.Effect.{Database}
 use Rattle.px_store.specs.Formats.{schema_at}
@@ -9,6 +9,8 @@ use Rattle.px_wire.specs.declared.membership.Membership.{Membership}
 use Rattle.cli_node.specs.declared.outcome.Outcome.{Outcome}
 use Rattle.cli_node.specs.declared.outcome.Outcome.TheVariants.{Front, Stopped, Asked, Key, Refused, RefusedLine}
 use Rattle.cli_node.specs.declared.outcome.Outcome.TheVariants.{NoAnswer, Sound, Made, Memory, Unread}
+use Rattle.cli_node.specs.declared.database.Seen.{Seen}
+use Rattle.cli_node.specs.declared.database.Seen.TheVariants as seen
 use Rattle.cli_node.specs.declared.store.Found.{Found}
 use Rattle.cli_node.specs.declared.store.Found.TheVariants as found
 use Rattle.cli_node.specs.declared.store.Opening.{Opening}
@@ -18,6 +20,25 @@ use Rattle.cli_node.specs.declared.store.TheConstants.{NO_STORE, FILE_IS_THERE}
 -- whom the store of a member belongs to
 abbrev pub identity_at : Membership → Identity
 identity_at m = record { cluster = m.cluster; members = m.members; node = m.me }
+
+-- no byte is there
+abbrev pub has_no_byte : Seen → Bool
+has_no_byte (seen.File size) = size == 0
+has_no_byte (seen.Another size) = size == 0
+has_no_byte seen.Nothing = true
+has_no_byte seen.Unsaid = true
+
+-- what is found of a store, by what is seen of its file and of its log of writes
+abbrev pub found_by : (file log : Seen) → Found
+found_by (seen.File size) log = if (size == 0) && has_no_byte log then found.Empty else found.Store
+found_by (seen.Another size) log = found.Other
+found_by seen.Nothing log = found.Nothing
+found_by seen.Unsaid log = found.Other
+
+-- what is found of the store at a path
+abbrev pub IsFoundAt : (is_seen : (path : List ℕ) → Seen → Type 0) → (path : List ℕ) → Found → Type 0
+IsFoundAt is_seen path f = (file : Seen) × (log : Seen) × is_seen path file × is_seen (path ++ codes "-wal") log
+    × (f ≡ found_by file log)
 
 -- no store is there: nothing, or a file without a byte
 abbrev pub IsNone : Found → Type 0

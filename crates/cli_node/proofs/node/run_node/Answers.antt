@@ -9,7 +9,8 @@ returns-then-is_made-clause-ran g c = inr (
   c.in-Ok.keys,
   c.in-Some.ensures.some,
   c.in-Ok.ensures.named,
-  new_map _ _ _ _ _ _ _ _ _ _ _ _ _ _ (λ start raised. (c.in-Ok-found_at.found, raised)) (λ r h. h) (λ r h. h) (λ how h. h)
+  new_map _ _ _ _ _ _ _ _ _ _ _ _ _ _ (λ start raised. (c.in-Ok-found_at.found, c.in-Ok-found_at.ensures, raised))
+      (λ r h. h) (λ r h. h) (λ how h. h)
       c.run_new.ensures.ran,
 )
 
@@ -24,7 +25,8 @@ returns-in-Ok-record_at-clause-ran g c = inr (
     c.in-Ok-record_at.ensures.members,
     c.in-Ok-record_at.ensures.begins,
     c.in-Ok-record_at.ensures.rows,
-    with_map _ _ _ _ _ _ _ _ _ _ _ _ _ (λ start raised. (c.in-Ok-found_at.found, raised)) (λ r h. h) (λ how h. h)
+    with_map _ _ _ _ _ _ _ _ _ _ _ _ _ (λ start raised. (c.in-Ok-found_at.found, c.in-Ok-found_at.ensures, raised))
+        (λ r h. h) (λ how h. h)
         c.run_sealed.ensures.ran,
   ),
 )
