@@ -1,5 +1,5 @@
 -- With what a run ends: neither 93 nor 94, which are of a store before it is opened.
-use Rattle.std.proofs.Common.{◌≡◌, ◌⊎◌, ◌↔◌, ℕ, List, Result, Ok, Err, Bool, true, false, Option, Some, None, refl, sym, subst, ap, inl, inr, arith}
+use Rattle.std.proofs.Common.{◌≡◌, ◌∙◌, ◌⊎◌, ◌↔◌, ℕ, List, Result, Ok, Err, Bool, true, false, Option, Some, None, refl, sym, subst, ap, inl, inr, arith}
 use Rattle.std.specs.Prelude.{if◌then◌else◌, nat_lt, IfSome, IsSome, IsTrue, OnErr}
 use Rattle.px_records.specs.declared.records.Records.{Ghosts}
 use Rattle.px_wire.specs.declared.membership.Membership.{Membership}
@@ -18,7 +18,7 @@ use Rattle.cli_node.specs.inner.Stores.{IsRefusal, IsStoreless}
 use Rattle.cli_node.specs.declared.key.Keys.{Keys}
 use Rattle.cli_node.specs.declared.sealing.Sealing.{Sealing}
 use Rattle.px_packet.specs.declared.start.Start.{Start}
-use Rattle.cli_node.proofs.Stores.{other, by_memory, sound}
+use Rattle.cli_node.proofs.Stores.{other, by_memory, same_number, sound}
 
 -- any other number
 of_number : (code : ℕ) → (code ≡ 93 → ⊥) → (code ≡ 94 → ⊥) → (file new : Bool) → IsStoreless file new (Refused code)
@@ -158,6 +158,14 @@ pub refusal_of : {X : Type 0} (code : ℕ) (r : Result X Outcome) (outcome : Out
 refusal_of code r outcome is h = elim (refused_as code r outcome is h) [
   | inl e ↦ subst IsRefusal (sym e) tt
   | inr e ↦ subst IsRefusal (sym e) tt
+]
+
+-- out of memory, or another number
+pub lost_by : {X : Type 0} (code : ℕ) (r : Result X Outcome) (outcome : Outcome) → (code ≡ 93 → ⊥) → r ≡ Err outcome →
+    OnErr r ((r ≡ Err Memory) ⊎ (r ≡ Err (Refused code))) → outcome ≡ Refused 93 → ⊥
+lost_by code r outcome f is h e = elim (refused_as code r outcome is h) [
+  | inl m ↦ let same : Memory ≡ Refused 93 = sym m ∙ e in cc
+  | inr n ↦ let same : Refused code ≡ Refused 93 = sym n ∙ e in f (same_number code 93 same)
 ]
 
 of_addresses : (o : Outcome) → (o ≡ Sound) ⊎ (o ≡ Refused 82) → (file new : Bool) → IsStoreless file new o

@@ -23,8 +23,9 @@ ghost use Rattle.cli_node.specs.inner.Running.{hears_asks, keys_with, sealer_wit
 ghost use Rattle.cli_node.specs.inner.Outcomes.{ComesTo, ComesOpen, ComesOpenOr, IsWireless};
 ghost use Rattle.cli_node.specs.inner.Given.{AreFigures, AreTurns, IsFlag, IsFlagIn, IsNumberIn, IsPlaced, text_in};
 ghost use Rattle.cli_node.specs.inner.Secrets.{AreNamed};
-ghost use Rattle.cli_node.specs.inner.Stores.{IsFoundAt, IsKept, IsStoreless, is_made};
+ghost use Rattle.cli_node.specs.inner.Stores.{HasNone, IsFoundAt, IsKept, IsNone, IsStoreless, is_made};
 ghost use Rattle.cli_node.specs.declared.store.Found.{Found};
+ghost use Rattle.cli_node.specs.declared.store.TheConstants.{NO_STORE};
 ghost use Rattle.cli_node.specs.inner.Places.{is_count, has_place, turns_or_all, chosen};
 
 use crate::database::Databases;
@@ -608,6 +609,7 @@ fn run_new<F: NodeFiles, D: Databases, T: Timer>(
         OnFront how (MakesTurns words.entry.turns (T.timer_events timer.old) (T.timer_events timer.new))) result }
     ensures ending { result ≢ Refused 80 }
     ensures store { IsStoreless words.entry.is_from_file words.entry.is_new result }
+    ensures none { result ≡ Refused NO_STORE → IsNone found }
 {
     let sealing = match sealing_for(rt, files, alloc, words, m, keys, found) {
         Ok(sealing) => sealing,
@@ -644,6 +646,7 @@ fn run_node<F: NodeFiles, D: Databases, T: Timer>(
         OnFront how (MakesTurns words.entry.turns (T.timer_events timer.old) (T.timer_events timer.new))) result }
     ensures ending { result ≢ Refused 80 }
     ensures store { IsStoreless words.entry.is_from_file words.entry.is_new result }
+    ensures none { result ≡ Refused NO_STORE → HasNone (D.is_seen dbs.now) words.entry.store.now }
 {
     let Some(m) = membership(words) else {
         say_place(rt, words);

@@ -11,7 +11,7 @@ ghost use Rattle.cli_node.specs.declared.outcome.Outcome.TheVariants.{Memory, Re
 ghost use Rattle.cli_node.specs.declared.store.TheConstants.{NO_STORE, FILE_IS_THERE};
 ghost use Rattle.cli_node.specs.inner.Outcomes.{adopt_outcome};
 ghost use Rattle.cli_node.specs.inner.Stores.{identity_at, IsKept, IsOpening, IsRefusal, IsStoreless, IsUnmade, is_made};
-ghost use Rattle.cli_node.specs.inner.Stores.{IsFoundAt, found_by, has_no_byte};
+ghost use Rattle.cli_node.specs.inner.Stores.{IsFoundAt, IsNone, found_by, has_no_byte};
 
 use crate::database::{Databases, Seen};
 use crate::faults::{say_closed, say_judged, say_storeless, why_closed};
@@ -235,7 +235,7 @@ pub(crate) fn is_made(is_from_file: bool, is_new: bool, found: Found) -> bool
 }
 
 /// The database where a store is named, by what becomes of what is there.
-#[tactic(auto, using(crate::proofs::Stores::by_opening, crate::proofs::Stores::by_file, crate::proofs::Stores::by_making))]
+#[tactic(auto, using(crate::proofs::Stores::by_opening, crate::proofs::Stores::by_file, crate::proofs::Stores::by_making, crate::proofs::Stores::none_opened, crate::proofs::Stores::none_made, crate::proofs::Stores::none_at))]
 fn open_store<D: Databases>(
     rt: &HostRuntime,
     dbs: &D,
@@ -250,6 +250,7 @@ fn open_store<D: Databases>(
     ensures lost { words.entry.is_from_file ≡ true → words.entry.is_new ≡ false →
         (found ≡ Found.Nothing) ⊎ (found ≡ Found.Empty) → result ≡ Err (Refused NO_STORE) }
     ensures held { words.entry.is_new ≡ true → found ≡ Found.Store → result ≡ Err (Refused FILE_IS_THERE) }
+    ensures none { result ≡ Err (Refused NO_STORE) → IsNone found }
     ensures unfailed { OnErr result (result ≢ Err (Refused 80)) }
 {
     match opening_of(words.is_from_file, words.is_new, found) {
@@ -300,6 +301,7 @@ pub(crate) fn record_at<D: Databases>(
         (state ⟦<FileStore<File> as Store>⟧ (connection_of r)) (λ f db. IsOpened ⟦<FileStore<File> as Store>⟧ r (record_at f db.trees))) }
     ensures refused { IfErr result (IsStoreless words.entry.is_from_file words.entry.is_new) }
     ensures kind { IfErr result IsRefusal }
+    ensures none { result ≡ Err (Refused NO_STORE) → IsNone found }
     ensures unfailed { OnErr result (result ≢ Err (Refused 80)) }
 {
     let conn = match open_store(rt, dbs, alloc, words, found) {

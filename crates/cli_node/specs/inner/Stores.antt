@@ -44,6 +44,10 @@ IsFoundAt is_seen path f = (file : Seen) × (log : Seen) × is_seen path file ×
 abbrev pub IsNone : Found → Type 0
 IsNone f = (f ≡ found.Nothing) ⊎ (f ≡ found.Empty)
 
+-- no store is at a path
+abbrev pub HasNone : (is_seen : (path : List ℕ) → Seen → Type 0) → (path : List ℕ) → Type 0
+HasNone is_seen path = (f : Found) × IsFoundAt is_seen path f × IsNone f
+
 -- whether a start makes a store there
 abbrev pub is_made : (is_from_file is_new : Bool) → Found → Bool
 is_made file new found.Nothing = new || not file
