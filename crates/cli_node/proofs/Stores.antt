@@ -26,6 +26,9 @@ other file new code f g = record {
   there = λ e. absurd (g (same_number code 94 e));
 }
 
+pub err_is : {C : Type 0} (o p : Outcome) → ◌≡◌ {A = Result C Outcome} (Err o) (Err p) → o ≡ p
+err_is o p e = cc
+
 -- nothing that is no matter of a store is refused with 93
 pub not_lost : (o : Outcome) → ((file new : Bool) → IsStoreless file new o) → o ≢ Refused 93
 not_lost o h e = let f : false ≡ true = ((h false false).missing e).0 in cc

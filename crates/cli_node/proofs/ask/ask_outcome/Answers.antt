@@ -1,6 +1,6 @@
 -- it was asked over the wire that was made
-use Rattle.std.proofs.Common.{inr, subst}
-use Rattle.cli_node.specs.inner.Asked.{IsOfFile, IsText}
+use Rattle.std.proofs.Common.{inr, subst, sym}
+use Rattle.cli_node.specs.inner.Asked.{IsText}
 use Rattle.cli_node.proofs.ask.ask_outcome.Goals as goal
 
 pub returns-in-Ok-bind-clause-asked : goal.returns-in-Ok-bind-clause-asked
@@ -12,7 +12,8 @@ returns-in-Ok-bind-clause-asked g c = inr (
   c.asked_over.new.wire,
   c.in-Some.ensures.some.0,
   c.in-Some.ensures.some.1,
-  subst (λ (o : _). IsText _ o _ c.deref.result.now) c.get_str.ensures c.in-Ok.ensures.text,
+  subst (λ (t : _). IsText _ _ _ t) (sym c.deref.ensures.value)
+      (subst (λ (o : _). IsText _ o _ c.in-Ok.text.items) c.get_str.ensures c.in-Ok.ensures.text),
   c.in-Ok-change_in.ensures.change,
   c.in-Ok-bind.ensures.reaches,
   c.asked_over.ensures,
