@@ -1,19 +1,15 @@
 -- What is read of options.
 use Rattle.std.proofs.Common.{◌≡◌, ℕ, Bool, true, false, List, Option, Some, None, Result, Ok, Err, refl, sym, ◌∙◌, ap}
 use Rattle.std.proofs.Common.{subst, codes}
-use Rattle.std.specs.Prelude.{◌≢◌, IfSome}
+use Rattle.std.specs.Prelude.{IfSome}
 use Rattle.std.specs.Str.Parse.{ParsesUnsigned}
-use Rattle.std.specs.Net.Addr.{MatchIp, IsLoopbackV4, IsLoopbackV6}
-use Rattle.std.specs.Net.Grammar.{IsSocketText}
-use Rattle.std.specs.Net.Socket.{socket_ip, socket_port}
-use Rattle.std.specs.declared.net.socket_addr.SocketAddr.{SocketAddr}
 use Rattle.clap.specs.Matches.{ReadsOne}
-use Rattle.cli_node.specs.inner.Given.{AreFigures, AreTurns, IsFlag, IsNumber, IsSpelled}
+use Rattle.cli_node.specs.inner.Given.{AreTurns, IsFlag, IsNumber, IsSpelled}
 use Rattle.cli_node.specs.inner.Places.{turns_or_all}
 
 -- an argument that was read as a number, or as none
-spelled : {E : Type 0} (t : List ℕ) (v : ℕ) → ParsesUnsigned {E = E} 32 10 t (Ok v) → IsSpelled t v
-spelled t v h = λ digits fits. h.1
+spelled : (E : Type 0) (t : List ℕ) (v : ℕ) → ParsesUnsigned {E = E} 32 10 t (Ok v) → IsSpelled t v
+spelled E t v h = λ digits fits. h.1
 
 unspelled : {E : Type 0} (t : List ℕ) (e : E) (n : ℕ) → ParsesUnsigned {E = E} 32 10 t (Err e) → IsSpelled t n
 unspelled t e n h = λ digits fits. absurd (h (digits, fits))
@@ -23,8 +19,8 @@ pub are_turns : {E : Type 0} (gives : List ℕ → Result ℕ E → Type 0) (tex
     ((t : List ℕ) (x : Result ℕ E) → gives t x → ParsesUnsigned 32 10 t x) →
     n ≡ turns_or_all r → AreTurns text n
 are_turns gives None r n none some f is = is ∙ ap turns_or_all (none refl)
-are_turns gives (Some t) (Some v) n none some f is =
-    subst (IsSpelled t) (sym is) (spelled t v (f t (Ok v) (some t refl)))
+are_turns {E} gives (Some t) (Some v) n none some f is =
+    subst (IsSpelled t) (sym is) (spelled E t v (f t (Ok v) (some t refl)))
 are_turns gives (Some t) None n none some f is =
     let w = some t refl in unspelled t w.0 n (f t (Err w.0) w.1)
 
@@ -34,22 +30,13 @@ pub is_number : {E : Type 0} (gives : List ℕ → Result ℕ E → Type 0) (tex
     ((t : List ℕ) (x : Result ℕ E) → gives t x → ParsesUnsigned 32 10 t x) →
     ((n : ℕ) → r ≡ Some n → s ≡ Some n) → (r ≡ None → IfSome s (λ n. in_file ≡ Some n)) → IfSome s (IsNumber text in_file)
 is_number gives None in_file r s none some f given file = file (none refl)
-is_number gives (Some t) in_file (Some v) s none some f given file =
-    subst (λ o. IfSome o (IsSpelled t)) (sym (given v refl)) (spelled t v (f t (Ok v) (some t refl)))
+is_number {E} gives (Some t) in_file (Some v) s none some f given file =
+    subst (λ o. IfSome o (IsSpelled t)) (sym (given v refl)) (spelled E t v (f t (Ok v) (some t refl)))
 is_number gives (Some t) in_file None None none some f given file = tt
 is_number gives (Some t) in_file None (Some n) none some f given file =
     let w = some t refl in unspelled t w.0 n (f t (Err w.0) w.1)
 
 pub is_flag : (text : Option (List ℕ)) (b : Bool) → (text ≡ None → b ≡ false) → (text ≡ Some (codes "true") → b ≡ true) →
     (text ≡ Some (codes "false") → b ≡ false) → IsFlag text b
-is_flag None b none yes not_so = none refl
-is_flag (Some t) b none yes not_so = (λ e. yes (ap Some e), λ e. not_so (ap Some e))
-
-pub no_figures : (named : Option (List ℕ)) → named ≡ None → AreFigures named None
-no_figures named is = subst (λ o. AreFigures o None) (sym is) tt
-
-pub figures_are : (named : Option (List ℕ)) (text : List ℕ) (at : SocketAddr) → named ≡ Some text →
-    IsSocketText text at → MatchIp (socket_ip at) IsLoopbackV4 IsLoopbackV6 → socket_port at ≢ 0 →
-    AreFigures named (Some at)
-figures_are named text at is spells loopback port =
-    subst (λ o. AreFigures o (Some at)) (sym is) (spells, loopback, port)
+is_flag None b none so not_so = none refl
+is_flag (Some t) b none so not_so = (λ e. so (ap Some e), λ e. not_so (ap Some e))

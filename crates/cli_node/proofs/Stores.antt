@@ -231,7 +231,7 @@ pub none_made : {C : Type 0} (r : Result C Outcome) → IfErr r IsUnmade → r �
 none_made r h e = not_lost (Refused 93) (λ file new. by_making file new r (Refused 93) e h) refl
 
 none_refused : (file new : Bool) (f : Found) (code : ℕ) → IsRefused file new f code → code ≡ 93 → IsNone f
-none_refused file new f code (inl w) e = w.2
+none_refused file new f code (inl w) e = w.3
 none_refused file new f code (inr (inl w)) e = let a : code ≡ 94 = w.0 in absurd (omega (arith, a, e))
 none_refused file new f code (inr (inr w)) e = let a : code ≡ 70 = w.0 in absurd (omega (arith, a, e))
 
