@@ -28,7 +28,8 @@ are_turns gives (Some t) None n none some f is =
 pub is_number : {E : Type 0} (gives : List ℕ → Result ℕ E → Type 0) (text : Option (List ℕ)) (in_file r s : Option ℕ) →
     (text ≡ None → r ≡ None) → ((t : List ℕ) → text ≡ Some t → ReadsOne gives t r) →
     ((t : List ℕ) (x : Result ℕ E) → gives t x → ParsesUnsigned 32 10 t x) →
-    ((n : ℕ) → r ≡ Some n → s ≡ Some n) → (r ≡ None → IfSome s (λ n. in_file ≡ Some n)) → IfSome s (IsNumber text in_file)
+    ((n : ℕ) → r ≡ Some n → s ≡ Some n) → (r ≡ None → IfSome s (λ n. in_file ≡ Some n)) →
+    IfSome s (IsNumber text in_file)
 is_number gives None in_file r s none some f given file = file (none refl)
 is_number {E} gives (Some t) in_file (Some v) s none some f given file =
     subst (λ o. IfSome o (IsSpelled t)) (sym (given v refl)) (spelled E t v (f t (Ok v) (some t refl)))
@@ -36,7 +37,7 @@ is_number gives (Some t) in_file None None none some f given file = tt
 is_number gives (Some t) in_file None (Some n) none some f given file =
     let w = some t refl in unspelled t w.0 n (f t (Err w.0) w.1)
 
-pub is_flag : (text : Option (List ℕ)) (b : Bool) → (text ≡ None → b ≡ false) → (text ≡ Some (codes "true") → b ≡ true) →
-    (text ≡ Some (codes "false") → b ≡ false) → IsFlag text b
+pub is_flag : (text : Option (List ℕ)) (b : Bool) → (text ≡ None → b ≡ false) →
+    (text ≡ Some (codes "true") → b ≡ true) → (text ≡ Some (codes "false") → b ≡ false) → IsFlag text b
 is_flag None b none so not_so = none refl
 is_flag (Some t) b none so not_so = (λ e. so (ap Some e), λ e. not_so (ap Some e))

@@ -1,5 +1,6 @@
 -- Whether a node's store is opened or made.
-use Rattle.std.specs.Prelude.{◌≡◌, ◌≢◌, ◌⊎◌, ◌||◌, ◌&&◌, ◌==◌, if◌then◌else◌, ⊤, not, ℕ, Bool, true, false, List, ◌++◌, codes}
+use Rattle.std.specs.Prelude.{◌≡◌, ◌≢◌, ◌⊎◌, ◌||◌, ◌&&◌, ◌==◌, if◌then◌else◌, ⊤, not, ℕ, Bool, true, false}
+use Rattle.std.specs.Prelude.{List, ◌++◌, codes}
 use Rattle.sqlite.specs.State.{State, HasCleanDisk}
 use Rattle.sqlite.specs.Effect.{Database}
 use Rattle.px_store.specs.Formats.{schema_at}
@@ -75,8 +76,8 @@ pub record IsOpening (is_from_file is_new : Bool) (f : Found) (o : Opening) : Ty
   pub refused : (code : ℕ) → o ≡ Refuses code → IsRefused is_from_file is_new f code
 
 -- a database that was held, within a transaction or not, is now in this state, and what it held in its format is opened
-abbrev pub IsKept : (held : Database → (within : Bool) → Type 0) → (now : State) → (is_opened : Format → Database → Type 0) →
-    Type 0
+abbrev pub IsKept : (held : Database → (within : Bool) → Type 0) → (now : State) →
+    (is_opened : Format → Database → Type 0) → Type 0
 IsKept held now is_opened =
     (was : Database) × (within : Bool) × held was within
     × (HasCleanDisk now → (f : Format) → was.schema ≡ schema_at f → within ≡ false → is_opened f was)

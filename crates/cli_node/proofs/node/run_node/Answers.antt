@@ -56,4 +56,5 @@ returns-in-Err-record_at-clause-none g c = λ e.
 
 pub returns-in-Err-clause-none : goal.returns-in-Err-clause-none
 returns-in-Err-clause-none g c = λ e.
-    absurd (lost_by 83 c.keys_for.result c.in-Err.outcome (λ b. omega (arith, b)) c.in-Err.is c.keys_for.ensures.refused e)
+    absurd (lost_by 83 c.keys_for.result c.in-Err.outcome (λ b. omega (arith, b)) c.in-Err.is
+    c.keys_for.ensures.refused e)
