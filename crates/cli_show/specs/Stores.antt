@@ -1,13 +1,21 @@
 -- What is shown of a store.
-use Rattle.std.specs.Prelude.{◌≡◌, ℕ, Option, Some, None}
+use Rattle.std.specs.Prelude.{◌≡◌, ◌⊎◌, ℕ, Bool, Option, Some, None, Ok}
+use Rattle.sqlite.specs.Effect.{Database}
+use Rattle.sqlite.specs.Held.{Held, state}
 use Rattle.sqlite.specs.State.{State}
+use Rattle.sqlite_trees.specs.declared.store.Store as store
 use Rattle.px_records.specs.declared.records.Records.{Ghosts}
 use Rattle.px_replica.specs.Codes.{node_fault_code}
 use Rattle.px_replica.specs.declared.fault.NodeFault.{NodeFault}
-use Rattle.px_store.specs.Adopting.{code_of}
+use Rattle.px_store.specs.Adopting.{Began, IsVerdict, code_of}
+use Rattle.px_store.specs.Formats.{record_at}
+use Rattle.px_store.specs.Judging.{reopen_refusal}
+use Rattle.px_store.specs.declared.calls.Identity.{Identity}
+use Rattle.px_store.specs.declared.formats.Format.TheVariants.{Three}
 use Rattle.px_store.specs.Seen.{record_in}
 use Rattle.px_store.specs.declared.fault.AdoptFault.{AdoptFault}
-use Rattle.cli_show.specs.Showing.{ShowsLog}
+use Rattle.cli_show.specs.Owners.{Says, IsUnowned}
+use Rattle.cli_show.specs.Showing.{ShowsLog, IsRefused}
 use Rattle.cli_show.specs.declared.shown.Shown.{Shown}
 use Rattle.cli_show.specs.declared.shown.Wanted.{Wanted}
 use Rattle.cli_show.specs.declared.store.Closed.{Closed}
@@ -34,3 +42,31 @@ closed_of fault = closed_by (code_of fault)
 -- Example: 70 of a store that has failed, 72 of a bad row.
 abbrev pub closed_for : NodeFault → Closed
 closed_for fault = closed_by (node_fault_code fault)
+
+-- ---- which store is refused
+
+-- The rows of a store of format 3 are refused to this node, which is their owner: with 72 for a bad row.
+abbrev pub IsUntaken : Identity → State → Closed → Type 0
+IsUntaken owner s c = (fault : AdoptFault) × ((c ≡ closed_of fault)
+    × (Began Three s → IsVerdict fault → reopen_refusal Three owner s.now.trees ≡ Some fault))
+
+-- a node of that many members doesn't open the record of these rows: with 72 for a bad entry
+abbrev pub IsUnopened : {R : Type 0} → (G : Ghosts R) → (members : ℕ) → State → Closed → Type 0
+IsUnopened {R} G members s c = (fault : NodeFault) × ((given : R) × ((back : R) × ((c ≡ closed_for fault)
+    × (IsRefused G members given fault back
+    × (G.is_honest given → Began Three s → G.stored given ≡ record_at Three s.now.trees)))))
+
+-- Nothing is shown of a store: its owner isn't known, or its rows are refused to the owner, or the record doesn't open.
+abbrev pub IsClosed : {R S : Type 0} → (G : Ghosts R) → (g : store.Ghosts S) → (given : Held S) → Closed → Type 0
+IsClosed {R} {S} G g given c = (came : Held S) × (IsUnowned (state g given) (state g came) c
+    ⊎ ((owner : Identity) × (Says (state g given) (state g came) (Ok owner)
+    × (IsUntaken owner (state g came) c ⊎ IsUnopened G owner.members (state g came) c))))
+
+-- ---- a store in a file
+
+-- This is shown of a database that a file holds, and the record that is closed behind it is that of its rows.
+abbrev pub ShowsFile : {R S : Type 0} → (G : Ghosts R) → (g : store.Ghosts S) →
+    (holds : Database → (within : Bool) → Type 0) → (is_closed : R → Type 0) → Wanted → Shown → Type 0
+ShowsFile {R} {S} G g holds is_closed w s = (given : Held S) × ((back : R)
+    × (holds (state g given).now (state g given).in_transaction
+    × ((G.is_honest back → Began Three (state g given) → ShowsStore G (state g given) back w s) × is_closed back)))

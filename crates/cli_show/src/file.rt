@@ -1,8 +1,19 @@
 //! The store of a node is opened, as far as that changes nothing.
 
+ghost use Rattle.std.specs.Prelude.{⊤, ℕ, Bool, List, IfOk};
+ghost use Rattle.sqlite.specs.Effect.{Database};
+ghost use Rattle.sqlite.specs.Files.{file_state};
+ghost use Rattle.sqlite.specs.Held.{state};
+ghost use Rattle.sqlite.specs.State.{State};
+ghost use Rattle.px_store.specs.View.{connection_of};
+ghost use Rattle.cli_show.specs.Stores.{ShowsFile};
+
 use crate::shown::{Shown, Wanted};
 use crate::store::{Closed, show_store};
+use px_records::Records;
+use px_store::SqlRecords;
 use sqlite::{Connection, Error, ErrorCode, File, FileStore};
+use sqlite_trees::store::Store;
 use std::alloc::Global;
 use std::fs;
 
@@ -41,19 +52,63 @@ fn open_file(rt: &HostRuntime, path: &str) -> Result<Connection<FileStore<File>>
     }
 }
 
-/// What is shown of the store in a file. It is closed without copying its log of writes.
-pub(crate) fn show_file(
-    rt: &HostRuntime,
+/// Where a store is opened and closed.
+pub(crate) trait Databases {
+    // the file at this path has this database, within a transaction or not
+    ghost holds: { Self → (path : List ℕ) → Database → (within : Bool) → Type 0 };
+
+    // a database was closed in this state
+    ghost closed: { Self → State → Type 0 };
+
+    /// Opens the database in a file, as [`open_file`] does.
+    fn open(&self, path: &str) -> Result<Connection<FileStore<File>>, Closed>
+        ensures { IfOk result (λ c. holds self.now path.now (file_state c).now (file_state c).in_transaction) };
+
+    /// Closes a database, without copying its log of writes.
+    fn close(&self, conn: Connection<FileStore<File>>)
+        ensures { closed self.now (file_state conn) };
+}
+
+impl Databases for HostRuntime {
+    // no contract says what is in the file at a path
+    ghost holds = { λ _ _ _ _. ⊤ };
+
+    ghost closed = { λ _ _. ⊤ };
+
+    fn open(&self, path: &str) -> Result<Connection<FileStore<File>>, Closed> {
+        open_file(self, path)
+    }
+
+    fn close(&self, conn: Connection<FileStore<File>>)
+        ensures { ⊤ }
+    {
+        drop(conn);
+    }
+}
+
+/// What is shown of the store in a file.
+pub(crate) fn show_file<D: Databases>(
+    dbs: &D,
     alloc: Global,
     path: &str,
     wanted: Wanted<'_>,
-) -> Result<Shown, Closed> {
-    let conn = match open_file(rt, path) {
+) -> Result<Shown, Closed>
+    ensures { IfOk result (λ shown. ShowsFile ⟦<SqlRecords<FileStore<File>> as Records>⟧
+        ⟦<FileStore<File> as Store>⟧ (D.holds dbs.now path.now)
+        (λ r. D.closed dbs.now (state ⟦<FileStore<File> as Store>⟧ (connection_of r))) wanted.entry shown) }
+{
+    let conn = match dbs.open(path) {
         Ok(conn) => conn,
         Err(closed) => return Err(closed),
     };
     match show_store(alloc, conn, wanted) {
-        Ok((shown, _records)) => Ok(shown),
-        Err(closed) => Err(closed),
+        Ok((shown, records)) => {
+            dbs.close(records.release());
+            Ok(shown)
+        }
+        Err((closed, conn)) => {
+            dbs.close(conn);
+            Err(closed)
+        }
     }
 }

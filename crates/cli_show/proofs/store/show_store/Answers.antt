@@ -1,10 +1,29 @@
 -- what is shown of the record is shown of the rows
 use Rattle.sqlite.specs.Held.{state}
+use Rattle.cli_show.specs.Owners.{identity_of}
+use Rattle.cli_show.proofs.Closing.{closed_unowned, closed_untaken, closed_unopened, was_honest}
 use Rattle.cli_show.proofs.Reading.{shows_store}
 use Rattle.cli_show.proofs.store.show_store.Goals as goal
 
-pub returns-in-Ok-shown : goal.returns-in-Ok-shown
-returns-in-Ok-shown g c =
+pub returns-in-Ok-shown-clause-shown : goal.returns-in-Ok-shown-clause-shown
+returns-in-Ok-shown-clause-shown g c =
     shows_store (state g.S.Store c.args.conn) (state g.S.Store c.owner_of.new.conn) c.in-Ok-adopted.records
     c.show_record-shown.result.1 c.args.wanted c.in-Ok-shown.shown c.show_record-shown.result.0 c.in-Ok.ensures.stays
     c.in-Ok-adopted.ensures.clean c.in-Ok-adopted.ensures.rows c.show_record-shown.ensures.shows c.in-Ok-shown.is
+
+pub returns-in-Err-clause-closed : goal.returns-in-Err-clause-closed
+returns-in-Err-clause-closed g c = λ clean. closed_unowned c.args.conn c.owner_of.new.conn c.in-Err.closed (c.in-Err.ensures.none clean)
+
+pub returns-in-Err-adopted-clause-closed : goal.returns-in-Err-adopted-clause-closed
+returns-in-Err-adopted-clause-closed g c = λ clean.
+    let untaken = c.in-Err-adopted.ensures.untaken clean in
+    closed_untaken c.args.conn c.owner_of.new.conn c.in-Err-adopted.refused.0 (identity_of c.in-Ok.m) c.identity_of.result
+    (c.in-Ok.ensures.owner untaken.0) c.identity_of.ensures untaken.1
+
+pub returns-in-Err-shown-clause-closed : goal.returns-in-Err-shown-clause-closed
+returns-in-Err-shown-clause-closed g c = λ clean.
+    let refused = c.in-Err-shown.ensures in
+    closed_unopened c.args.conn c.owner_of.new.conn c.closed_for.result (identity_of c.in-Ok.m) c.in-Err-shown.fault c.in-Ok-adopted.records
+    c.show_record-shown.result.1
+    (c.in-Ok.ensures.owner (c.in-Ok-adopted.ensures.clean (was_honest _ _ _ _ refused clean)))
+    c.closed_for.ensures refused c.in-Ok-adopted.ensures.rows
