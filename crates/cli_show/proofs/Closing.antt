@@ -3,7 +3,7 @@ use Rattle.std.proofs.Common.{◌≡◌, ℕ, List, [], Result, Ok, Err, sym, su
 use Rattle.std.specs.Prelude.{◌⊎◌, IfOk, IfErr}
 use Rattle.sqlite.specs.declared.error.Error.{Error}
 use Rattle.sqlite.specs.Held.{Held, state}
-use Rattle.sqlite.specs.State.{State, Shown, FailsToQuery}
+use Rattle.sqlite.specs.State.{State, Shown as Answers, FailsToQuery}
 use Rattle.sqlite_trees.specs.declared.store.Store as store
 use Rattle.sqlite_value.specs.Order.{Row}
 use Rattle.px_records.specs.declared.records.Records.{Ghosts}
@@ -16,6 +16,7 @@ use Rattle.px_store.specs.declared.formats.Format.TheVariants.{Three}
 use Rattle.cli_show.specs.Owners.{identity_of, owner_of, IsOwner, get_owner, Says, code_for, IsUnanswered, IsUnowned}
 use Rattle.cli_show.specs.Showing.{IsRefused}
 use Rattle.cli_show.specs.Stores.{closed_for, IsUntaken, IsClosed}
+use Rattle.cli_show.specs.declared.shown.Shown.{Shown}
 use Rattle.cli_show.specs.declared.store.Closed.{Closed}
 use Rattle.cli_show.specs.declared.store.Closed.TheVariants as closed
 
@@ -34,12 +35,12 @@ unowned given came closed.Memory h = tt
 unowned given came (closed.Refused code) h = inr (inl h)
 
 -- the rows say whose it is
-pub says_owner : (given came : State) (rows : List Row) (r : Result Membership Closed) → Shown get_owner [] given came rows → IsOwner r (owner_of rows) →
+pub says_owner : (given came : State) (rows : List Row) (r : Result Membership Closed) → Answers get_owner [] given came rows → IsOwner r (owner_of rows) →
     IfOk r (λ m. Says given came (Ok (identity_of m)))
 says_owner given came rows (Ok m) shown is = (rows, (shown, is))
 says_owner given came rows (Err c) shown is = tt
 
-pub says_nobody : (given came : State) (rows : List Row) (r : Result Membership Closed) → Shown get_owner [] given came rows → IsOwner r (owner_of rows) →
+pub says_nobody : (given came : State) (rows : List Row) (r : Result Membership Closed) → Answers get_owner [] given came rows → IsOwner r (owner_of rows) →
     IfErr r (IsUnowned given came)
 says_nobody given came rows (Ok m) shown is = tt
 says_nobody given came rows (Err closed.Memory) shown is = tt
@@ -53,13 +54,23 @@ was_honest members given e back (inr h) honest = h.was honest
 -- ---- why nothing is shown
 
 pub closed_unowned : {R S : Type 0} {G : Ghosts R} {g : store.Ghosts S} (given came : Held S) (c : Closed) → IsUnowned (state g given) (state g came) c → IsClosed G g given c
-closed_unowned given came c h = (came, inl h)
+closed_unowned given came c h = record { came = came; why = inl h }
 
 pub closed_untaken : {R S : Type 0} {G : Ghosts R} {g : store.Ghosts S} (given came : Held S) (c : Closed) (owner i : Identity) → Says (state g given) (state g came) (Ok owner) →
     i ≡ owner → IsUntaken i (state g came) c → IsClosed G g given c
-closed_untaken {R} {S} {G} {g} given came c owner i says is h = (came, inr (owner, (says, inl (subst (λ (i : Identity). IsUntaken i (state g came) c) is h))))
+closed_untaken {R} {S} {G} {g} given came c owner i says is h = record {
+  came = came;
+  why = inr (owner, (says, inl (subst (λ (i : Identity). IsUntaken i (state g came) c) is h)));
+}
 
-pub closed_unopened : {R S : Type 0} {G : Ghosts R} {g : store.Ghosts S} (given came : Held S) (c : Closed) (owner : Identity) (fault : NodeFault) (adopted back : R) →
-    Says (state g given) (state g came) (Ok owner) → c ≡ closed_for fault → IsRefused G owner.members adopted fault back →
-    (G.is_honest adopted → Began Three (state g came) → G.stored adopted ≡ record_at Three (state g came).now.trees) → IsClosed G g given c
-closed_unopened given came c owner fault adopted back says e h rows = (came, inr (owner, (says, inr (fault, (adopted, (back, (e, (h, rows))))))))
+pub closed_unopened : {R S : Type 0} {G : Ghosts R} {g : store.Ghosts S} (given came : Held S) (c : Closed) (owner : Identity) (answer : Result Shown NodeFault) (fault : NodeFault)
+    (adopted back : R) → (G.is_honest adopted → Says (state g given) (state g came) (Ok owner)) → c ≡ closed_for fault → answer ≡ Err fault →
+    IfErr answer (λ e. IsRefused G owner.members adopted e back) →
+    (G.is_honest adopted → Began Three (state g came) → G.stored adopted ≡ record_at Three (state g came).now.trees) → G.is_honest back → IsClosed G g given c
+closed_unopened {R} {S} {G} {g} given came c owner answer fault adopted back says e is refused rows honest =
+    let h : IsRefused G owner.members adopted fault back =
+    subst (λ (r : Result Shown NodeFault). IfErr r (λ x. IsRefused G owner.members adopted x back)) is refused in
+    record {
+      came = came;
+      why = inr (owner, (says (was_honest owner.members adopted fault back h honest), inr (fault, (adopted, (back, (e, (h, rows)))))));
+    }

@@ -57,16 +57,19 @@ IsUnopened {R} G members s c = (fault : NodeFault) × ((given : R) × ((back : R
     × (G.is_honest given → Began Three s → G.stored given ≡ record_at Three s.now.trees)))))
 
 -- Nothing is shown of a store: its owner isn't known, or its rows are refused to the owner, or the record doesn't open.
-abbrev pub IsClosed : {R S : Type 0} → (G : Ghosts R) → (g : store.Ghosts S) → (given : Held S) → Closed → Type 0
-IsClosed {R} {S} G g given c = (came : Held S) × (IsUnowned (state g given) (state g came) c
-    ⊎ ((owner : Identity) × (Says (state g given) (state g came) (Ok owner)
-    × (IsUntaken owner (state g came) c ⊎ IsUnopened G owner.members (state g came) c))))
+pub record IsClosed {R S : Type 0} (G : Ghosts R) (g : store.Ghosts S) (given : Held S) (c : Closed) : Type 0 where
+  pub came : Held S
+  pub why : IsUnowned (state g given) (state g came) c
+      ⊎ ((owner : Identity) × (Says (state g given) (state g came) (Ok owner)
+      × (IsUntaken owner (state g came) c ⊎ IsUnopened G owner.members (state g came) c)))
 
 -- ---- a store in a file
 
--- This is shown of a database that a file holds, and the record that is closed behind it is that of its rows.
-abbrev pub ShowsFile : {R S : Type 0} → (G : Ghosts R) → (g : store.Ghosts S) →
-    (holds : Database → (within : Bool) → Type 0) → (is_closed : R → Type 0) → Wanted → Shown → Type 0
-ShowsFile {R} {S} G g holds is_closed w s = (given : Held S) × ((back : R)
-    × (holds (state g given).now (state g given).in_transaction
-    × ((G.is_honest back → Began Three (state g given) → ShowsStore G (state g given) back w s) × is_closed back)))
+-- This is shown of a database that a file holds; the record of its rows is closed as it was.
+pub record ShowsFile {R S : Type 0} (G : Ghosts R) (g : store.Ghosts S) (holds : Database → (within : Bool) → Type 0)
+    (is_closed : R → Type 0) (w : Wanted) (s : Shown) : Type 0 where
+  pub given : Held S
+  pub back : R
+  pub held : holds (state g given).now (state g given).in_transaction
+  pub shows : G.is_honest back → Began Three (state g given) → ShowsStore G (state g given) back w s
+  pub left : is_closed back

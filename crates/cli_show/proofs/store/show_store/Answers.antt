@@ -1,7 +1,7 @@
 -- what is shown of the record is shown of the rows
 use Rattle.sqlite.specs.Held.{state}
 use Rattle.cli_show.specs.Owners.{identity_of}
-use Rattle.cli_show.proofs.Closing.{closed_unowned, closed_untaken, closed_unopened, was_honest}
+use Rattle.cli_show.proofs.Closing.{closed_unowned, closed_untaken, closed_unopened}
 use Rattle.cli_show.proofs.Reading.{shows_store}
 use Rattle.cli_show.proofs.store.show_store.Goals as goal
 
@@ -22,8 +22,7 @@ returns-in-Err-adopted-clause-closed g c = λ clean.
 
 pub returns-in-Err-shown-clause-closed : goal.returns-in-Err-shown-clause-closed
 returns-in-Err-shown-clause-closed g c = λ clean.
-    let refused = c.in-Err-shown.ensures in
-    closed_unopened c.args.conn c.owner_of.new.conn c.closed_for.result (identity_of c.in-Ok.m) c.in-Err-shown.fault c.in-Ok-adopted.records
-    c.show_record-shown.result.1
-    (c.in-Ok.ensures.owner (c.in-Ok-adopted.ensures.clean (was_honest _ _ _ _ refused clean)))
-    c.closed_for.ensures refused c.in-Ok-adopted.ensures.rows
+    closed_unopened c.args.conn c.owner_of.new.conn c.closed_for.result (identity_of c.in-Ok.m) c.show_record-shown.result.0 c.in-Err-shown.fault
+    c.in-Ok-adopted.records c.show_record-shown.result.1
+    (λ honest. c.in-Ok.ensures.owner (c.in-Ok-adopted.ensures.clean honest)) c.closed_for.ensures c.in-Err-shown.is
+    c.show_record-shown.ensures.refused c.in-Ok-adopted.ensures.rows clean
