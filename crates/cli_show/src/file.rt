@@ -1,12 +1,11 @@
 //! The store of a node is opened, as far as that changes nothing.
 
-ghost use Rattle.std.specs.Prelude.{⊤, ℕ, Bool, List, IfOk};
+ghost use Rattle.std.specs.Prelude.{◌⊎◌, ⊤, ℕ, Bool, List, IfOk, IfErr};
 ghost use Rattle.sqlite.specs.Effect.{Database};
 ghost use Rattle.sqlite.specs.Files.{file_state};
-ghost use Rattle.sqlite.specs.Held.{state};
 ghost use Rattle.sqlite.specs.State.{State};
-ghost use Rattle.px_store.specs.View.{connection_of};
-ghost use Rattle.cli_show.specs.Stores.{ShowsFile};
+ghost use Rattle.cli_show.specs.Stores.{RefusesFile, ShowsFile};
+ghost use Rattle.cli_show.specs.declared.store.Closed.{Closed};
 
 use crate::shown::{Shown, Wanted};
 use crate::store::{Closed, show_store};
@@ -57,12 +56,17 @@ pub(crate) trait Databases {
     // the file at this path has this database, within a transaction or not
     ghost holds: { Self → (path : List ℕ) → Database → (within : Bool) → Type 0 };
 
+    // it isn't opened
+    ghost refuses: { Self → (path : List ℕ) → Closed → Type 0 };
+
     // a database was closed in this state
     ghost closed: { Self → State → Type 0 };
 
     /// Opens the database in a file, as [`open_file`] does.
     fn open(&self, path: &str) -> Result<Connection<FileStore<File>>, Closed>
-        ensures { IfOk result (λ c. holds self.now path.now (file_state c).now (file_state c).in_transaction) };
+        ensures opened { IfOk result (λ c.
+            holds self.now path.now (file_state c).now (file_state c).in_transaction) }
+        ensures refused { IfErr result (refuses self.now path.now) };
 
     /// Closes a database, without copying its log of writes.
     fn close(&self, conn: Connection<FileStore<File>>)
@@ -72,6 +76,8 @@ pub(crate) trait Databases {
 impl Databases for HostRuntime {
     // no contract says what is in the file at a path
     ghost holds = { λ _ _ _ _. ⊤ };
+
+    ghost refuses = { λ _ _ _. ⊤ };
 
     ghost closed = { λ _ _. ⊤ };
 
@@ -93,9 +99,10 @@ pub(crate) fn show_file<D: Databases>(
     path: &str,
     wanted: Wanted<'_>,
 ) -> Result<Shown, Closed>
-    ensures { IfOk result (λ shown. ShowsFile ⟦<SqlRecords<FileStore<File>> as Records>⟧
-        ⟦<FileStore<File> as Store>⟧ (D.holds dbs.now path.now)
-        (λ r. D.closed dbs.now (state ⟦<FileStore<File> as Store>⟧ (connection_of r))) wanted.entry shown) }
+    ensures shown { IfOk result (λ shown. ShowsFile ⟦<FileStore<File> as Store>⟧
+        ⟦<SqlRecords<FileStore<File>> as Records>⟧ (D.holds dbs.now path.now) (D.closed dbs.now) wanted.entry shown) }
+    ensures refused { IfErr result (λ c. D.refuses dbs.now path.now c ⊎ RefusesFile ⟦<FileStore<File> as Store>⟧
+        ⟦<SqlRecords<FileStore<File>> as Records>⟧ (D.holds dbs.now path.now) (D.closed dbs.now) c) }
 {
     let conn = match dbs.open(path) {
         Ok(conn) => conn,

@@ -4,7 +4,7 @@ ghost use Rattle.std.specs.Prelude.{◌≡◌, ◌≢◌, ◌⊎◌, ◌<◌, []
 ghost use Rattle.sqlite.specs.Held.{state};
 ghost use Rattle.sqlite.specs.State.{HasCleanDisk, Shown as Answers};
 ghost use Rattle.sqlite_value.specs.Order.{column};
-ghost use Rattle.px_store.specs.Adopting.{Began, IsSame};
+ghost use Rattle.px_store.specs.Adopting.{Began, IsSame, LeavesOld};
 ghost use Rattle.px_store.specs.Judging.{is_member_of};
 ghost use Rattle.px_store.specs.Seen.{is_number, number_in};
 ghost use Rattle.px_store.specs.declared.formats.Format.TheVariants.{Three};
@@ -132,6 +132,8 @@ fn owner_rows<S: Alter>(conn: &mut Connection<S>) -> Result<Vec<Row>, Closed>
     ensures stays { HasCleanDisk (state S.Store conn.new) → Began Three (state S.Store conn.old) →
         OnOk result (IsSame (state S.Store conn.old) (state S.Store conn.new)) }
     ensures clean { HasCleanDisk (state S.Store conn.new) → HasCleanDisk (state S.Store conn.old) }
+    ensures stop { HasCleanDisk (state S.Store conn.new) → Began Three (state S.Store conn.old) →
+        LeavesOld (state S.Store conn.old) (state S.Store conn.new) }
     ensures rows { HasCleanDisk (state S.Store conn.new) → IfOk result (λ rows. Answers get_owner []
         (state S.Store conn.old) (state S.Store conn.new) rows.items) }
     ensures none { HasCleanDisk (state S.Store conn.new) → IfErr result (IsUnanswered (state S.Store conn.old)
@@ -149,6 +151,8 @@ pub(crate) fn owner_of<S: Alter>(conn: &mut Connection<S>) -> Result<Membership,
     ensures stays { HasCleanDisk (state S.Store conn.new) → Began Three (state S.Store conn.old) →
         OnOk result (IsSame (state S.Store conn.old) (state S.Store conn.new)) }
     ensures clean { HasCleanDisk (state S.Store conn.new) → HasCleanDisk (state S.Store conn.old) }
+    ensures stop { HasCleanDisk (state S.Store conn.new) → Began Three (state S.Store conn.old) →
+        LeavesOld (state S.Store conn.old) (state S.Store conn.new) }
     ensures member { IfOk result (λ m. m.me < m.members) }
     ensures owner { HasCleanDisk (state S.Store conn.new) → IfOk result (λ m. Says (state S.Store conn.old)
         (state S.Store conn.new) (Ok (identity_of m))) }

@@ -3,11 +3,12 @@
 ghost use Rattle.std.specs.Prelude.{◌≡◌, IfOk, IfErr};
 ghost use Rattle.sqlite.specs.Held.{state};
 ghost use Rattle.sqlite.specs.State.{HasCleanDisk};
-ghost use Rattle.px_store.specs.Adopting.{Began};
+ghost use Rattle.px_store.specs.Adopting.{Began, IsBrought, LeavesOr};
 ghost use Rattle.px_store.specs.Formats.{record_at};
+ghost use Rattle.px_store.specs.View.{connection_of};
 ghost use Rattle.px_store.specs.declared.formats.Format.TheVariants.{Three};
 ghost use Rattle.cli_show.specs.Owners.{identity_of};
-ghost use Rattle.cli_show.specs.Stores.{ShowsStore, closed_by, closed_of, closed_for, IsUntaken, IsClosed};
+ghost use Rattle.cli_show.specs.Stores.{ShowsStore, LeavesRecord, closed_by, closed_of, closed_for, IsUntaken, IsClosed};
 
 use crate::owner::owner_of;
 use crate::showing::show_record;
@@ -67,6 +68,12 @@ fn adopted<S: Alter + Drop>(
         HasCleanDisk (state S.Store conn)) }
     ensures rows { IfOk result (λ r. ⟦<SqlRecords<S> as Records>⟧.is_honest r → Began Three (state S.Store conn) →
         ⟦<SqlRecords<S> as Records>⟧.stored r ≡ record_at Three (state S.Store conn).now.trees) }
+    ensures stop { IfOk result (λ r. ⟦<SqlRecords<S> as Records>⟧.is_honest r → Began Three (state S.Store conn) →
+        LeavesOr (IsBrought Three identity (state S.Store conn).now.trees) (state S.Store conn)
+        (state S.Store (connection_of r))) }
+    ensures left { IfErr result (λ e. HasCleanDisk (state S.Store e.1) → Began Three (state S.Store conn) →
+        LeavesOr (IsBrought Three identity (state S.Store conn).now.trees) (state S.Store conn)
+        (state S.Store e.1)) }
     ensures untaken { IfErr result (λ e. HasCleanDisk (state S.Store e.1) → HasCleanDisk (state S.Store conn)
         × IsUntaken identity (state S.Store conn) e.0) }
 {
@@ -97,6 +104,10 @@ pub fn show_store<S: Alter + Drop>(
         ShowsStore ⟦<SqlRecords<S> as Records>⟧ (state S.Store conn) r.1 wanted.entry r.0) }
     ensures closed { IfErr result (λ e. HasCleanDisk (state S.Store e.1) →
         IsClosed ⟦<SqlRecords<S> as Records>⟧ S.Store conn e.0) }
+    ensures stop { IfOk result (λ r. ⟦<SqlRecords<S> as Records>⟧.is_honest r.1 → Began Three (state S.Store conn) →
+        LeavesRecord (state S.Store conn) (state S.Store (connection_of r.1))) }
+    ensures left { IfErr result (λ e. HasCleanDisk (state S.Store e.1) → Began Three (state S.Store conn) →
+        LeavesRecord (state S.Store conn) (state S.Store e.1)) }
 {
     let m = match owner_of(&mut conn) {
         Ok(m) => m,

@@ -13,3 +13,9 @@ returns-in-Err-clause-untaken g c = λ clean. (
   c.in-Err.ensures.refused clean,
   (c.in-Err.fault, (c.closed_of.ensures, λ began verdict. c.in-Err.ensures.judged clean Three began verdict)),
 )
+
+pub returns-in-Ok-clause-stop : goal.returns-in-Ok-clause-stop
+returns-in-Ok-clause-stop g c = λ honest began. c.in-Ok.ensures.stop honest Three began
+
+pub returns-in-Err-clause-left : goal.returns-in-Err-clause-left
+returns-in-Err-clause-left g c = λ clean began. c.in-Err.ensures.stop clean Three began

@@ -2,7 +2,7 @@
 use Rattle.sqlite.specs.Held.{state}
 use Rattle.cli_show.specs.Owners.{identity_of}
 use Rattle.cli_show.proofs.Closing.{closed_unowned, closed_untaken, closed_unopened}
-use Rattle.cli_show.proofs.Reading.{shows_store}
+use Rattle.cli_show.proofs.Reading.{shows_store, leaves_old, leaves_record, leaves_less}
 use Rattle.cli_show.proofs.store.show_store.Goals as goal
 
 pub returns-in-Ok-shown-clause-shown : goal.returns-in-Ok-shown-clause-shown
@@ -26,3 +26,17 @@ returns-in-Err-shown-clause-closed g c = λ clean.
     c.in-Ok-adopted.records c.show_record-shown.result.1
     (λ honest. c.in-Ok.ensures.owner (c.in-Ok-adopted.ensures.clean honest)) c.closed_for.ensures c.in-Err-shown.is
     c.show_record-shown.ensures.refused c.in-Ok-adopted.ensures.rows clean
+
+pub returns-in-Ok-shown-clause-stop : goal.returns-in-Ok-shown-clause-stop
+returns-in-Ok-shown-clause-stop g c = ?
+
+pub returns-in-Err-clause-left : goal.returns-in-Err-clause-left
+returns-in-Err-clause-left g c = λ clean began. leaves_old _ _ (c.in-Err.ensures.stop clean began)
+
+pub returns-in-Err-adopted-clause-left : goal.returns-in-Err-adopted-clause-left
+returns-in-Err-adopted-clause-left g c = λ clean began.
+    leaves_record (state g.S.Store c.args.conn) (state g.S.Store c.owner_of.new.conn) (state g.S.Store c.in-Err-adopted.refused.1) c.identity_of.result
+    c.in-Ok.ensures.stays c.in-Ok.ensures.stop (c.in-Err-adopted.ensures.left clean) (c.in-Err-adopted.ensures.untaken clean).0 began
+
+pub returns-in-Err-shown-clause-left : goal.returns-in-Err-shown-clause-left
+returns-in-Err-shown-clause-left g c = ?
