@@ -46,11 +46,6 @@ says_nobody given came rows (Ok m) shown is = tt
 says_nobody given came rows (Err closed.Memory) shown is = tt
 says_nobody given came rows (Err (closed.Refused code)) shown is = inr (inr (rows, (shown, is)))
 
--- a record that is given back was honest before
-pub was_honest : {R : Type 0} {G : Ghosts R} (members : ℕ) (given : R) (e : NodeFault) (back : R) → IsRefused G members given e back → G.is_honest back → G.is_honest given
-was_honest members given e back (inl h) honest = h.was honest
-was_honest members given e back (inr h) honest = h.was honest
-
 -- ---- why nothing is shown
 
 pub closed_unowned : {R S : Type 0} {G : Ghosts R} {g : store.Ghosts S} (given came : Held S) (c : Closed) → IsUnowned (state g given) (state g came) c → IsClosed G g given c
@@ -64,13 +59,13 @@ closed_untaken {R} {S} {G} {g} given came c owner i says is h = record {
 }
 
 pub closed_unopened : {R S : Type 0} {G : Ghosts R} {g : store.Ghosts S} (given came : Held S) (c : Closed) (owner : Identity) (answer : Result Shown NodeFault) (fault : NodeFault)
-    (adopted back : R) → (G.is_honest adopted → Says (state g given) (state g came) (Ok owner)) → c ≡ closed_for fault → answer ≡ Err fault →
+    (adopted back : R) → Says (state g given) (state g came) (Ok owner) → c ≡ closed_for fault → answer ≡ Err fault →
     IfErr answer (λ e. IsRefused G owner.members adopted e back) →
-    (G.is_honest adopted → Began Three (state g came) → G.stored adopted ≡ record_at Three (state g came).now.trees) → G.is_honest back → IsClosed G g given c
-closed_unopened {R} {S} {G} {g} given came c owner answer fault adopted back says e is refused rows honest =
+    (G.is_honest adopted → Began Three (state g came) → G.stored adopted ≡ record_at Three (state g came).now.trees) → IsClosed G g given c
+closed_unopened {R} {S} {G} {g} given came c owner answer fault adopted back says e is refused rows =
     let h : IsRefused G owner.members adopted fault back =
     subst (λ (r : Result Shown NodeFault). IfErr r (λ x. IsRefused G owner.members adopted x back)) is refused in
     record {
       came = came;
-      why = inr (owner, (says (was_honest owner.members adopted fault back h honest), inr (fault, (adopted, (back, (e, (h, rows)))))));
+      why = inr (owner, (says, inr (fault, (adopted, (back, (e, (h, rows)))))));
     }

@@ -55,7 +55,11 @@ not_shown {R} {G} members given back n was stands is =
       same = λ honest. ap G.stored is ∙ ap (λ (x : NodeState Bytes). x.stored) (stands (subst G.is_honest is honest));
     })
 
--- and what the next open may find is what it could find before
+-- it was honest if it is, and what the next open may find is what it could find before
+pub was_before : {R : Type 0} {G : Ghosts R} (given back : R) (n : Node R G) → (G.is_honest (records_of n) → G.is_honest given) → back ≡ records_of n →
+    G.is_honest back → G.is_honest given
+was_before {R} {G} given back n was is honest = was (subst G.is_honest is honest)
+
 pub leaves_less : {R : Type 0} {G : Ghosts R} (given back : R) (n : Node R G) →
     (G.is_honest (records_of n) → (left : Record Bytes) → G.may_leave (records_of n) left → G.may_leave given left) →
     back ≡ records_of n →

@@ -1,6 +1,10 @@
 -- what is shown of the record is shown of the rows
+use Rattle.std.proofs.Common.{subst, sym}
 use Rattle.sqlite.specs.Held.{state}
+use Rattle.sqlite.specs.State.{HasCleanDisk}
+use Rattle.px_store.specs.View.{connection_of}
 use Rattle.cli_show.specs.Owners.{identity_of}
+use Rattle.cli_show.specs.Stores.{LeavesRecord}
 use Rattle.cli_show.proofs.Closing.{closed_unowned, closed_untaken, closed_unopened}
 use Rattle.cli_show.proofs.Reading.{shows_store, leaves_old, leaves_record, leaves_less}
 use Rattle.cli_show.proofs.store.show_store.Goals as goal
@@ -22,13 +26,20 @@ returns-in-Err-adopted-clause-closed g c = λ clean.
 
 pub returns-in-Err-shown-clause-closed : goal.returns-in-Err-shown-clause-closed
 returns-in-Err-shown-clause-closed g c = λ clean.
+    let back = subst (λ h. HasCleanDisk (state g.S.Store h)) c.release.ensures clean in
+    let came = c.in-Ok-adopted.ensures.clean (c.show_record-shown.ensures.was back) in
     closed_unopened c.args.conn c.owner_of.new.conn c.closed_for.result (identity_of c.in-Ok.m) c.show_record-shown.result.0 c.in-Err-shown.fault
-    c.in-Ok-adopted.records c.show_record-shown.result.1
-    (λ honest. c.in-Ok.ensures.owner (c.in-Ok-adopted.ensures.clean honest)) c.closed_for.ensures c.in-Err-shown.is
-    c.show_record-shown.ensures.refused c.in-Ok-adopted.ensures.rows clean
+    c.in-Ok-adopted.records c.show_record-shown.result.1 (c.in-Ok.ensures.owner came) c.closed_for.ensures c.in-Err-shown.is
+    c.show_record-shown.ensures.refused c.in-Ok-adopted.ensures.rows
+
+-- ---- what is left of it
 
 pub returns-in-Ok-shown-clause-stop : goal.returns-in-Ok-shown-clause-stop
-returns-in-Ok-shown-clause-stop g c = ?
+returns-in-Ok-shown-clause-stop g c = λ honest began.
+    let was = c.show_record-shown.ensures.was honest in
+    leaves_less _ _ _ (leaves_record (state g.S.Store c.args.conn) (state g.S.Store c.owner_of.new.conn) (state g.S.Store (connection_of c.in-Ok-adopted.records)) c.identity_of.result
+        c.in-Ok.ensures.stays c.in-Ok.ensures.stop (c.in-Ok-adopted.ensures.stop was) (c.in-Ok-adopted.ensures.clean was) began)
+    (c.show_record-shown.ensures.stop honest)
 
 pub returns-in-Err-clause-left : goal.returns-in-Err-clause-left
 returns-in-Err-clause-left g c = λ clean began. leaves_old _ _ (c.in-Err.ensures.stop clean began)
@@ -39,4 +50,10 @@ returns-in-Err-adopted-clause-left g c = λ clean began.
     c.in-Ok.ensures.stays c.in-Ok.ensures.stop (c.in-Err-adopted.ensures.left clean) (c.in-Err-adopted.ensures.untaken clean).0 began
 
 pub returns-in-Err-shown-clause-left : goal.returns-in-Err-shown-clause-left
-returns-in-Err-shown-clause-left g c = ?
+returns-in-Err-shown-clause-left g c = λ clean began.
+    let back = subst (λ h. HasCleanDisk (state g.S.Store h)) c.release.ensures clean in
+    let was = c.show_record-shown.ensures.was back in
+    subst (λ h. LeavesRecord (state g.S.Store c.args.conn) (state g.S.Store h)) (sym c.release.ensures) (leaves_less _ _ _
+        (leaves_record (state g.S.Store c.args.conn) (state g.S.Store c.owner_of.new.conn) (state g.S.Store (connection_of c.in-Ok-adopted.records)) c.identity_of.result
+            c.in-Ok.ensures.stays c.in-Ok.ensures.stop (c.in-Ok-adopted.ensures.stop was) (c.in-Ok-adopted.ensures.clean was) began)
+        (c.show_record-shown.ensures.stop back))
