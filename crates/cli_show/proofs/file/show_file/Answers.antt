@@ -23,6 +23,6 @@ returns-in-Err-show_store-clause-refused g c = inr (record {
   leaves = record {
     held = c.in-Ok.ensures.opened;
     left = c.in-Err-show_store.ensures.left;
-    shut = c.close-2.ensures;
+    shut = c.close-in-Err-show_store.ensures;
   };
 })
