@@ -19,7 +19,7 @@ pub there_written : {F : Type 0} (contents : F → Option (List ℕ)) (name text
 there_written contents name text [] written e = cc
 there_written contents name text (f ∷ fs) written e =
     elim (or_cases (is_there name text f) (list_any (is_there name text) fs) e) [
-      inl h ↦ this_written contents name text f written.0 h
+      | inl h ↦ this_written contents name text f written.0 h
       | inr h ↦ there_written contents name text fs written.1 h
     ]
 

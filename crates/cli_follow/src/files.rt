@@ -184,7 +184,11 @@ impl TextFiles {
     {
         let mut put = Vec::new(alloc);
         for file in files {
-            let TextFile { name, text, is_put: _ } = file;
+            let TextFile {
+                name,
+                text,
+                is_put: _,
+            } = file;
             let is_put = self.stands(rt, alloc, name.as_str(), text.as_str())?;
             put.push(TextFile { name, text, is_put })?;
         }

@@ -60,12 +60,7 @@ fn log_outcome<D: Databases>(
 }
 
 /// The verdicts for the packets behind the subcommand `test`.
-fn packets_outcome<D: Databases>(
-    dbs: &D,
-    alloc: Global,
-    store: &str,
-    rest: &[&str],
-) -> Outcome {
+fn packets_outcome<D: Databases>(dbs: &D, alloc: Global, store: &str, rest: &[&str]) -> Outcome {
     match rest.split_first() {
         Some((_, packets)) => shown_of(dbs, alloc, store, Wanted::Packets(packets)),
         None => Outcome::Refused(40),
@@ -89,11 +84,7 @@ fn listing_outcome<D: Databases>(
 }
 
 /// What the words give.
-fn outcome_of<RT: Databases + Files>(
-    rt: &RT,
-    alloc: Global,
-    matches: &ArgMatches<'_>,
-) -> Outcome {
+fn outcome_of<RT: Databases + Files>(rt: &RT, alloc: Global, matches: &ArgMatches<'_>) -> Outcome {
     let (Some(store), Some(kind)) = (matches.get_str("store"), kind_of(matches)) else {
         return Outcome::Refused(40);
     };

@@ -1,5 +1,5 @@
 -- what is shown or refused, and what is closed
-use Rattle.std.proofs.Common.{sym, subst, inr}
+use Rattle.std.proofs.Common.{subst, inr}
 use Rattle.sqlite.specs.Files.{file_state}
 use Rattle.cli_show.proofs.file.show_file.Goals as goal
 

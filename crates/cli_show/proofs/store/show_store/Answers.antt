@@ -39,7 +39,7 @@ returns-in-Ok-shown-clause-stop g c = λ honest began.
     let was = c.show_record-shown.ensures.was honest in
     leaves_less (state g.S.Store c.args.conn) (state g.S.Store (connection_of c.in-Ok-adopted.records)) (state g.S.Store (connection_of c.show_record-shown.result.1))
     (leaves_record (state g.S.Store c.args.conn) (state g.S.Store c.owner_of.new.conn) (state g.S.Store (connection_of c.in-Ok-adopted.records)) c.identity_of.result
-        c.in-Ok.ensures.stays c.in-Ok.ensures.stop (c.in-Ok-adopted.ensures.stop was) (c.in-Ok-adopted.ensures.clean was) began)
+    c.in-Ok.ensures.stays c.in-Ok.ensures.stop (c.in-Ok-adopted.ensures.stop was) (c.in-Ok-adopted.ensures.clean was) began)
     (c.show_record-shown.ensures.stop honest)
 
 pub returns-in-Err-clause-left : goal.returns-in-Err-clause-left
@@ -55,6 +55,6 @@ returns-in-Err-shown-clause-left g c = λ clean began.
     let back = subst (λ h. HasCleanDisk (state g.S.Store h)) c.release.ensures clean in
     let was = c.show_record-shown.ensures.was back in
     subst (λ h. LeavesRecord (state g.S.Store c.args.conn) (state g.S.Store h)) (sym c.release.ensures) (leaves_less (state g.S.Store c.args.conn) (state g.S.Store (connection_of c.in-Ok-adopted.records)) (state g.S.Store (connection_of c.show_record-shown.result.1))
-        (leaves_record (state g.S.Store c.args.conn) (state g.S.Store c.owner_of.new.conn) (state g.S.Store (connection_of c.in-Ok-adopted.records)) c.identity_of.result
-            c.in-Ok.ensures.stays c.in-Ok.ensures.stop (c.in-Ok-adopted.ensures.stop was) (c.in-Ok-adopted.ensures.clean was) began)
-        (c.show_record-shown.ensures.stop back))
+    (leaves_record (state g.S.Store c.args.conn) (state g.S.Store c.owner_of.new.conn) (state g.S.Store (connection_of c.in-Ok-adopted.records)) c.identity_of.result
+    c.in-Ok.ensures.stays c.in-Ok.ensures.stop (c.in-Ok-adopted.ensures.stop was) (c.in-Ok-adopted.ensures.clean was) began)
+    (c.show_record-shown.ensures.stop back))
