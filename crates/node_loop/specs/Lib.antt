@@ -13,4 +13,5 @@ pub mod Pacing
 pub mod Living
 pub mod inner
 pub mod Asking
+pub mod Counts
 pub mod Lives

@@ -1,5 +1,8 @@
 //! What went over the wire in a round.
 
+ghost use Rattle.std.specs.Prelude.{◌≡◌};
+ghost use Rattle.node_loop.specs.Counts.{nothing_of, one_in, one_out};
+
 /// What went over the wire in a round, for whoever counts it. What is sent again isn't among it.
 #[derive(Clone, Copy, PartialEq, Eq)]
 pub struct RoundCounts {
@@ -21,7 +24,9 @@ pub struct RoundCounts {
 
 impl RoundCounts {
     /// Nothing went over the wire of this member.
-    pub(crate) fn new(me: u8) -> RoundCounts {
+    pub(crate) fn new(me: u8) -> RoundCounts
+        ensures { result ≡ nothing_of me }
+    {
         RoundCounts {
             me,
             came: 0,
@@ -34,12 +39,16 @@ impl RoundCounts {
     }
 
     /// The same of the next round.
-    pub(crate) fn next(self) -> RoundCounts {
+    pub(crate) fn next(self) -> RoundCounts
+        ensures { result ≡ nothing_of self.me }
+    {
         RoundCounts::new(self.me)
     }
 
     /// One datagram more came, of that many bytes.
-    pub(crate) fn count_in(&mut self, length: usize) {
+    pub(crate) fn count_in(&mut self, length: usize)
+        ensures { self.new ≡ one_in length self.old }
+    {
         self.came = self.came.saturating_add(1);
         if length == 0 {
             self.dropped = self.dropped.saturating_add(1);
@@ -47,7 +56,9 @@ impl RoundCounts {
     }
 
     /// One more was handed over for this member, of that many bytes.
-    pub(crate) fn count_out(&mut self, to: u8, length: usize, is_sent: bool) {
+    pub(crate) fn count_out(&mut self, to: u8, length: usize, is_sent: bool)
+        ensures { self.new ≡ one_out to length is_sent self.old }
+    {
         if !is_sent {
             self.unsent = self.unsent.saturating_add(1);
         }

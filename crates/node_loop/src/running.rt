@@ -6,7 +6,8 @@ ghost use Rattle.px_transport.specs.Wires.{Adds, Moves, WireEvent};
 ghost use Rattle.node_loop.specs.Again.{HandsAgain};
 ghost use Rattle.node_loop.specs.Resends.{kept_of, requests_of};
 ghost use Rattle.pf_node.specs.Nodes.{applied_of, replica_of, state_in};
-ghost use Rattle.node_loop.specs.Progress.{looked, seen_in};
+ghost use Rattle.node_loop.specs.Counts.{nothing_of};
+ghost use Rattle.node_loop.specs.Progress.{counts_in, looked, seen_in};
 ghost use Rattle.node_loop.specs.Timing.{IsShort, LooksTimes, SawThenLooked, WorksOff, looks, view_of};
 ghost use Rattle.node_loop.specs.Times.{IsTimed, LooksAt};
 ghost use Rattle.node_loop.specs.Turns.{Served, TickedIf, TookThenTicked, standing};
@@ -182,6 +183,7 @@ fn begin(room: &mut Room, now: u64)
     ensures requests { requests_of room.new.resender ≡ requests_of room.old.resender }
     ensures hears { room.new.hears_asks ≡ room.old.hears_asks }
     ensures unseen { seen_in room.new ≡ seen_in room.old }
+    ensures counts { counts_in room.new ≡ nothing_of (counts_in room.old).me }
 {
     room.counts = room.counts.next();
     room.resender.set_time(now);

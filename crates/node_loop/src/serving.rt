@@ -1,6 +1,6 @@
 //! What a node does between two waits.
 
-ghost use Rattle.std.specs.Prelude.{◌≡◌, ◌≢◌, ◌≤◌, ◌<◌, ◌++◌, [], ◌∷◌, ℕ, IfOk, IfSome, None, Some, length};
+ghost use Rattle.std.specs.Prelude.{◌≡◌, ◌≢◌, ◌⊎◌, ◌≤◌, ◌<◌, ◌++◌, [], ◌∷◌, ℕ, IfOk, IfSome, None, Some, length};
 ghost use Rattle.std.specs.Prelude.{IsTrue, false};
 ghost use Rattle.std.specs.Prelude.{option_map, take, vec_len, vec_capacity};
 ghost use Rattle.px_replica.specs.Faults.{fault_of};
@@ -9,6 +9,7 @@ ghost use Rattle.px_wire.specs.Heads.{head_of};
 ghost use Rattle.pf_node.specs.Nodes.{replica_of, applied_of, membership_of};
 ghost use Rattle.px_transport.specs.Wires.{Adds, IsQuiet, Moves, gives};
 ghost use Rattle.node_loop.specs.Again.{AreAmong, HandsAgain};
+ghost use Rattle.node_loop.specs.Counts.{one_more};
 ghost use Rattle.node_loop.specs.Resends.{kept_of, requests_of};
 ghost use Rattle.node_loop.specs.Progress.{IsFrom, counts_in, heads_in, IsNobodys, SawAll, seen_in, shown_by};
 ghost use Rattle.node_loop.specs.Turns.{Acts, Ticked, Served, standing};
@@ -167,6 +168,9 @@ fn passes_over<W: Wire>(
     ensures others { result ≡ false → IsQuiet (W.traffic wire.old) (W.traffic wire.new) }
     ensures kept { kept_of resender.new ≡ kept_of resender.old }
     ensures requests { requests_of resender.new ≡ requests_of resender.old }
+    ensures counts { IsTrue result → (counts.new ≡ record counts.old { dropped = one_more counts.old.dropped }) ⊎
+        (counts.new ≡ record counts.old { answered = one_more counts.old.answered }) }
+    ensures uncounted { result ≡ false → counts.new ≡ counts.old }
     ensures same { W.identity wire.new ≡ W.identity wire.old }
 {
     if !hears_asks && is_outside(bytes) {
