@@ -1,7 +1,10 @@
 -- What is counted of what goes over the wire in a round.
-use Rattle.std.specs.Prelude.{ℕ, ◌+◌, ◌==◌, Bool, true, List, [], ◌∷◌, Option, Some, None, length, max, min, replicate}
-use Rattle.std.specs.Prelude.{slice_get, slice_set, if◌then◌else◌}
+use Rattle.std.specs.Prelude.{◌≡◌, ◌⊎◌, ℕ, zero, suc, ◌+◌, ◌==◌, Bool, true, false, List, [], ◌∷◌, ◌++◌, Option, Some, None}
+use Rattle.std.specs.Prelude.{length, max, min, replicate, slice_get, slice_set, if◌then◌else◌}
+use Rattle.px_model.specs.Spelling.{Bytes}
 use Rattle.px_replica.specs.declared.datagram.Datagram.{Datagram}
+use Rattle.px_transport.specs.Wires.{WireEvent, Gave, hands}
+use Rattle.node_loop.specs.Turns.{handed_over}
 use Rattle.node_loop.specs.declared.counts.RoundCounts.{RoundCounts}
 
 -- one more, up to 2^32 - 1
@@ -44,3 +47,50 @@ but_unsent c = record c { unsent = 0 }
 abbrev pub all_out : List Datagram → RoundCounts → RoundCounts
 all_out [] c = c
 all_out (d ∷ out) c = all_out out (one_out d.to (length d.bytes.items) true c)
+
+-- what came was dropped, or was answered
+abbrev pub PassedOver : (c d : RoundCounts) → Type 0
+PassedOver c d =
+    (d ≡ record c { dropped = one_more c.dropped }) ⊎ (d ≡ record c { answered = one_more c.answered })
+
+-- ---- what went over the wire, and what was counted of it
+
+-- these were handed over
+pub record CountsSent (es fs : List WireEvent) (c d : RoundCounts) : Type 0 where
+  pub out : List Datagram
+  pub went : fs ≡ es ++ hands (handed_over out)
+  pub counts : but_unsent d ≡ all_out out (but_unsent c)
+
+-- a datagram came, and these were handed over
+pub record CountsTaken (es fs : List WireEvent) (c d : RoundCounts) : Type 0 where
+  pub bytes : Bytes
+  pub out : List Datagram
+  pub went : fs ≡ es ++ (Gave bytes ∷ hands (handed_over out))
+  pub counts : but_unsent d ≡ all_out out (but_unsent (one_in (length bytes) c))
+
+-- a datagram came that was passed over; what is handed over again isn't counted
+pub record CountsPassed (es fs : List WireEvent) (c d : RoundCounts) : Type 0 where
+  pub bytes : Bytes
+  pub again : List (ℕ × Bytes)
+  pub went : fs ≡ es ++ (Gave bytes ∷ hands again)
+  pub counts : PassedOver (one_in (length bytes) c) d
+
+-- a datagram came, or none
+abbrev pub CountsIf : (had : Bool) → (es fs : List WireEvent) → (c d : RoundCounts) → Type 0
+CountsIf true es fs c d = CountsTaken es fs c d ⊎ CountsPassed es fs c d
+CountsIf false es fs c d = (fs ≡ es) × (d ≡ c)
+
+-- n datagrams came, one after the other
+abbrev pub CountsAll : (datagrams : ℕ) → (es fs : List WireEvent) → (c d : RoundCounts) → Type 0
+CountsAll zero es fs c d = (fs ≡ es) × (d ≡ c)
+CountsAll (suc n) es gs c e =
+    (fs : List WireEvent) × (d : RoundCounts) × CountsAll n es fs c d × CountsIf true fs gs d e
+
+-- a round of this member: datagrams came, something was handed over again, and then what a turn of its clock sends
+pub record CountsRound (me : ℕ) (es fs : List WireEvent) (d : RoundCounts) : Type 0 where
+  pub datagrams : ℕ
+  pub taken : List WireEvent
+  pub counted : RoundCounts
+  pub came : CountsAll datagrams es taken (nothing_of me) counted
+  pub again : List (ℕ × Bytes)
+  pub sent : CountsSent (taken ++ hands again) fs counted d

@@ -1,6 +1,6 @@
 //! What a node does between two waits.
 
-ghost use Rattle.std.specs.Prelude.{◌≡◌, ◌≢◌, ◌⊎◌, ◌≤◌, ◌<◌, ◌++◌, [], ◌∷◌, ℕ, IfOk, IfSome, None, Some, length};
+ghost use Rattle.std.specs.Prelude.{◌≡◌, ◌≢◌, ◌≤◌, ◌<◌, ◌++◌, [], ◌∷◌, ℕ, IfOk, IfSome, None, Some, length};
 ghost use Rattle.std.specs.Prelude.{IsTrue, false};
 ghost use Rattle.std.specs.Prelude.{option_map, take, vec_len, vec_capacity};
 ghost use Rattle.px_replica.specs.Faults.{fault_of};
@@ -9,7 +9,7 @@ ghost use Rattle.px_wire.specs.Heads.{head_of};
 ghost use Rattle.pf_node.specs.Nodes.{replica_of, applied_of, membership_of};
 ghost use Rattle.px_transport.specs.Wires.{Adds, IsQuiet, Moves, gives};
 ghost use Rattle.node_loop.specs.Again.{AreAmong, HandsAgain};
-ghost use Rattle.node_loop.specs.Counts.{one_more};
+ghost use Rattle.node_loop.specs.Counts.{CountsAll, CountsIf, CountsSent, PassedOver};
 ghost use Rattle.node_loop.specs.Resends.{kept_of, requests_of};
 ghost use Rattle.node_loop.specs.Progress.{IsFrom, counts_in, heads_in, IsNobodys, SawAll, seen_in, shown_by};
 ghost use Rattle.node_loop.specs.Turns.{Acts, Ticked, Served, standing};
@@ -66,6 +66,8 @@ pub fn tick_now<R: Records, W: Wire>(
     ensures ticked { Moves (W.traffic wire.old) (W.traffic wire.new)
         (λ es es'. Ticked (standing node.old es room.old) (standing node.new es' room.new) (fault_of result)) }
     ensures unseen { seen_in room.new ≡ seen_in room.old }
+    ensures counts { Moves (W.traffic wire.old) (W.traffic wire.new)
+        (λ es es'. CountsSent es es' (counts_in room.old) (counts_in room.new)) }
     ensures grows { applied_of node.old ≤ applied_of node.new }
     ensures same { W.identity wire.new ≡ W.identity wire.old }
 {
@@ -168,8 +170,7 @@ fn passes_over<W: Wire>(
     ensures others { result ≡ false → IsQuiet (W.traffic wire.old) (W.traffic wire.new) }
     ensures kept { kept_of resender.new ≡ kept_of resender.old }
     ensures requests { requests_of resender.new ≡ requests_of resender.old }
-    ensures counts { IsTrue result → (counts.new ≡ record counts.old { dropped = one_more counts.old.dropped }) ⊎
-        (counts.new ≡ record counts.old { answered = one_more counts.old.answered }) }
+    ensures counts { IsTrue result → PassedOver counts.old counts.new }
     ensures uncounted { result ≡ false → counts.new ≡ counts.old }
     ensures same { W.identity wire.new ≡ W.identity wire.old }
 {
@@ -194,6 +195,8 @@ fn take_one<R: Records, W: Wire>(
         (λ es es'. Served (standing node.old es room.old) (standing node.new es' room.new) (fault_of result)) }
     ensures saw { IfOk result (λ had. Moves (W.traffic wire.old) (W.traffic wire.new) (λ es es'. SawIf had
         (standing node.old es room.old) (standing node.new es' room.new) (seen_in room.old) (seen_in room.new))) }
+    ensures counts { IfOk result (λ had. Moves (W.traffic wire.old) (W.traffic wire.new)
+        (λ es es'. CountsIf had es es' (counts_in room.old) (counts_in room.new))) }
     ensures grows { applied_of node.old ≤ applied_of node.new }
     ensures same { W.identity wire.new ≡ W.identity wire.old }
 {
@@ -244,6 +247,8 @@ pub(crate) fn drain<R: Records, W: Wire>(
         (λ es es'. Served (standing node.old es room.old) (standing node.new es' room.new) (fault_of result)) }
     ensures saw { IfOk result (λ n. Moves (W.traffic wire.old) (W.traffic wire.new) (λ es es'. SawAll n
         (standing node.old es room.old) (standing node.new es' room.new) (seen_in room.old) (seen_in room.new))) }
+    ensures counts { IfOk result (λ n. Moves (W.traffic wire.old) (W.traffic wire.new)
+        (λ es es'. CountsAll n es es' (counts_in room.old) (counts_in room.new))) }
     ensures few { IfOk result (λ n. n ≤ most) }
     ensures grows { applied_of node.old ≤ applied_of node.new }
     ensures same { W.identity wire.new ≡ W.identity wire.old }
