@@ -68,7 +68,7 @@ round_counts o m w n k me c d e again begun a b f es t =
       s.1,
       record {
         datagrams = k;
-        taken = r.0;
+        mid = r.0;
         counted = d;
         came = subst (λ (x : RoundCounts). CountsAll k es r.0 x d) begun r.2;
         again = again;

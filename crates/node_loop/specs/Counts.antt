@@ -89,8 +89,8 @@ CountsAll (suc n) es gs c e =
 -- a round of this member: datagrams came, something was handed over again, and then what a turn of its clock sends
 pub record CountsRound (me : ℕ) (es fs : List WireEvent) (d : RoundCounts) : Type 0 where
   pub datagrams : ℕ
-  pub taken : List WireEvent
+  pub mid : List WireEvent
   pub counted : RoundCounts
-  pub came : CountsAll datagrams es taken (nothing_of me) counted
+  pub came : CountsAll datagrams es mid (nothing_of me) counted
   pub again : List (ℕ × Bytes)
-  pub sent : CountsSent (taken ++ hands again) fs counted d
+  pub sent : CountsSent (mid ++ hands again) fs counted d
