@@ -62,7 +62,7 @@ pub record CountsSent (es fs : List WireEvent) (c d : RoundCounts) : Type 0 wher
   pub counts : but_unsent d ≡ all_out out (but_unsent c)
 
 -- a datagram came, and these were handed over
-pub record CountsTaken (es fs : List WireEvent) (c d : RoundCounts) : Type 0 where
+pub record CountsCame (es fs : List WireEvent) (c d : RoundCounts) : Type 0 where
   pub bytes : Bytes
   pub out : List Datagram
   pub went : fs ≡ es ++ (Gave bytes ∷ hands (handed_over out))
@@ -77,7 +77,7 @@ pub record CountsPassed (es fs : List WireEvent) (c d : RoundCounts) : Type 0 wh
 
 -- a datagram came, or none
 abbrev pub CountsIf : (had : Bool) → (es fs : List WireEvent) → (c d : RoundCounts) → Type 0
-CountsIf true es fs c d = CountsTaken es fs c d ⊎ CountsPassed es fs c d
+CountsIf true es fs c d = CountsCame es fs c d ⊎ CountsPassed es fs c d
 CountsIf false es fs c d = (fs ≡ es) × (d ≡ c)
 
 -- n datagrams came, one after the other
