@@ -1,5 +1,5 @@
 -- Requests at a control socket, one after another.
-use Rattle.std.proofs.Common.{◌≡◌, ℕ, ◌<◌, Bool, true, false, List, [], ◌∷◌, IfSome, length, get_or, slice_get, sym, ap, subst, refl}
+use Rattle.std.proofs.Common.{◌≡◌, ◌∙◌, ℕ, ◌<◌, Bool, true, false, List, [], ◌∷◌, Some, None, IfSome, length, get_or, slice_get, sym, ap, subst, refl}
 use Rattle.std.proofs.lemmas.Option.{slice_get_read}
 use Rattle.http.specs.declared.request.Request.{Request}
 use Rattle.http_server.specs.Exchange.{Call, Chain}
@@ -69,3 +69,7 @@ kept_chained answers are c d (k ∷ calls) (next, one, rest) =
 pub at_place : {X : Type 0} (P : X → Type 0) (xs : List X) (i : ℕ) (x : X) → i < length xs → x ≡ get_or xs i x → P x →
     IfSome (slice_get xs i) P
 at_place P xs i x l at p = subst (λ o. IfSome o P) (sym (slice_get_read xs (length xs) i x refl l at)) p
+
+pub is_there : {X A : Type 0} (xs : List X) (i : ℕ) (x : X) → i < length xs → x ≡ get_or xs i x → slice_get xs i ≡ None → A
+is_there {X} xs i x l at none =
+    let some : Some x ≡ None = sym (slice_get_read xs (length xs) i x refl l at) ∙ none in absurd (cc)

@@ -1,7 +1,7 @@
 //! The control socket: a Unix socket, for figures alone a TCP port too, and the clients of both.
 
 ghost use Rattle.std.specs.Prelude.{◌≡◌, ◌<◌, ◌&&◌, length, nat_le, not, true, Some, None, unwrap_or, if◌then◌else◌};
-ghost use Rattle.std.specs.Prelude.{IfSome, slice_get, slice_set};
+ghost use Rattle.std.specs.Prelude.{IfSome, slice_get};
 ghost use Rattle.http_server.specs.Exchange.{Calls};
 ghost use Rattle.node_requests.specs.Health.{health};
 ghost use Rattle.std.specs.List.{list_any};
@@ -306,7 +306,6 @@ impl Entrance {
     /// go behind its first answer, so that it is there for the next client.
     fn look_at<R: Records>(&mut self, place: usize, service: &mut HttpService<R>, now: u64) -> Look
         ensures answers { IfSome (slice_get self.old.clients.items place) (λ client. (left : Client) ×
-            (self.new.clients.items ≡ slice_set self.old.clients.items place left) ×
             Calls ⟦<HttpService<R> as Service>⟧.answers
             (record service.old { is_spare = nat_le self.old.most place }) service.new
             (calls_of client) (calls_of left)) }
