@@ -1,19 +1,20 @@
 -- What is counted of what goes over the wire.
-use Rattle.std.proofs.Common.{◌≡◌, ◌∙◌, ℕ, zero, suc, ◌+◌, Bool, true, false, List, [], ◌∷◌, ◌++◌, Option, Some, None, drop, length, slice_get, sym, ap, subst, refl, if◌then◌else◌}
+use Rattle.std.proofs.Common.{◌≡◌, ◌∙◌, ℕ, zero, suc, ◌+◌, Bool, true, false, List, [], ◌∷◌, ◌++◌, drop, length, nat_lt, sym, ap, subst, refl, if◌then◌else◌}
 use Rattle.std.proofs.lemmas.List.{append-nil}
 use Rattle.px_model.specs.Spelling.{Bytes}
 use Rattle.px_replica.specs.declared.datagram.Datagram.{Datagram}
 use Rattle.px_transport.specs.Wires.{Adds, Moves, WireEvent, hands}
-use Rattle.node_loop.specs.Counts.{CountsAll, CountsIf, CountsRound, CountsSent, all_out, but_unsent, handed_to, nothing_of, one_more, one_out}
+use Rattle.node_loop.specs.Counting.{CountsAll, CountsIf, CountsRound, CountsSent}
+use Rattle.node_loop.specs.Counts.{all_out, but_unsent, handed_to, nothing_of, one_more, one_out}
 use Rattle.node_loop.specs.declared.counts.RoundCounts.{RoundCounts}
 
-handed_so : (to n unsent : ℕ) (o : Option ℕ) (c : RoundCounts) →
-    but_unsent (handed_to to n o (record c { unsent = unsent })) ≡ handed_to to n o (but_unsent c)
-handed_so to n unsent None c = refl
-handed_so to n unsent (Some k) c = refl
+handed_so : (m : Bool) (to n unsent : ℕ) (c : RoundCounts) →
+    but_unsent (handed_to m to n (record c { unsent = unsent })) ≡ handed_to m to n (but_unsent c)
+handed_so true to n unsent c = refl
+handed_so false to n unsent c = refl
 
 out_so : (to n : ℕ) (b : Bool) (c : RoundCounts) → but_unsent (one_out to n b c) ≡ one_out to n true (but_unsent c)
-out_so to n b c = handed_so to n (if b then c.unsent else one_more c.unsent) (slice_get c.sent to) c
+out_so to n b c = handed_so (nat_lt to 15) to n (if b then c.unsent else one_more c.unsent) c
 
 -- one more was handed over
 pub out_more : (out : List Datagram) (i : ℕ) (d : Datagram) (bytes : List ℕ) (b : Bool) (c e : RoundCounts) →
@@ -41,7 +42,7 @@ all_more o m n k j c d e true is next a b es t =
     let r = a es t in
     let s = b r.0 r.1 in
     (s.0, s.1, subst (λ (i : ℕ). CountsAll i es s.0 c e) (sym next) (r.0, d, r.2, s.2))
-all_more o m n k j c d e false is next a b = absurd (cc)
+all_more o m n k j c d e false is next a b es t = absurd (cc)
 
 all_same : (k : ℕ) (es fs gs : List WireEvent) (c d e : RoundCounts) → CountsAll k es fs c d → gs ≡ fs → e ≡ d →
     CountsAll k es gs c e
@@ -55,7 +56,7 @@ all_no_more o m n k c d e false is a b es t =
     let r = a es t in
     let s = b r.0 r.1 in
     (s.0, s.1, all_same k es r.0 s.0 c d e r.2 s.2.0 s.2.1)
-all_no_more o m n k c d e true is a b = absurd (cc)
+all_no_more o m n k c d e true is a b es t = absurd (cc)
 
 -- a round: what came, what was handed over again, and what was sent then
 pub round_counts : (o m w n : List WireEvent → Type 0) (k : ℕ) (me : ℕ) (c d e : RoundCounts) (again : List (ℕ × Bytes)) →

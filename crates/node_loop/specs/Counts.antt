@@ -1,10 +1,7 @@
 -- What is counted of what goes over the wire in a round.
-use Rattle.std.specs.Prelude.{◌≡◌, ◌⊎◌, ℕ, zero, suc, ◌+◌, ◌==◌, Bool, true, false, List, [], ◌∷◌, ◌++◌, Option, Some, None}
-use Rattle.std.specs.Prelude.{length, max, min, replicate, slice_get, slice_set, if◌then◌else◌}
-use Rattle.px_model.specs.Spelling.{Bytes}
+use Rattle.std.specs.Prelude.{◌≡◌, ◌⊎◌, ℕ, ◌+◌, ◌==◌, Bool, true, false, List, [], ◌∷◌, length, max, min, nat_lt, replicate}
+use Rattle.std.specs.Prelude.{slice_index, slice_set, if◌then◌else◌}
 use Rattle.px_replica.specs.declared.datagram.Datagram.{Datagram}
-use Rattle.px_transport.specs.Wires.{WireEvent, Gave, hands}
-use Rattle.node_loop.specs.Turns.{handed_over}
 use Rattle.node_loop.specs.declared.counts.RoundCounts.{RoundCounts}
 
 -- one more, up to 2^32 - 1
@@ -27,18 +24,18 @@ nothing_of me = record {
 abbrev pub one_in : (bytes : ℕ) → RoundCounts → RoundCounts
 one_in n c = record c { came = one_more c.came; dropped = if n == 0 then one_more c.dropped else c.dropped }
 
--- one of n bytes was handed over for a member of which this was counted, if it is one
-abbrev pub handed_to : (to bytes : ℕ) → (sent : Option ℕ) → RoundCounts → RoundCounts
-handed_to to n None c = c
-handed_to to n (Some sent) c = record c {
-  sent = slice_set c.sent to (one_more sent);
+-- one of n bytes was handed over, for a member or for somebody else
+abbrev pub handed_to : (is_member : Bool) → (to bytes : ℕ) → RoundCounts → RoundCounts
+handed_to true to n c = record c {
+  sent = slice_set c.sent to (one_more (slice_index c.sent to));
   longest = if to == c.me then c.longest else max c.longest n;
 }
+handed_to false to n c = c
 
 -- one of n bytes was handed over, and was sent or not
 abbrev pub one_out : (to bytes : ℕ) → (is_sent : Bool) → RoundCounts → RoundCounts
 one_out to n is_sent c =
-    handed_to to n (slice_get c.sent to) (record c { unsent = if is_sent then c.unsent else one_more c.unsent })
+    handed_to (nat_lt to 15) to n (record c { unsent = if is_sent then c.unsent else one_more c.unsent })
 
 -- these were handed over, whether they were sent or not
 abbrev pub but_unsent : RoundCounts → RoundCounts
@@ -52,45 +49,3 @@ all_out (d ∷ out) c = all_out out (one_out d.to (length d.bytes.items) true c)
 abbrev pub PassedOver : (c d : RoundCounts) → Type 0
 PassedOver c d =
     (d ≡ record c { dropped = one_more c.dropped }) ⊎ (d ≡ record c { answered = one_more c.answered })
-
--- ---- what went over the wire, and what was counted of it
-
--- these were handed over
-pub record CountsSent (es fs : List WireEvent) (c d : RoundCounts) : Type 0 where
-  pub out : List Datagram
-  pub went : fs ≡ es ++ hands (handed_over out)
-  pub counts : but_unsent d ≡ all_out out (but_unsent c)
-
--- a datagram came, and these were handed over
-pub record CountsCame (es fs : List WireEvent) (c d : RoundCounts) : Type 0 where
-  pub bytes : Bytes
-  pub out : List Datagram
-  pub went : fs ≡ es ++ (Gave bytes ∷ hands (handed_over out))
-  pub counts : but_unsent d ≡ all_out out (but_unsent (one_in (length bytes) c))
-
--- a datagram came that was passed over; what is handed over again isn't counted
-pub record CountsPassed (es fs : List WireEvent) (c d : RoundCounts) : Type 0 where
-  pub bytes : Bytes
-  pub again : List (ℕ × Bytes)
-  pub went : fs ≡ es ++ (Gave bytes ∷ hands again)
-  pub counts : PassedOver (one_in (length bytes) c) d
-
--- a datagram came, or none
-abbrev pub CountsIf : (had : Bool) → (es fs : List WireEvent) → (c d : RoundCounts) → Type 0
-CountsIf true es fs c d = CountsCame es fs c d ⊎ CountsPassed es fs c d
-CountsIf false es fs c d = (fs ≡ es) × (d ≡ c)
-
--- n datagrams came, one after the other
-abbrev pub CountsAll : (datagrams : ℕ) → (es fs : List WireEvent) → (c d : RoundCounts) → Type 0
-CountsAll zero es fs c d = (fs ≡ es) × (d ≡ c)
-CountsAll (suc n) es gs c e =
-    (fs : List WireEvent) × (d : RoundCounts) × CountsAll n es fs c d × CountsIf true fs gs d e
-
--- a round of this member: datagrams came, something was handed over again, and then what a turn of its clock sends
-pub record CountsRound (me : ℕ) (es fs : List WireEvent) (d : RoundCounts) : Type 0 where
-  pub datagrams : ℕ
-  pub mid : List WireEvent
-  pub counted : RoundCounts
-  pub came : CountsAll datagrams es mid (nothing_of me) counted
-  pub again : List (ℕ × Bytes)
-  pub sent : CountsSent (mid ++ hands again) fs counted d

@@ -1,7 +1,10 @@
 //! What went over the wire in a round.
 
-ghost use Rattle.std.specs.Prelude.{◌≡◌};
-ghost use Rattle.node_loop.specs.Counts.{nothing_of, one_in, one_out};
+ghost use Rattle.std.specs.Prelude.{◌≡◌, if◌then◌else◌};
+ghost use Rattle.node_loop.specs.Counts.{nothing_of, one_in, one_more, one_out};
+
+/// The most members.
+const MEMBERS: usize = 15;
 
 /// What went over the wire in a round, for whoever counts it. What is sent again isn't among it.
 #[derive(Clone, Copy, PartialEq, Eq)]
@@ -20,6 +23,13 @@ pub struct RoundCounts {
     pub sent: [u32; 15],
     /// The most bytes of one for another member.
     pub longest: usize,
+}
+
+/// How many datagrams were not sent, with one more that was sent or not.
+fn unsent_after(unsent: u32, is_sent: bool) -> u32
+    ensures { result ≡ (if is_sent then unsent else one_more unsent) }
+{
+    if is_sent { unsent } else { unsent.saturating_add(1) }
 }
 
 impl RoundCounts {
@@ -59,15 +69,13 @@ impl RoundCounts {
     pub(crate) fn count_out(&mut self, to: u8, length: usize, is_sent: bool)
         ensures { self.new ≡ one_out to length is_sent self.old }
     {
-        if !is_sent {
-            self.unsent = self.unsent.saturating_add(1);
-        }
-        let Some(sent) = self.sent.get_mut(usize::from(to)) else {
-            return;
-        };
-        *sent = sent.saturating_add(1);
-        if to != self.me {
-            self.longest = self.longest.max(length);
+        self.unsent = unsent_after(self.unsent, is_sent);
+        let place = usize::from(to);
+        if place < MEMBERS {
+            self.sent[place] = self.sent[place].saturating_add(1);
+            if to != self.me {
+                self.longest = self.longest.max(length);
+            }
         }
     }
 }

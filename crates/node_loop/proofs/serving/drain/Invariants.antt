@@ -2,7 +2,7 @@
 use Rattle.std.proofs.Common.{◌≡◌, ◌≤◌, None}
 use Rattle.px_transport.specs.Wires.{Moves}
 use Rattle.pf_node.specs.Nodes.{applied_of}
-use Rattle.node_loop.specs.Counts.{CountsAll}
+use Rattle.node_loop.specs.Counting.{CountsAll}
 use Rattle.node_loop.specs.Progress.{SawAll, counts_in, seen_in}
 use Rattle.node_loop.specs.Turns.{Served, standing}
 use Rattle.node_loop.proofs.serving.drain.Given as goal

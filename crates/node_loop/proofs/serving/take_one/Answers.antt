@@ -2,7 +2,8 @@
 use Rattle.std.proofs.Common.{◌≡◌, ◌∙◌, [], ◌∷◌, refl, ap, subst, inl, inr, Some, None, option_map, true, false}
 use Rattle.px_transport.specs.Wires.{Gave, hands}
 use Rattle.px_transport.proofs.Traffic.{adds_then, quiet_adds, quiet_by, moves_by, moves_still}
-use Rattle.node_loop.specs.Counts.{CountsIf, PassedOver, all_out, but_unsent}
+use Rattle.node_loop.specs.Counting.{CountsIf}
+use Rattle.node_loop.specs.Counts.{PassedOver, all_out, but_unsent}
 use Rattle.node_loop.specs.Progress.{seen_in}
 use Rattle.node_loop.specs.Resends.{kept_of, requests_of}
 use Rattle.node_loop.specs.Turns.{HeardTurn, Served, handed_over, standing}
@@ -228,5 +229,5 @@ returns-in-Ok-clause-counts g c =
       went = refl;
       counts = subst (λ x. but_unsent c.send_all.new.counts ≡ all_out c.receive-result.new.out.items (but_unsent x))
           (c.passes_over.ensures.uncounted c.if-passes_over.false ∙ c.count_in.ensures)
-          (out_on c.receive-result.new.out.items c.as_slice.result.now _ _ c.as_slice.ensures.value c.send_all.ensures.counts);
+          (out_on c.receive-result.new.out.items c.as_slice.result.now c.passes_over.new.counts c.send_all.new.counts c.as_slice.ensures.value c.send_all.ensures.counts);
     }))

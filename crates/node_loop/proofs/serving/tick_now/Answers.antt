@@ -4,7 +4,7 @@ use Rattle.px_transport.specs.Wires.{hands}
 use Rattle.px_transport.proofs.Traffic.{moves_by}
 use Rattle.px_replica.specs.Faults.{fault_of}
 use Rattle.node_loop.specs.Resends.{kept_of, requests_of}
-use Rattle.node_loop.specs.Counts.{CountsSent}
+use Rattle.node_loop.specs.Counting.{CountsSent}
 use Rattle.node_loop.specs.Turns.{Ticked, handed_over, standing}
 use Rattle.node_loop.proofs.Counting.{out_on}
 use Rattle.node_loop.proofs.Given.{handed_on, kept_on}
@@ -38,5 +38,5 @@ returns-clause-counts g c =
     (λ es. record {
       out = c.act-result.new.out.items;
       went = refl;
-      counts = out_on c.act-result.new.out.items c.as_slice.result.now _ _ c.as_slice.ensures.value c.send_all.ensures.counts;
+      counts = out_on c.act-result.new.out.items c.as_slice.result.now c.args.room.now.counts c.send_all.new.counts c.as_slice.ensures.value c.send_all.ensures.counts;
     })
