@@ -277,7 +277,11 @@ impl Observer {
     }
 
     /// What is counted as a node starts: a row for each other member, and nothing that came. The members listen there.
-    pub(crate) fn first_counters(&self, alloc: Global, members: &str) -> Result<Counters, AllocError>
+    pub(crate) fn first_counters(
+        &self,
+        alloc: Global,
+        members: &str,
+    ) -> Result<Counters, AllocError>
         ensures stood { IfOk result (λ t. t.stood ≡ 0) }
         ensures members { IfOk result (λ t. string_bytes t.members ≡ members.now) }
         ensures peers { IfOk result (λ t. t.peers.items ≡ map (reported 0) self.entry.now.rows.items) }

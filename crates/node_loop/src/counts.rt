@@ -29,7 +29,11 @@ pub struct RoundCounts {
 fn unsent_after(unsent: u32, is_sent: bool) -> u32
     ensures { result ≡ (if is_sent then unsent else one_more unsent) }
 {
-    if is_sent { unsent } else { unsent.saturating_add(1) }
+    if is_sent {
+        unsent
+    } else {
+        unsent.saturating_add(1)
+    }
 }
 
 impl RoundCounts {
