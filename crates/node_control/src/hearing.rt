@@ -1,6 +1,7 @@
 //! Who is heard, on standard error.
 
 ghost use Rattle.std.specs.Prelude.{◌≡◌, ◌||◌};
+ghost use Rattle.node_control.specs.Observers.{unheard};
 ghost use Rattle.node_control.specs.inner.Hearing.{after_round, all_heard, count_heard, heard_by, is_within, judged};
 ghost use Rattle.node_control.specs.inner.Hearing.{lacking_since, said_at, says_caught_up, says_end, with_end};
 
@@ -68,7 +69,9 @@ fn is_within(since: u64, now: u64, seconds: u64) -> bool
 
 impl Hearing {
     /// Nobody was heard yet.
-    pub(crate) fn new(m: Membership, is_quiet: bool) -> Hearing {
+    pub(crate) fn new(m: Membership, is_quiet: bool) -> Hearing
+        ensures { result ≡ unheard m is_quiet }
+    {
         Hearing {
             m,
             heard: [0; MEMBERS],
