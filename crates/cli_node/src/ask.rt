@@ -1,6 +1,7 @@
 //! The subcommand `ask`: a command asked of a node.
 
-ghost use Rattle.std.specs.Prelude.{◌≡◌, ◌<◌, ◌⊎◌, ◌↔◌, ℕ, List, [], ◌∷◌, Ok, Some, false, IfSome, IfOk, IfErr, IsSome, IsTrue};
+ghost use Rattle.std.specs.Prelude.{◌≡◌, ◌<◌, ◌⊎◌, ◌↔◌, ℕ, List, [], ◌∷◌, Ok, Some, false, IfSome, IfOk, IfErr};
+ghost use Rattle.std.specs.Prelude.{IsSome, IsTrue};
 ghost use Rattle.std.specs.Prelude.{codes, option_map};
 ghost use Rattle.pf_entry.specs.declared.command.Command.{Command};
 ghost use Rattle.px_wire.specs.declared.membership.Membership.{Membership};

@@ -18,7 +18,8 @@ ghost use Rattle.cli_files.specs.Clusters.{IsClusterKey};
 ghost use Rattle.cli_files.specs.Files.{settings_of};
 ghost use Rattle.cli_files.specs.Settings.{number_of};
 ghost use Rattle.cli_node.specs.declared.outcome.Outcome.TheVariants.{Memory, Refused};
-ghost use Rattle.cli_node.specs.inner.Running.{Anything, EndsAs, EndsNew, EndsNode, EndsWith, IsAlone, IsUnrun, RunsHere};
+ghost use Rattle.cli_node.specs.inner.Running.{Anything, EndsAs, EndsNew, EndsNode, EndsWith, IsAlone, IsUnrun};
+ghost use Rattle.cli_node.specs.inner.Running.{RunsHere};
 ghost use Rattle.cli_node.specs.inner.Running.{hears_asks, keys_with, sealer_with};
 ghost use Rattle.cli_node.specs.inner.Outcomes.{ComesTo, ComesOpen, ComesOpenOr, IsWireless};
 ghost use Rattle.cli_node.specs.inner.Given.{AreFigures, AreTurns, IsFlag, IsFlagIn, IsNumberIn, IsPlaced, text_in};
@@ -170,9 +171,12 @@ impl<'m, 'w, 'a> NodeWords<'m, 'w, 'a> {
         ensures is_quiet { IfSome result (λ w. IsFlagIn matches.now file.now (codes "quiet") w.is_quiet) }
         ensures store { IfSome result (λ w. text_in matches.now file.now (codes "store") ≡ Some w.store.now) }
         ensures key { IfSome result (λ w. option_map (λ t. t.now) w.key ≡ text_in matches.now file.now (codes "key")) }
-        ensures other_key { IfSome result (λ w. option_map (λ t. t.now) w.other_key ≡ text_in matches.now file.now (codes "other-key")) }
-        ensures control { IfSome result (λ w. option_map (λ t. t.now) w.control ≡ text_in matches.now file.now (codes "control")) }
-        ensures metrics { IfSome result (λ w. option_map (λ t. t.now) w.metrics ≡ text_in matches.now file.now (codes "metrics")) }
+        ensures other_key { IfSome result (λ w. option_map (λ t. t.now) w.other_key ≡
+            text_in matches.now file.now (codes "other-key")) }
+        ensures control { IfSome result (λ w. option_map (λ t. t.now) w.control ≡
+            text_in matches.now file.now (codes "control")) }
+        ensures metrics { IfSome result (λ w. option_map (λ t. t.now) w.metrics ≡
+            text_in matches.now file.now (codes "metrics")) }
         ensures members { IfSome result (λ w. w.members ≡ members.entry) }
     {
         let Some(me) = number_in(matches, file, "me") else {

@@ -10,7 +10,8 @@ ghost use Rattle.px_store.specs.View.{connection_of, IsOpened};
 ghost use Rattle.cli_node.specs.declared.outcome.Outcome.TheVariants.{Memory, Refused};
 ghost use Rattle.cli_node.specs.declared.store.TheConstants.{NO_STORE, FILE_IS_THERE};
 ghost use Rattle.cli_node.specs.inner.Outcomes.{adopt_outcome};
-ghost use Rattle.cli_node.specs.inner.Stores.{identity_at, IsKept, IsOpening, IsRefusal, IsStoreless, IsUnmade, is_made};
+ghost use Rattle.cli_node.specs.inner.Stores.{identity_at, IsKept, IsOpening, IsRefusal, IsStoreless, IsUnmade};
+ghost use Rattle.cli_node.specs.inner.Stores.{is_made};
 ghost use Rattle.cli_node.specs.inner.Stores.{IsFoundAt, IsNone, found_by, has_no_byte};
 
 use crate::database::{Databases, Seen};
@@ -172,7 +173,8 @@ fn open_file<D: Databases>(
 ) -> Result<Connection<FileStore<File>>, Outcome>
     ensures refused { OnErr result ((result ≡ Err Memory) ⊎ (result ≡ Err (Refused 70))) }
     ensures held { IfOk result (λ c.
-        D.holds dbs.now path.now (state ⟦<FileStore<File> as Store>⟧ c).now (state ⟦<FileStore<File> as Store>⟧ c).in_transaction) }
+        D.holds dbs.now path.now (state ⟦<FileStore<File> as Store>⟧ c).now
+        (state ⟦<FileStore<File> as Store>⟧ c).in_transaction) }
 {
     match dbs.open(path) {
         Ok(conn) => Ok(conn),
@@ -212,7 +214,8 @@ fn make_store<D: Databases>(
 ) -> Result<Connection<FileStore<File>>, Outcome>
     ensures refused { IfErr result IsUnmade }
     ensures held { IfOk result (λ c.
-        D.holds dbs.now words.entry.store.now (state ⟦<FileStore<File> as Store>⟧ c).now (state ⟦<FileStore<File> as Store>⟧ c).in_transaction) }
+        D.holds dbs.now words.entry.store.now (state ⟦<FileStore<File> as Store>⟧ c).now
+        (state ⟦<FileStore<File> as Store>⟧ c).in_transaction) }
 {
     match make_file(rt, words.store, found) {
         Ok(()) => {}
@@ -246,7 +249,8 @@ fn open_store<D: Databases>(
     ensures refused { IfErr result (IsStoreless words.entry.is_from_file words.entry.is_new) }
     ensures kind { IfErr result IsRefusal }
     ensures at { IfOk result (λ c.
-        D.holds dbs.now words.entry.store.now (state ⟦<FileStore<File> as Store>⟧ c).now (state ⟦<FileStore<File> as Store>⟧ c).in_transaction) }
+        D.holds dbs.now words.entry.store.now (state ⟦<FileStore<File> as Store>⟧ c).now
+        (state ⟦<FileStore<File> as Store>⟧ c).in_transaction) }
     ensures lost { words.entry.is_from_file ≡ true → words.entry.is_new ≡ false →
         (found ≡ Found.Nothing) ⊎ (found ≡ Found.Empty) → result ≡ Err (Refused NO_STORE) }
     ensures held { words.entry.is_new ≡ true → found ≡ Found.Store → result ≡ Err (Refused FILE_IS_THERE) }
@@ -298,7 +302,8 @@ pub(crate) fn record_at<D: Databases>(
     ensures members { IfOk result (λ r. ⟦<SqlRecords<FileStore<File>> as Records>⟧.members r ≡ m.members) }
     ensures begins { IfOk result (λ r. ⟦<SqlRecords<FileStore<File>> as Records>⟧.failed r ≡ 0) }
     ensures rows { IfOk result (λ r. IsKept (D.holds dbs.now words.entry.store.now)
-        (state ⟦<FileStore<File> as Store>⟧ (connection_of r)) (λ f db. IsOpened ⟦<FileStore<File> as Store>⟧ r (record_at f db.trees))) }
+        (state ⟦<FileStore<File> as Store>⟧ (connection_of r))
+        (λ f db. IsOpened ⟦<FileStore<File> as Store>⟧ r (record_at f db.trees))) }
     ensures refused { IfErr result (IsStoreless words.entry.is_from_file words.entry.is_new) }
     ensures kind { IfErr result IsRefusal }
     ensures none { result ≡ Err (Refused NO_STORE) → IsNone found }

@@ -8,7 +8,8 @@ ghost use Rattle.px_store.specs.Formats.{record_at};
 ghost use Rattle.px_store.specs.View.{connection_of};
 ghost use Rattle.px_store.specs.declared.formats.Format.TheVariants.{Three};
 ghost use Rattle.cli_show.specs.Owners.{identity_of};
-ghost use Rattle.cli_show.specs.Stores.{ShowsStore, LeavesRecord, closed_by, closed_of, closed_for, IsUntaken, IsClosed};
+ghost use Rattle.cli_show.specs.Stores.{ShowsStore, LeavesRecord, closed_by, closed_of, closed_for, IsUntaken};
+ghost use Rattle.cli_show.specs.Stores.{IsClosed};
 
 use crate::owner::owner_of;
 use crate::showing::show_record;

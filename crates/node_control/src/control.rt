@@ -453,7 +453,8 @@ impl ControlSocket {
     /// The node's health, if it is to be said, since it is another than was said last: then it is noted.
     fn changed<R: Records>(&mut self, service: &HttpService<R>) -> Option<Health>
         ensures said { result ≡ (if not (⟦<Health as PartialEq>⟧.eq
-            (health service.now.handler.node service.now.counters) self.old.health) && nat_le START service.now.counters.up
+            (health service.now.handler.node service.now.counters) self.old.health)
+            && nat_le START service.now.counters.up
             then Some (health service.now.handler.node service.now.counters) else None) }
         ensures noted { self.new ≡ record self.old { health = unwrap_or result self.old.health } }
     {

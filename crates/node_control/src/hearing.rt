@@ -208,8 +208,8 @@ impl Hearing {
         self.say_majority(rt, now);
     }
 
-    /// Whether it is to be written that the node has caught up, since it lacked for long what others have. Since when it
-    /// lacks that is noted.
+    /// Whether it is to be written that the node has caught up, since it lacked for long what others have. Since when
+    /// it lacks that is noted.
     fn catches_up(&mut self, is_lacking: bool, now: u64) -> bool
         ensures said { result ≡ says_caught_up is_lacking now self.old.lacking self.old.is_quiet }
         ensures noted { self.new ≡ record self.old { lacking = lacking_since is_lacking now self.old.lacking } }

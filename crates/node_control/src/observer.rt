@@ -4,7 +4,8 @@ ghost use Rattle.std.specs.Prelude.{◌≡◌, ◌==◌, ◌||◌, not, if◌the
 ghost use Rattle.node_control.specs.Observers.{HasSeenNothing, first_rows};
 ghost use Rattle.node_control.specs.inner.Watching.{proposed_by, proposed_after, proposed_then};
 ghost use Rattle.node_control.specs.inner.Watching.{is_proposed, stood_since, seconds_since};
-ghost use Rattle.node_control.specs.inner.Observing.{IsShown, begun, counted, in_all, is_nack, noted, seen_of, stood_at};
+ghost use Rattle.node_control.specs.inner.Observing.{IsShown, begun, counted, in_all, is_nack, noted, seen_of};
+ghost use Rattle.node_control.specs.inner.Observing.{stood_at};
 ghost use Rattle.node_control.specs.inner.Rows.{is_due, sampled, reported, sent_more, heard_from, rows_after};
 
 use crate::hearing::Hearing;

@@ -1,5 +1,6 @@
 -- What is counted of what goes over the wire in a round.
-use Rattle.std.specs.Prelude.{◌≡◌, ◌⊎◌, ℕ, ◌+◌, ◌==◌, Bool, true, false, List, [], ◌∷◌, length, max, min, nat_lt, replicate}
+use Rattle.std.specs.Prelude.{◌≡◌, ◌⊎◌, ℕ, ◌+◌, ◌==◌, Bool, true, false, List, [], ◌∷◌, length, max, min, nat_lt}
+use Rattle.std.specs.Prelude.{replicate}
 use Rattle.std.specs.Prelude.{slice_index, slice_set, if◌then◌else◌}
 use Rattle.px_replica.specs.declared.datagram.Datagram.{Datagram}
 use Rattle.node_loop.specs.declared.counts.RoundCounts.{RoundCounts}
