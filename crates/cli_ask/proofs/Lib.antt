@@ -5,3 +5,4 @@ pub mod Series
 pub mod Parts
 pub mod Scripts
 pub mod Fronts
+pub mod Reading

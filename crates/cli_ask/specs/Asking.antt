@@ -88,8 +88,8 @@ OrMemory wanted got = (got ≡ wanted) ⊎ (got ≡ Err fault.Memory)
 abbrev pub asked_again : (limit : ℕ) → Request → Answered → List Event
 asked_again limit r a = Asked limit r a ∷ Looked limit false ∷ []
 
--- How it ends: as it was answered last. Or the clock said that the time is over: then, where it wasn't answered last, as
--- it was before. Or it was made 2^64 times.
+-- How it ends: as it was answered last. Or the clock said that the time is over: then, where it wasn't answered last,
+-- as it was before. Or it was made 2^64 times.
 abbrev pub SeriesEnds : Request → (once : Bool) → (limit : ℕ) → (before : List Answered) → (last : Answered) →
     (looks : List Event) → (answer : Answered) → Type 0
 SeriesEnds r once limit before last looks answer =

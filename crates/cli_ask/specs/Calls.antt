@@ -178,7 +178,8 @@ has_control_in (Some value) = has_control value
 
 abbrev pub options_have_control : List Row → Bool
 options_have_control rows = has_control_in (first_of (codes "path") rows)
-    || has_control_in (first_of (codes "flush") rows) || has_control_in (first_of (codes "table") rows) || has_control_in (first_of (codes "change") rows)
+    || has_control_in (first_of (codes "flush") rows) || has_control_in (first_of (codes "table") rows)
+    || has_control_in (first_of (codes "change") rows)
 
 -- an option of pfctl's is there: one for a table, or one for a ruleset
 abbrev pub has_table_option : List Row → Bool

@@ -62,10 +62,20 @@ Wrote ending outcome old new = (ending ≡ status_of outcome) × Appends old new
 abbrev pub number_at : List Row → (id : Text) → Option ℕ
 number_at rows id = option_and_then number_of (one_of id rows)
 
--- the text that `-f` names: none without it, the input for `-`. What is in a file isn't said.
-abbrev pub IsText : (named : Option Text) → (input : Option (List ℕ)) → (text : List ℕ) → Type 0
-IsText None input text = text ≡ []
-IsText (Some name) input text = bytes_eq name (codes "-") ≡ true → IfSome input (λ bytes. text ≡ bytes)
+-- the text is what was left to read of a file
+abbrev pub IsOfFile : {F : Type 0} → (remaining : F → Option (List ℕ)) → (text : List ℕ) → Type 0
+IsOfFile {F} remaining text = (file : F) × IfSome (remaining file) (λ bytes. text ≡ bytes)
+
+-- the text that a name stands for: of the input for `-`, else of a file
+abbrev pub IsText : {F : Type 0} → (remaining : F → Option (List ℕ)) → (input : Option (List ℕ)) → Text →
+    (text : List ℕ) → Type 0
+IsText remaining input name text = (bytes_eq name (codes "-") ≡ true → IfSome input (λ bytes. text ≡ bytes))
+    × (bytes_eq name (codes "-") ≡ false → IsOfFile remaining text)
+
+-- the text that an option names, none without it
+abbrev pub IsNamed : (named : Option Text) → (is_text : Text → List ℕ → Type 0) → (text : List ℕ) → Type 0
+IsNamed None is_text text = text ≡ []
+IsNamed (Some name) is_text text = is_text name text
 
 -- what can't be read gives: of a file 90
 abbrev pub IsUnread : Text → Outcome → Type 0
@@ -124,9 +134,9 @@ AsksNothing given now rows outcome = Adds given now []
     ⊎ HasNoText (first_of (codes "file") rows) outcome)
 
 -- What a run asks, and what that gives: the request that the arguments and the text spell, or nothing.
-abbrev pub Asks : (given now : List Event → Type 0) → List Row → (input : Option (List ℕ)) → Outcome → Type 0
-Asks given now rows input outcome = AsksNothing given now rows outcome
-    ⊎ ((text : List ℕ) × (IsText (first_of (codes "file") rows) input text × AsksWith given now rows text outcome))
+abbrev pub Asks : (given now : List Event → Type 0) → List Row → (is_text : Text → List ℕ → Type 0) → Outcome → Type 0
+Asks given now rows is_text outcome = AsksNothing given now rows outcome
+    ⊎ ((text : List ℕ) × (IsNamed (first_of (codes "file") rows) is_text text × AsksWith given now rows text outcome))
 
 -- ---- a script
 
@@ -150,9 +160,9 @@ seconds_by None = 60
 seconds_by (Some seconds) = if nat_lt 0 seconds then seconds else 1
 
 -- the script is asked
-pub record IsScript (rows : List Row) (file : Text) (input : Option (List ℕ)) (script : List ℕ) : Type 0 where
+pub record IsScript (rows : List Row) (file : Text) (is_text : Text → List ℕ → Type 0) (script : List ℕ) : Type 0 where
   pub alone : has_others rows ≡ false
-  pub text : IsText (Some file) input script
+  pub text : is_text file script
   pub good : refusal_in rows script ≡ None
 
 -- why a script isn't asked that was read
@@ -163,31 +173,33 @@ IsRefusedFor rows script Memory = Unit {0}
 IsRefusedFor rows script Unread = ⊥
 
 -- why no change of a script is asked
-abbrev pub IsNoScript : List Row → (file : Text) → (input : Option (List ℕ)) → Outcome → Type 0
-IsNoScript rows file input outcome = ((has_others rows ≡ true) × (outcome ≡ refusal 40))
+abbrev pub IsNoScript : List Row → (file : Text) → (is_text : Text → List ℕ → Type 0) → Outcome → Type 0
+IsNoScript rows file is_text outcome = ((has_others rows ≡ true) × (outcome ≡ refusal 40))
     ⊎ (HasNoText (Some file) outcome
-    ⊎ ((script : List ℕ) × (IsText (Some file) input script × IsRefusedFor rows script outcome)))
+    ⊎ ((script : List ℕ) × (is_text file script × IsRefusedFor rows script outcome)))
 
 -- What a run with a script asks and writes: its changes from a line on; or nothing is asked, and this is written.
-abbrev pub RunsScript : (given now : List Event → Type 0) → List Row → (file : Text) → (input : Option (List ℕ)) →
-    Status → (old new : Option (List ℕ)) → Type 0
-RunsScript given now rows file input ending old new = ((script : List ℕ) × (IsScript rows file input script
+abbrev pub RunsScript : (given now : List Event → Type 0) → List Row → (file : Text) →
+    (is_text : Text → List ℕ → Type 0) → Status → (old new : Option (List ℕ)) → Type 0
+RunsScript given now rows file is_text ending old new = ((script : List ℕ) × (IsScript rows file is_text script
     × AskedAll given now (unwrap_or (number_at rows (codes "from")) 1) (seconds_by (number_at rows (codes "wait")))
     (items_in script) ending old new))
-    ⊎ (Adds given now [] × ((outcome : Outcome) × (IsNoScript rows file input outcome × Wrote ending outcome old new)))
+    ⊎ (Adds given now [] × ((outcome : Outcome)
+    × (IsNoScript rows file is_text outcome × Wrote ending outcome old new)))
 
 -- what a run without a script asks, and writes
-abbrev pub RunsAlone : (given now : List Event → Type 0) → List Row → (input : Option (List ℕ)) → Status →
+abbrev pub RunsAlone : (given now : List Event → Type 0) → List Row → (is_text : Text → List ℕ → Type 0) → Status →
     (old new : Option (List ℕ)) → Type 0
-RunsAlone given now rows input ending old new =
-    (outcome : Outcome) × (Asks given now rows input outcome × Wrote ending outcome old new)
+RunsAlone given now rows is_text ending old new =
+    (outcome : Outcome) × (Asks given now rows is_text outcome × Wrote ending outcome old new)
 
-abbrev pub RunsFor : (file : Option Text) → (given now : List Event → Type 0) → List Row → (input : Option (List ℕ)) →
-    Status → (old new : Option (List ℕ)) → Type 0
-RunsFor None given now rows input ending old new = RunsAlone given now rows input ending old new
-RunsFor (Some file) given now rows input ending old new = RunsScript given now rows file input ending old new
+abbrev pub RunsFor : (file : Option Text) → (given now : List Event → Type 0) → List Row →
+    (is_text : Text → List ℕ → Type 0) → Status → (old new : Option (List ℕ)) → Type 0
+RunsFor None given now rows is_text ending old new = RunsAlone given now rows is_text ending old new
+RunsFor (Some file) given now rows is_text ending old new = RunsScript given now rows file is_text ending old new
 
 -- what a run at a control socket asks and writes, with `--script` or without
-abbrev pub Runs : (given now : List Event → Type 0) → List Row → (input : Option (List ℕ)) → Status →
+abbrev pub Runs : (given now : List Event → Type 0) → List Row → (is_text : Text → List ℕ → Type 0) → Status →
     (old new : Option (List ℕ)) → Type 0
-Runs given now rows input ending old new = RunsFor (first_of (codes "script") rows) given now rows input ending old new
+Runs given now rows is_text ending old new =
+    RunsFor (first_of (codes "script") rows) given now rows is_text ending old new

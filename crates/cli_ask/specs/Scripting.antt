@@ -153,7 +153,8 @@ AsksAll from seconds (Found c ∷ items) es ending old new = ((es ≡ []) × Ran
 
 abbrev pub AskedOne : (given now : List Event → Type 0) → ScriptChange → (seconds : ℕ) → Option Status →
     (old new : Option (List ℕ)) → Type 0
-AskedOne given now c seconds ended old new = (es : List Event) × (Adds given now es × AsksOne c seconds es ended old new)
+AskedOne given now c seconds ended old new =
+    (es : List Event) × (Adds given now es × AsksOne c seconds es ended old new)
 
 abbrev pub AskedAll : (given now : List Event → Type 0) → (from seconds : ℕ) → List Item → Status →
     (old new : Option (List ℕ)) → Type 0

@@ -3,7 +3,8 @@
 ghost use Rattle.std.specs.Prelude.{◌≡◌};
 ghost use Rattle.cli_ask.specs.Calls.{call_value};
 ghost use Rattle.cli_ask.specs.Replies.{reply_value};
-ghost use Rattle.cli_ask.specs.Asking.{answer_value, is_open, is_last, in_time, OrMemory, AskedOn, FollowedUp, limit_of};
+ghost use Rattle.cli_ask.specs.Asking.{answer_value, is_open, is_last, in_time, OrMemory, AskedOn, FollowedUp};
+ghost use Rattle.cli_ask.specs.Asking.{limit_of};
 ghost use Rattle.cli_ask.specs.Asking.{AskedAt};
 
 use crate::call::{Call, Kind};

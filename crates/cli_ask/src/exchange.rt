@@ -1,6 +1,7 @@
 //! One request and its answer over a Unix socket.
 
-ghost use Rattle.std.specs.Prelude.{◌≡◌, ◌⊎◌, ℕ, ◌+◌, ⊤};
+ghost use Rattle.std.specs.Prelude.{◌≡◌, ◌⊎◌, ℕ, ◌+◌, ⊤, IfOk, IfSome};
+ghost use Rattle.cli_ask.specs.Replies.{IsAnswer, reply_value};
 
 use crate::call::{Call, Kind};
 use crate::reply::{reply_in, request_bytes};
@@ -148,7 +149,9 @@ pub(crate) fn exchange<D: Dial>(
     call: &Call,
     deadline: Deadline,
 ) -> Result<Reply, AskFault>
-    ensures { (n : ℕ) → D.dialed control.old n → D.dialed control.new n ⊎ D.dialed control.new (n + 1) }
+    ensures dialed { (n : ℕ) → D.dialed control.old n → D.dialed control.new n ⊎ D.dialed control.new (n + 1) }
+    ensures answer { IfOk result (λ r. (s : D.Stream) ×
+        IfSome (D.Stream.remaining s) (λ bytes. IsAnswer bytes (reply_value r))) }
 {
     let bytes = request_bytes(alloc, call)?;
     let Ok(mut stream) = control.dial(deadline) else {

@@ -1,9 +1,10 @@
 //! A run of `ask` with `--control`.
 
-ghost use Rattle.std.specs.Prelude.{◌≡◌, ◌⊎◌, Some, IfOk, IfErr, map, option_map};
+ghost use Rattle.std.specs.Prelude.{◌≡◌, ◌⊎◌, IfOk, IfErr, map, option_map};
 ghost use Rattle.clap.specs.Words.{found_of, rows_of};
 ghost use Rattle.cli_ask.specs.Asking.{answer_value};
-ghost use Rattle.cli_ask.specs.Outcomes.{unreadable, number_at, IsText, IsUnread, HasNoText, Replied, AsksWith, Asks};
+ghost use Rattle.cli_ask.specs.Outcomes.{unreadable, number_at, IsOfFile, IsText, IsNamed, IsUnread, HasNoText};
+ghost use Rattle.cli_ask.specs.Outcomes.{Replied, AsksWith, Asks};
 ghost use Rattle.cli_ask.specs.Outcomes.{are_there, has_others, seconds_by, refusal_in, IsScript, IsNoScript};
 ghost use Rattle.cli_ask.specs.Outcomes.{RunsScript, Runs};
 ghost use Rattle.cli_ask.specs.declared.outcome.Outcome.TheVariants.{Memory};
@@ -48,7 +49,8 @@ fn unread(fault: InputFault, outcome: Outcome) -> Outcome
 
 /// The text of a file. One that can't be read is 90.
 fn text_of_file<F: Files>(rt: &F, alloc: Global, path: &str) -> Result<Vec<u8>, Outcome>
-    ensures { IfErr result (λ outcome. (outcome ≡ Memory) ⊎ (outcome ≡ unreadable)) }
+    ensures text { IfOk result (λ text. IsOfFile F.File.remaining text.items) }
+    ensures unread { IfErr result (λ outcome. (outcome ≡ Memory) ⊎ (outcome ≡ unreadable)) }
 {
     let Ok(mut file) = fs::open(rt, path) else {
         return Err(refused(UNREADABLE));
@@ -66,7 +68,7 @@ fn text_named<F: Files, R: Read>(
     name: &str,
     reader: &mut R,
 ) -> Result<Vec<u8>, Outcome>
-    ensures text { IfOk result (λ text. IsText (Some name.now) (R.remaining reader.old) text.items) }
+    ensures text { IfOk result (λ text. IsText F.File.remaining (R.remaining reader.old) name.now text.items) }
     ensures unread { IfErr result (λ outcome. IsUnread name.now outcome) }
 {
     if name == "-" {
@@ -85,8 +87,8 @@ fn text_for<F: Files, R: Read>(
     named: Option<&str>,
     reader: &mut R,
 ) -> Result<Vec<u8>, Outcome>
-    ensures text { IfOk result (λ text. IsText (option_map (λ n. n.now) named.entry) (R.remaining reader.old)
-        text.items) }
+    ensures text { IfOk result (λ text. IsNamed (option_map (λ n. n.now) named.entry)
+        (IsText F.File.remaining (R.remaining reader.old)) text.items) }
     ensures none { IfErr result (λ outcome. HasNoText (option_map (λ n. n.now) named.entry) outcome) }
 {
     match named {
@@ -150,7 +152,7 @@ fn outcome_of<RT: Files + Net + Clock, C: Control, R: Read, E: Write>(
     errors: &mut E,
 ) -> Outcome
     ensures { Asks (C.exchanged control.old) (C.exchanged control.new) (rows_of (found_of matches.now))
-        (R.remaining reader.old) result }
+        (IsText RT.File.remaining (R.remaining reader.old)) result }
 {
     if number_at(matches, "from").is_some() {
         return refused(40);
@@ -217,9 +219,9 @@ fn script_in<F: Files, R: Read>(
     reader: &mut R,
 ) -> Result<Vec<u8>, Outcome>
     ensures script { IfOk result (λ script. IsScript (rows_of (found_of matches.now)) file.now
-        (R.remaining reader.old) script.items) }
+        (IsText F.File.remaining (R.remaining reader.old)) script.items) }
     ensures none { IfErr result (λ outcome. IsNoScript (rows_of (found_of matches.now)) file.now
-        (R.remaining reader.old) outcome) }
+        (IsText F.File.remaining (R.remaining reader.old)) outcome) }
 {
     if has_others(matches) {
         return Err(refused(40));
@@ -248,7 +250,7 @@ fn run_script<RT: Files + Net + Clock, C: Control, R: Read, W: Write, E: Write>(
     is_terminal: bool,
 ) -> Status
     ensures { RunsScript (C.exchanged control.old) (C.exchanged control.new) (rows_of (found_of matches.now)) file.now
-        (R.remaining reader.old) result (W.contents writer.old) (W.contents writer.new) }
+        (IsText RT.File.remaining (R.remaining reader.old)) result (W.contents writer.old) (W.contents writer.new) }
 {
     match script_in(rt, alloc, matches, file, reader) {
         Ok(script) => {
@@ -276,7 +278,7 @@ fn run_at<RT: Files + Net + Clock, C: Control, R: Read, W: Write, E: Write>(
     is_terminal: bool,
 ) -> Status
     ensures { Runs (C.exchanged control.old) (C.exchanged control.new) (rows_of (found_of matches.now))
-        (R.remaining reader.old) result (W.contents writer.old) (W.contents writer.new) }
+        (IsText RT.File.remaining (R.remaining reader.old)) result (W.contents writer.old) (W.contents writer.new) }
 {
     match value_of(matches, "script") {
         Some(file) => run_script(

@@ -1,7 +1,9 @@
 //! A key's file.
 
-ghost use Rattle.std.specs.Prelude.{◌≡◌, List, ℕ, ⊤, Err, IfOk, IfSome, map};
-ghost use Rattle.cli_files.specs.Clusters.{IsPrivate, IsClusterKey};
+ghost use Rattle.std.specs.Prelude.{◌≡◌, List, ℕ, Err, IfOk, IfSome, map};
+ghost use Rattle.std.specs.Fs.{metadata_mode};
+ghost use Rattle.std.specs.declared.fs.attrs.Metadata.{Metadata};
+ghost use Rattle.cli_files.specs.Clusters.{IsPrivate, IsClusterKey, IsKeyOfFile};
 
 use crate::cluster::cluster_key_from;
 use crate::key_fault::KeyFault;
@@ -23,8 +25,8 @@ pub trait SecretFile: Read {
 }
 
 impl<T: OpenFile + Read> SecretFile for T {
-    // no contract says what a file's mode is
-    ghost has_mode = { λ _ _. ⊤ };
+    // all of it, of what the system says of a file; no contract says of which
+    ghost has_mode = { λ _ mode. (about : Metadata) × (mode ≡ metadata_mode about) };
 
     fn mode(&self) -> Option<u32> {
         match self.metadata() {
@@ -66,6 +68,7 @@ pub fn read_cluster_key<F: Files>(
 ) -> Result<[u8; 32], KeyFault>
     ensures made { IfOk result (λ k. (text : List ℕ) ×
         IsClusterKey text cluster (map (λ t. t.now) members.now) k) }
+    ensures read { IfOk result (IsKeyOfFile F.File.remaining cluster (map (λ t. t.now) members.now)) }
 {
     let Ok(mut file) = open_regular(files, path) else {
         return Err(KeyFault::Unread);

@@ -7,3 +7,4 @@ pub mod Loads
 pub mod Runs
 pub mod Writes
 pub mod Endings
+pub mod Kept

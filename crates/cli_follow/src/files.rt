@@ -1,6 +1,8 @@
 //! rulesets for pfctl(8) in files, one for each path.
 
-ghost use Rattle.std.specs.Prelude.{◌≡◌, IfOk, string_bytes};
+ghost use Rattle.std.specs.Prelude.{◌≡◌, ◌⊎◌, [], true, not, IfOk, OnOk, string_bytes};
+ghost use Rattle.std.specs.List.{list_all, list_any};
+ghost use Rattle.cli_follow.specs.inner.Files.{AreWritten, IsWritten, is_put, is_there};
 
 use crate::followed_configuration::FollowedConfiguration;
 use crate::follower::say;
@@ -75,13 +77,24 @@ fn has_name(files: &[TextFile], name: &str) -> bool {
 }
 
 /// Whether this is there.
-fn is_written(files: &[TextFile], name: &str, text: &str) -> bool {
+fn is_written(files: &[TextFile], name: &str, text: &str) -> bool
+    ensures { result ≡ list_any (is_there name.now text.now) files.now }
+{
     files.iter().any(|old| old.is_put && old.name.as_str() == name && old.text.as_str() == text)
+}
+
+/// Whether all are there.
+fn are_put(files: &[TextFile]) -> bool
+    ensures { result ≡ list_all is_put files.now }
+{
+    files.iter().all(|file| file.is_put)
 }
 
 /// Writes a file that isn't there: what is under this path is taken away first, a link too, whose target stays as it
 /// is.
-fn write_new<F: Files>(rt: &F, path: &str, text: &str) -> io::Result<()> {
+fn write_new<F: Files>(rt: &F, path: &str, text: &str) -> io::Result<()>
+    ensures { OnOk result (IsWritten F.File.contents text.now) }
+{
     let _gone = fs::remove_file(rt, path);
     let mut file = OpenOptions::new()
         .write(true)
@@ -93,7 +106,8 @@ fn write_new<F: Files>(rt: &F, path: &str, text: &str) -> io::Result<()> {
 impl TextFiles {
     /// Before anything is written.
     pub fn new(alloc: Global, folder: &str) -> Result<TextFiles, AllocError>
-        ensures { IfOk result (λ f. string_bytes f.folder ≡ folder.now) }
+        ensures folder { IfOk result (λ f. string_bytes f.folder ≡ folder.now) }
+        ensures none { IfOk result (λ f. f.written.items ≡ []) }
     {
         Ok(TextFiles {
             folder: String::from_str(alloc, folder)?,
@@ -109,7 +123,9 @@ impl TextFiles {
         alloc: Global,
         name: &str,
         text: &str,
-    ) -> Result<bool, AllocError> {
+    ) -> Result<bool, AllocError>
+        ensures { IfOk result (λ is_put. is_put ≡ true → IsWritten F.File.contents text.now) }
+    {
         let folder = self.folder.as_str();
         let place = format!(in alloc; "{folder}/{name}")?;
         let beside = format!(in alloc; "{folder}/.{name}.new")?;
@@ -126,21 +142,22 @@ impl TextFiles {
         alloc: Global,
         name: &str,
         text: &str,
-    ) -> Result<bool, AllocError> {
+    ) -> Result<bool, AllocError>
+        ensures { IfOk result (λ is_put. AreWritten F.File.contents self.now.written.items → is_put ≡ true →
+            IsWritten F.File.contents text.now) }
+    {
         if is_written(self.written.as_slice(), name, text) {
             return Ok(true);
         }
         self.put(rt, alloc, name, text)
     }
 
-    /// Writes those files that aren't written so yet, empty ones for paths that are gone, and answers whether all could
-    /// be.
-    fn put_all<F: Files>(
-        &mut self,
-        rt: &F,
+    /// The files, and empty ones for paths that are gone.
+    fn with_gone(
+        &self,
         alloc: Global,
         mut files: Vec<TextFile>,
-    ) -> Result<bool, AllocError> {
+    ) -> Result<Vec<TextFile>, AllocError> {
         for old in self.written.as_slice() {
             if !has_name(files.as_slice(), old.name.as_str())
                 && !(old.text.is_empty() && old.is_put)
@@ -152,13 +169,47 @@ impl TextFiles {
                 })?;
             }
         }
-        let mut is_whole = true;
-        for file in &mut files {
-            file.is_put = self.stands(rt, alloc, file.name.as_str(), file.text.as_str())?;
-            is_whole = is_whole && file.is_put;
+        Ok(files)
+    }
+
+    /// Writes those files that aren't written so yet, and answers which are there.
+    fn put_each<F: Files>(
+        &self,
+        rt: &F,
+        alloc: Global,
+        files: Vec<TextFile>,
+    ) -> Result<Vec<TextFile>, AllocError>
+        ensures { IfOk result (λ put. AreWritten F.File.contents self.now.written.items →
+            AreWritten F.File.contents put.items) }
+    {
+        let mut put = Vec::new(alloc);
+        for file in files {
+            let TextFile {
+                name,
+                text,
+                is_put: _,
+            } = file;
+            let is_put = self.stands(rt, alloc, name.as_str(), text.as_str())?;
+            put.push(TextFile { name, text, is_put })?;
         }
-        self.written = files;
-        Ok(is_whole)
+        Ok(put)
+    }
+
+    /// Writes those files that aren't written so yet, empty ones for paths that are gone, and answers whether all could
+    /// be.
+    fn put_all<F: Files>(
+        &mut self,
+        rt: &F,
+        alloc: Global,
+        files: Vec<TextFile>,
+    ) -> Result<bool, AllocError>
+        ensures written { AreWritten F.File.contents self.old.written.items →
+            AreWritten F.File.contents self.new.written.items }
+        ensures whole { IfOk result (λ is_whole. is_whole ≡ list_all is_put self.new.written.items) }
+    {
+        let files = self.with_gone(alloc, files)?;
+        self.written = self.put_each(rt, alloc, files)?;
+        Ok(are_put(self.written.as_slice()))
     }
 
     /// Writes the files of what was followed. That one couldn't be written is said once until it could be. Where
@@ -169,7 +220,12 @@ impl TextFiles {
         alloc: Global,
         followed: &FollowedConfiguration,
         errors: &mut E,
-    ) -> Result<(), AllocError> {
+    ) -> Result<(), AllocError>
+        ensures written { AreWritten F.File.contents self.old.written.items →
+            AreWritten F.File.contents self.new.written.items }
+        ensures behind { OnOk result ((self.new ≡ self.old)
+            ⊎ (self.new.is_behind ≡ not (list_all is_put self.new.written.items))) }
+    {
         let Some(files) = files_of(alloc, &followed.config)? else {
             return say(errors, alloc, followed.position, "refused 91\n");
         };

@@ -1,5 +1,5 @@
 -- With what a run ends: neither 93 nor 94, which are of a store before it is opened.
-use Rattle.std.proofs.Common.{◌≡◌, ◌⊎◌, ◌↔◌, ℕ, List, Result, Ok, Err, Bool, true, false, Option, Some, None, refl, sym, subst, ap, inl, inr, arith}
+use Rattle.std.proofs.Common.{◌≡◌, ◌∙◌, ◌⊎◌, ◌↔◌, ℕ, List, Result, Ok, Err, Bool, true, false, Option, Some, None, refl, sym, subst, ap, inl, inr, arith}
 use Rattle.std.specs.Prelude.{if◌then◌else◌, nat_lt, IfSome, IsSome, IsTrue, OnErr}
 use Rattle.px_records.specs.declared.records.Records.{Ghosts}
 use Rattle.px_wire.specs.declared.membership.Membership.{Membership}
@@ -13,11 +13,12 @@ use Rattle.cli_node.specs.declared.outcome.Outcome.TheVariants.{Sound, Made, Mem
 use Rattle.cli_node.specs.inner.Outcomes.{outcome_of, ending_of, ended_outcome, first_of, checked, is_refused}
 use Rattle.cli_node.specs.inner.Outcomes.{ComesOpenOr, IsWireless}
 use Rattle.cli_node.specs.inner.Running.{RunsHere, EndsAs, EndsWith, EndsNew, EndsNode, Anything}
+use Rattle.cli_node.specs.inner.Secrets.{IsNamed, AreNamed}
 use Rattle.cli_node.specs.inner.Stores.{IsRefusal, IsStoreless}
 use Rattle.cli_node.specs.declared.key.Keys.{Keys}
 use Rattle.cli_node.specs.declared.sealing.Sealing.{Sealing}
 use Rattle.px_packet.specs.declared.start.Start.{Start}
-use Rattle.cli_node.proofs.Stores.{other, by_memory, sound}
+use Rattle.cli_node.proofs.Stores.{other, by_memory, same_number, sound}
 
 -- any other number
 of_number : (code : ℕ) → (code ≡ 93 → ⊥) → (code ≡ 94 → ⊥) → (file new : Bool) → IsStoreless file new (Refused code)
@@ -159,6 +160,14 @@ refusal_of code r outcome is h = elim (refused_as code r outcome is h) [
   | inr e ↦ subst IsRefusal (sym e) tt
 ]
 
+-- out of memory, or another number
+pub lost_by : {X : Type 0} (code : ℕ) (r : Result X Outcome) (outcome : Outcome) → (code ≡ 93 → ⊥) → r ≡ Err outcome →
+    OnErr r ((r ≡ Err Memory) ⊎ (r ≡ Err (Refused code))) → outcome ≡ Refused 93 → ⊥
+lost_by code r outcome f is h e = elim (refused_as code r outcome is h) [
+  | inl m ↦ let same : Memory ≡ Refused 93 = sym m ∙ e in cc
+  | inr n ↦ let same : Refused code ≡ Refused 93 = sym n ∙ e in f (same_number code 93 same)
+]
+
 of_addresses : (o : Outcome) → (o ≡ Sound) ⊎ (o ≡ Refused 82) → (file new : Bool) → IsStoreless file new o
 of_addresses o (inl e) = as_is o Sound e sound
 of_addresses o (inr e) = as_is o (Refused 82) e n82
@@ -233,17 +242,32 @@ new_map G m keys is may hears members kept kept' closed closed' made made' resul
 new_map G m keys is may hears members kept kept' closed closed' made made' result s d c f (inr (given, counted, whole, at, ends)) =
     inr (given, counted, whole, d given at, with_map G m keys is may hears members given closed closed' made made' result s c f ends)
 
-pub node_any : {R : Type 0} (G : Ghosts R) (is_member : Membership → Type 0) (are_keys : Option Keys → Type 0)
-    (is_start : Membership → Start → Type 0) (hears : Bool) (members : List (List ℕ)) (kept closed : R → Type 0) (made : Ended → Type 0)
-    (result : Outcome) → EndsNode G is_member are_keys is_start hears members kept closed made result →
-    EndsNode G is_member are_keys (λ m. Anything) hears members Anything Anything Anything result
-node_any G is_member are_keys is_start hears members kept closed made result (inl refused) = inl refused
-node_any G is_member are_keys is_start hears members kept closed made result (inr (m, keys, is, are, ends)) =
+named_map : (makes more : (path key : List ℕ) → Type 0) (path key : Option (List ℕ)) →
+    IsNamed (λ p k. makes p k × more p k) path key → IsNamed makes path key
+named_map makes more None None h = tt
+named_map makes more None (Some k) h = h
+named_map makes more (Some p) None h = h
+named_map makes more (Some p) (Some k) h = h.0
+
+are_map : (makes more : (path key : List ℕ) → Type 0) (path other : Option (List ℕ)) (keys : Option Keys) →
+    AreNamed (λ p k. makes p k × more p k) path other keys → AreNamed makes path other keys
+are_map makes more None other None h = tt
+are_map makes more None other (Some keys) h = h
+are_map makes more (Some p) other None h = h
+are_map makes more (Some p) other (Some keys) h = (h.0.0, named_map makes more other keys.other h.1)
+
+pub node_any : {R : Type 0} (G : Ghosts R) (is_member : Membership → Type 0) (makes more : (path key : List ℕ) → Type 0)
+    (path other : Option (List ℕ)) (is_start : Membership → Start → Type 0) (hears : Bool) (members : List (List ℕ))
+    (kept closed : R → Type 0) (made : Ended → Type 0) (result : Outcome) →
+    EndsNode G is_member (AreNamed (λ p k. makes p k × more p k) path other) is_start hears members kept closed made result →
+    EndsNode G is_member (AreNamed makes path other) (λ m. Anything) hears members Anything Anything Anything result
+node_any G is_member makes more path other is_start hears members kept closed made result (inl refused) = inl refused
+node_any G is_member makes more path other is_start hears members kept closed made result (inr (m, keys, is, are, ends)) =
     inr (
       m,
       keys,
       is,
-      are,
+      are_map makes more path other keys are,
       new_map G m keys (is_start m) Anything hears members kept Anything closed Anything made Anything result
           (λ x h. tt) (λ r h. tt) (λ r h. tt) (λ how h. tt) ends,
     )

@@ -3,3 +3,4 @@ mod Refusing
 pub mod Stores
 pub mod Endings
 pub mod Sealed
+mod Given

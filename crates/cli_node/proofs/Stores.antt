@@ -13,7 +13,7 @@ use Rattle.cli_node.specs.inner.Outcomes.{adopt_outcome}
 use Rattle.cli_node.specs.inner.Stores.{IsNone, IsRefused, IsOpening, IsRefusal, IsStoreless, IsUnmade}
 
 -- refusals of one outcome have one number
-same_number : (a b : ℕ) → Refused a ≡ Refused b → a ≡ b
+pub same_number : (a b : ℕ) → Refused a ≡ Refused b → a ≡ b
 same_number a b e = cc
 
 same_refusal : (a b : ℕ) → Refuses a ≡ Refuses b → a ≡ b
@@ -25,6 +25,13 @@ other file new code f g = record {
   missing = λ e. absurd (f (same_number code 93 e));
   there = λ e. absurd (g (same_number code 94 e));
 }
+
+pub err_is : {C : Type 0} (o p : Outcome) → ◌≡◌ {A = Result C Outcome} (Err o) (Err p) → o ≡ p
+err_is o p e = cc
+
+-- nothing that is no matter of a store is refused with 93
+pub not_lost : (o : Outcome) → ((file new : Bool) → IsStoreless file new o) → o ≢ Refused 93
+not_lost o h e = let f : false ≡ true = ((h false false).missing e).0 in cc
 
 -- ---- what becomes of what is there
 
@@ -181,10 +188,6 @@ unfailed_fault adopt.StoreVersion e = let b : 73 ≡ 80 = same_number 73 80 e in
 unfailed_fault adopt.BadStore e = let b : 72 ≡ 80 = same_number 72 80 e in omega (arith, b)
 unfailed_fault adopt.WrongNode e = let b : 71 ≡ 80 = same_number 71 80 e in omega (arith, b)
 
-pub unfailed_by : {C : Type 0} (e : AdoptFault) (o : Outcome) (r : Result C Outcome) → o ≡ adopt_outcome e → r ≡ Err o → r ≢ Err (Refused 80)
-unfailed_by e o (Ok c) is same h = cc
-unfailed_by e o (Err p) is same h = let b : o ≡ Refused 80 = cc in unfailed_fault e (sym is ∙ b)
-
 pub unfailed_file : {C : Type 0} (r : Result C Outcome) (outcome : Outcome) → r ≡ Err outcome →
     OnErr r ((r ≡ Err Memory) ⊎ (r ≡ Err (Refused 70))) → outcome ≢ Refused 80
 unfailed_file (Ok c) outcome is h e = cc
@@ -217,3 +220,22 @@ pub unfailed_making : {C : Type 0} (r : Result C Outcome) (outcome : Outcome) �
     outcome ≢ Refused 80
 unfailed_making (Ok c) outcome is h = absurd (cc)
 unfailed_making (Err o) outcome is h = let same : o ≡ outcome = cc in not_made_80 outcome (subst IsUnmade same h)
+
+-- ---- where 93 comes no store is there
+
+pub none_opened : {C : Type 0} (r : Result C Outcome) → OnErr r ((r ≡ Err Memory) ⊎ (r ≡ Err (Refused 70))) →
+    r ≡ Err (Refused 93) → ⊥
+none_opened r h e = not_lost (Refused 93) (λ file new. by_file file new r (Refused 93) e h) refl
+
+pub none_made : {C : Type 0} (r : Result C Outcome) → IfErr r IsUnmade → r ≡ Err (Refused 93) → ⊥
+none_made r h e = not_lost (Refused 93) (λ file new. by_making file new r (Refused 93) e h) refl
+
+none_refused : (file new : Bool) (f : Found) (code : ℕ) → IsRefused file new f code → code ≡ 93 → IsNone f
+none_refused file new f code (inl w) e = w.3
+none_refused file new f code (inr (inl w)) e = let a : code ≡ 94 = w.0 in absurd (omega (arith, a, e))
+none_refused file new f code (inr (inr w)) e = let a : code ≡ 70 = w.0 in absurd (omega (arith, a, e))
+
+pub none_at : (file new : Bool) (f : Found) (o : Opening) (code : ℕ) → IsOpening file new f o → o ≡ Refuses code →
+    Refused code ≡ Refused 93 → IsNone f
+none_at file new f o code is opens e =
+    none_refused file new f code (is.refused code opens) (same_number code 93 e)

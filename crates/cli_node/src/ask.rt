@@ -1,16 +1,18 @@
 //! The subcommand `ask`: a command asked of a node.
 
-ghost use Rattle.std.specs.Prelude.{◌≡◌, ◌<◌, ◌⊎◌, ◌↔◌, ℕ, List, [], ◌∷◌, Ok, false, IfSome, IfOk, IfErr, IsSome, IsTrue};
+ghost use Rattle.std.specs.Prelude.{◌≡◌, ◌<◌, ◌⊎◌, ◌↔◌, ℕ, List, [], ◌∷◌, Ok, Some, false, IfSome, IfOk, IfErr};
+ghost use Rattle.std.specs.Prelude.{IsSome, IsTrue};
+ghost use Rattle.std.specs.Prelude.{codes, option_map};
 ghost use Rattle.pf_entry.specs.declared.command.Command.{Command};
 ghost use Rattle.px_wire.specs.declared.membership.Membership.{Membership};
-ghost use Rattle.clap.specs.Words.{found_of, rows_of};
+ghost use Rattle.clap.specs.Words.{first_value, found_of, rows_of};
 ghost use Rattle.pf_entry.specs.Owned.{command_value};
 ghost use Rattle.pf_arguments.specs.Asked.{asked, given_in, Change};
 ghost use Rattle.node_udp.specs.Addresses.{AreFound};
 ghost use Rattle.node_udp.specs.Members.{me_of, peers_of};
 ghost use Rattle.cli_node.specs.declared.outcome.Outcome.TheVariants.{Refused};
 ghost use Rattle.cli_node.specs.inner.Places.{has_place, waits_of};
-ghost use Rattle.cli_node.specs.inner.Asked.{IsAsked, IsUnasked};
+ghost use Rattle.cli_node.specs.inner.Asked.{IsAsked, IsOfFile, IsText, IsUnasked};
 ghost use Rattle.cli_node.specs.declared.ask.TheConstants.{CLIENT};
 
 use crate::outcome::{Outcome, answer_outcome, fault_outcome};
@@ -20,7 +22,7 @@ use node_udp::{BindFault, Membership, UdpWire, ask_once};
 use pf_arguments::{Action, Command, from_matches};
 use px_transport::Wire;
 use std::alloc::Global;
-use std::fs;
+use std::fs::{self, Files};
 use std::io::Read;
 use std::net::UdpSocket;
 
@@ -80,10 +82,11 @@ impl<'a> AskWords<'a> {
 }
 
 /// The text of a file.
-fn read_file(rt: &HostRuntime, alloc: Global, path: &str) -> Result<Vec<u8>, Outcome>
-    ensures { IfErr result IsUnasked }
+fn read_file<F: Files>(files: &F, alloc: Global, path: &str) -> Result<Vec<u8>, Outcome>
+    ensures whole { IfOk result (λ text. IsOfFile F.File.remaining text.items) }
+    ensures why { IfErr result IsUnasked }
 {
-    let Ok(mut file) = fs::open(rt, path) else {
+    let Ok(mut file) = fs::open(files, path) else {
         return Err(Outcome::Refused(40));
     };
     match read_all(alloc, &mut file) {
@@ -105,18 +108,36 @@ fn read_input<R: Read>(alloc: Global, reader: &mut R) -> Result<Vec<u8>, Outcome
     }
 }
 
-/// The text that `-f` names: of the input for `-`, else of a file; none without `-f`.
-fn text_for<R: Read>(
-    rt: &HostRuntime,
+/// The text that a name stands for: of the input for `-`, else of a file.
+fn text_named<F: Files, R: Read>(
+    files: &F,
     alloc: Global,
-    matches: &ArgMatches<'_>,
+    name: &str,
     reader: &mut R,
 ) -> Result<Vec<u8>, Outcome>
-    ensures { IfErr result IsUnasked }
+    ensures text { IfOk result (λ text. IsText (IsOfFile F.File.remaining) (Some name.now) (R.remaining reader.old)
+        text.items) }
+    ensures why { IfErr result IsUnasked }
 {
-    match matches.get_str("file") {
-        Some("-") => read_input(alloc, reader),
-        Some(path) => read_file(rt, alloc, path),
+    if name == "-" {
+        return read_input(alloc, reader);
+    }
+    read_file(files, alloc, name)
+}
+
+/// The text that `-f` names; none without it.
+fn text_for<F: Files, R: Read>(
+    files: &F,
+    alloc: Global,
+    named: Option<&str>,
+    reader: &mut R,
+) -> Result<Vec<u8>, Outcome>
+    ensures text { IfOk result (λ text. IsText (IsOfFile F.File.remaining) (option_map (λ n. n.now) named.entry)
+        (R.remaining reader.old) text.items) }
+    ensures why { IfErr result IsUnasked }
+{
+    match named {
+        Some(name) => text_named(files, alloc, name, reader),
         None => Ok(Vec::new(alloc)),
     }
 }
@@ -195,8 +216,8 @@ fn membership(words: AskWords<'_>) -> Option<Membership>
 }
 
 /// What `ask` comes to: 40 of its numbers, the faults of the action, and 82, in this order; then the answer.
-pub(crate) fn ask_outcome<C: Client + Drop, R: Read>(
-    rt: &HostRuntime,
+pub(crate) fn ask_outcome<F: Files, C: Client + Drop, R: Read>(
+    files: &F,
     client: C,
     alloc: Global,
     words: AskWords<'_>,
@@ -206,6 +227,8 @@ pub(crate) fn ask_outcome<C: Client + Drop, R: Read>(
     ensures place { has_place words.entry.node words.entry.members ≡ false → result ≡ Refused 40 }
     ensures asked { IsUnasked result ⊎ ((m : Membership) × (text : List ℕ) × (command : Command) × (w : C.Wire) ×
         (back : C.Wire) × (m.cluster ≡ words.entry.cluster) × (m.members ≡ words.entry.members) ×
+        IsText (IsOfFile F.File.remaining) (first_value (found_of matches.now) (codes "file"))
+        (R.remaining reader.old) text ×
         (asked (given_in (rows_of (found_of matches.now))) text ≡ Ok (Change (command_value command))) ×
         C.reaches client words.entry.to.now w ×
         IsAsked C.Wire.traffic w back m words.entry.node words.entry.waits command result) }
@@ -213,7 +236,7 @@ pub(crate) fn ask_outcome<C: Client + Drop, R: Read>(
     let Some(m) = membership(words) else {
         return Outcome::Refused(40);
     };
-    let text = match text_for(rt, alloc, matches, reader) {
+    let text = match text_for(files, alloc, matches.get_str("file"), reader) {
         Ok(text) => text,
         Err(outcome) => return outcome,
     };

@@ -14,7 +14,7 @@ ghost use Rattle.cli_node.specs.inner.Places.{has_place};
 ghost use Rattle.cli_node.specs.inner.Secrets.{IsNamed};
 ghost use Rattle.cli_node.specs.inner.Stores.{IsStoreless, identity_at};
 
-use crate::database::open_database;
+use crate::database::Inspection;
 use crate::faults::{say_closed, say_figures, say_place, say_storeless, say_unknown};
 use crate::files::NodeFiles;
 use crate::key::key_in;
@@ -102,13 +102,15 @@ fn is_database(rt: &HostRuntime, path: &str) -> bool {
 /// What is refused of a store that is there; nothing of one that a node has open, nor of one without its log of
 /// writes, which an opening makes.
 #[tactic(auto, using(crate::proofs::Stores::by_read, crate::proofs::Stores::by_memory, crate::proofs::Stores::refused_70, crate::proofs::Stores::sound))]
-fn looked_at(
+fn looked_at<I: Inspection>(
     rt: &HostRuntime,
+    inspection: &mut I,
     alloc: Global,
     words: NodeWords<'_, '_, '_>,
     m: Membership,
 ) -> Outcome
-    ensures { (file new : Bool) → IsStoreless file new result }
+    ensures store { (file new : Bool) → IsStoreless file new result }
+    ensures over { I.is_over inspection.old → I.is_over inspection.new }
 {
     let Ok(log) = format!(in alloc; "{}-wal", words.store) else {
         return Outcome::Memory;
@@ -124,10 +126,12 @@ fn looked_at(
         );
         return Outcome::Sound;
     }
-    match open_database(rt, words.store) {
+    match inspection.inspect(words.store) {
         Ok(conn) => {
             let mut conn = conn;
-            judged(rt, words, m, &mut conn)
+            let outcome = judged(rt, words, m, &mut conn);
+            inspection.leave(conn);
+            outcome
         }
         Err(Error::SqliteFailure(ErrorCode::DatabaseBusy)) => {
             let _said = eprintln!(rt;
@@ -142,19 +146,21 @@ fn looked_at(
 
 /// What is refused of what stands where the words name a store.
 #[tactic(auto, using(crate::proofs::Stores::by_opening, crate::proofs::Stores::sound))]
-fn of_found(
+fn of_found<I: Inspection>(
     rt: &HostRuntime,
+    inspection: &mut I,
     alloc: Global,
     words: NodeWords<'_, '_, '_>,
     m: Option<Membership>,
     found: Found,
 ) -> Outcome
-    ensures { IsStoreless words.entry.is_from_file words.entry.is_new result }
+    ensures store { IsStoreless words.entry.is_from_file words.entry.is_new result }
+    ensures over { I.is_over inspection.old → I.is_over inspection.new }
 {
     match opening_of(words.is_from_file, words.is_new, found) {
         Opening::Makes => Outcome::Sound,
         Opening::Opens => match m {
-            Some(m) => looked_at(rt, alloc, words, m),
+            Some(m) => looked_at(rt, inspection, alloc, words, m),
             None => Outcome::Sound,
         },
         Opening::Refuses(code) => {
@@ -166,16 +172,18 @@ fn of_found(
 
 /// What is refused of the store that the words name.
 #[tactic(auto, using(crate::proofs::Stores::by_memory))]
-fn of_store(
+fn of_store<I: Inspection>(
     rt: &HostRuntime,
+    inspection: &mut I,
     alloc: Global,
     words: NodeWords<'_, '_, '_>,
     m: Option<Membership>,
 ) -> Outcome
-    ensures { IsStoreless words.entry.is_from_file words.entry.is_new result }
+    ensures store { IsStoreless words.entry.is_from_file words.entry.is_new result }
+    ensures over { I.is_over inspection.old → I.is_over inspection.new }
 {
     match found_at(rt, alloc, words.store) {
-        Ok(found) => of_found(rt, alloc, words, m, found),
+        Ok(found) => of_found(rt, inspection, alloc, words, m, found),
         Err(_) => Outcome::Memory,
     }
 }
@@ -254,9 +262,10 @@ fn of_addresses(rt: &HostRuntime, words: NodeWords<'_, '_, '_>) -> Outcome
 /// What a start with these words would be refused for, as far as settings, keys, addresses, sockets and store tell: all
 /// is said on standard error, and the first answered, in the order of a start: 40, 83, 93, 94, the store's refusals,
 /// 95, 82, 84.
-pub(crate) fn check_outcome<F: NodeFiles>(
+pub(crate) fn check_outcome<F: NodeFiles, I: Inspection>(
     rt: &HostRuntime,
     files: &F,
+    inspection: &mut I,
     alloc: Global,
     words: NodeWords<'_, '_, '_>,
 ) -> Outcome
@@ -268,12 +277,13 @@ pub(crate) fn check_outcome<F: NodeFiles>(
     ensures other { result ≡ Sound → (key : Option (List ℕ)) × IsNamed
         (F.makes files.now words.entry.cluster (map (λ t. t.now) words.entry.members.now))
         (option_map (λ t. t.now) words.entry.other_key) key }
+    ensures over { I.is_over inspection.old → I.is_over inspection.new }
 {
     let m = membership(words);
     let place = of_place(rt, words, m);
     let key = of_key(rt, files, alloc, words, words.key);
     let other = of_key(rt, files, alloc, words, words.other_key);
-    let store = of_store(rt, alloc, words, m);
+    let store = of_store(rt, inspection, alloc, words, m);
     let starts = starts_of(rt, alloc, words, m);
     let addresses = of_addresses(rt, words);
     let control = of_control(rt, alloc, words);

@@ -1,6 +1,7 @@
 //! The database of a node in its file: a new one has small pages.
 
 ghost use Rattle.std.specs.Prelude.{◌≡◌, ⊤, ℕ, Bool, List, [], IsTrue, IfOk, IfErr, Err, codes};
+ghost use Rattle.sqlite_trees.specs.Tree.{Trees};
 ghost use Rattle.sqlite_trees.specs.View.{IsClean};
 ghost use Rattle.sqlite_store.specs.FileStore.{view, is_shielded};
 ghost use Rattle.sqlite_store.specs.Unopened.{AreUsable, wanted_by};
@@ -10,6 +11,7 @@ ghost use Rattle.sqlite.specs.State.{State, HasCleanDisk};
 ghost use Rattle.sqlite.specs.Held.{IsNew};
 ghost use Rattle.sqlite.specs.Opening.{is_open_error};
 ghost use Rattle.sqlite.specs.Files.{file_state, IsOpened, IsEmpty};
+ghost use Rattle.cli_node.specs.declared.database.Seen.{Seen};
 
 use sqlite::{Connection, Error, ErrorCode, File, FileStore, Files, Options, Unknown};
 use sqlite_disk::Disk;
@@ -19,6 +21,7 @@ use sqlite_std_file::OpenError as PathError;
 use sqlite_store::{OpenError, Unopened};
 use sqlite_wal::PageSize;
 use std::alloc::Global;
+use std::fs;
 use std::hash::{BuildHasher, RandomState};
 use std::io::ErrorKind;
 
@@ -178,13 +181,33 @@ pub(crate) fn open_database(
     open_files(rt.alloc(), files, Options::new(keys.hash_one(&0u8)))
 }
 
-/// Where a node's store is opened and closed.
+/// What the system says of a path.
+#[derive(Clone, Copy)]
+pub(crate) enum Seen {
+    /// A regular file of this size.
+    File(u64),
+    /// Something else of this size.
+    Another(u64),
+    /// Nothing is there.
+    Nothing,
+    /// It doesn't say.
+    Unsaid,
+}
+
+/// Where a node's store is found, opened and closed.
 pub(crate) trait Databases {
+    // this is seen at this path
+    ghost is_seen: { Self → (path : List ℕ) → Seen → Type 0 };
+
     // the file at this path has this database, within a transaction or not
     ghost holds: { Self → (path : List ℕ) → Database → (within : Bool) → Type 0 };
 
     // a database was closed in this state
     ghost closed: { Self → State → Type 0 };
+
+    /// What is at a path.
+    fn see(&self, path: &str) -> Seen
+        ensures { is_seen self.now path.now result };
 
     /// Opens the database in a file, or makes one there.
     fn open(&self, path: &str) -> Result<Connection<FileStore<File>>, Error>
@@ -197,9 +220,26 @@ pub(crate) trait Databases {
 
 impl Databases for HostRuntime {
     // no contract says what is in the file at a path
+    ghost is_seen = { λ _ _ _. ⊤ };
+
     ghost holds = { λ _ _ _ _. ⊤ };
 
     ghost closed = { λ _ _. ⊤ };
+
+    fn see(&self, path: &str) -> Seen {
+        match fs::metadata(self, path) {
+            Ok(found) => if found.is_file() {
+                Seen::File(found.len())
+            } else {
+                Seen::Another(found.len())
+            },
+            Err(error) => if error.kind() == ErrorKind::NotFound {
+                Seen::Nothing
+            } else {
+                Seen::Unsaid
+            },
+        }
+    }
 
     fn open(&self, path: &str) -> Result<Connection<FileStore<File>>, Error> {
         open_database(self, path)
@@ -209,5 +249,41 @@ impl Databases for HostRuntime {
         ensures { ⊤ }
     {
         let _closed = conn.close();
+    }
+}
+
+/// Where a database is opened to be looked at, and left as it is.
+pub(crate) trait Inspection {
+    // none is open, and the last one was left as it was found
+    ghost is_over: { Self → Type 0 };
+
+    // what an open after a stop could find in the one that is open, when it was opened
+    ghost could_leave: { Self → Trees → Type 0 };
+
+    /// Opens the database in a file.
+    fn inspect(&mut self, path: &str) -> Result<Connection<FileStore<File>>, Error>
+        ensures found { IfOk result (λ c. (db : Trees) → (file_state c).may_leave db → could_leave self.new db) }
+        ensures none { IfErr result (λ e. is_over self.old → is_over self.new) };
+
+    /// Closes it without copying its log of writes.
+    fn leave(&mut self, conn: Connection<FileStore<File>>)
+        ensures { (HasCleanDisk (file_state conn) → (db : Trees) → (file_state conn).may_leave db →
+            could_leave self.old db) → is_over self.new };
+}
+
+impl Inspection for HostRuntime {
+    // no contract says what is in the file at a path
+    ghost is_over = { λ _. ⊤ };
+
+    ghost could_leave = { λ _ _. ⊤ };
+
+    fn inspect(&mut self, path: &str) -> Result<Connection<FileStore<File>>, Error> {
+        open_database(&*self, path)
+    }
+
+    fn leave(&mut self, conn: Connection<FileStore<File>>)
+        ensures { ⊤ }
+    {
+        drop(conn);
     }
 }

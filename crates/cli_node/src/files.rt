@@ -2,7 +2,7 @@
 
 ghost use Rattle.std.specs.Prelude.{◌<◌, ⊤, ℕ, Bool, List, IfOk, map};
 ghost use Rattle.px_packet.specs.declared.start.Start as declared;
-ghost use Rattle.cli_files.specs.Clusters.{IsClusterKey};
+ghost use Rattle.cli_files.specs.Clusters.{IsClusterKey, IsKeyOfFile};
 
 use cli_files::{KeyFault, RaiseFault, raise_start, read_cluster_key};
 use node_loop::Membership;
@@ -44,8 +44,9 @@ pub(crate) trait NodeFiles {
 }
 
 impl<R: Files + Clock + RandomSource> NodeFiles for R {
-    // no contract says what is in the file at a path
-    ghost makes = { λ _ cluster members _ key. (text : List ℕ) × IsClusterKey text cluster members key };
+    // a file does; no contract says what is in the one at a path
+    ghost makes = { λ _ cluster members _ key. ((text : List ℕ) × IsClusterKey text cluster members key)
+        × IsKeyOfFile R.File.remaining cluster members key };
 
     // nor what the system's clock and random source give
     ghost raises = { λ _ _ _ _ _ _. ⊤ };

@@ -3,6 +3,7 @@
 ghost use Rattle.std.specs.Prelude.{◌≡◌, ◌≢◌, ◌<◌, ◌≤◌, ◌⊎◌, ◌↔◌, Err, false, length, IfSome, OnErr, IsSome, IsTrue};
 ghost use Rattle.std.specs.Prelude.{ℕ, Bool, List, [], None, Ok, IfOk, map, option_map, option_and_then, is_some};
 ghost use Rattle.std.specs.Prelude.{◌||◌, ◌++◌, codes, string_bytes};
+ghost use Rattle.clap.specs.Words.{first_value, found_of, one_text};
 ghost use Rattle.sqlite.specs.Held.{state};
 ghost use Rattle.px_store.specs.Formats.{record_at};
 ghost use Rattle.px_store.specs.View.{connection_of, IsOpened};
@@ -17,13 +18,15 @@ ghost use Rattle.cli_files.specs.Clusters.{IsClusterKey};
 ghost use Rattle.cli_files.specs.Files.{settings_of};
 ghost use Rattle.cli_files.specs.Settings.{number_of};
 ghost use Rattle.cli_node.specs.declared.outcome.Outcome.TheVariants.{Memory, Refused};
-ghost use Rattle.cli_node.specs.inner.Running.{Anything, EndsAs, EndsNew, EndsNode, EndsWith, IsAlone, IsUnrun, RunsHere};
+ghost use Rattle.cli_node.specs.inner.Running.{Anything, EndsAs, EndsNew, EndsNode, EndsWith, IsAlone, IsUnrun};
+ghost use Rattle.cli_node.specs.inner.Running.{RunsHere};
 ghost use Rattle.cli_node.specs.inner.Running.{hears_asks, keys_with, sealer_with};
 ghost use Rattle.cli_node.specs.inner.Outcomes.{ComesTo, ComesOpen, ComesOpenOr, IsWireless};
-ghost use Rattle.cli_node.specs.inner.Given.{IsPlaced, text_in};
+ghost use Rattle.cli_node.specs.inner.Given.{AreFigures, AreTurns, IsFlag, IsFlagIn, IsNumberIn, IsPlaced, text_in};
 ghost use Rattle.cli_node.specs.inner.Secrets.{AreNamed};
-ghost use Rattle.cli_node.specs.inner.Stores.{IsKept, IsStoreless, is_made};
+ghost use Rattle.cli_node.specs.inner.Stores.{HasNone, IsFoundAt, IsKept, IsNone, IsStoreless, is_made};
 ghost use Rattle.cli_node.specs.declared.store.Found.{Found};
+ghost use Rattle.cli_node.specs.declared.store.TheConstants.{NO_STORE};
 ghost use Rattle.cli_node.specs.inner.Places.{is_count, has_place, turns_or_all, chosen};
 
 use crate::database::Databases;
@@ -110,6 +113,13 @@ fn number_or(given: Option<u32>, file: &NodeFile, name: &str) -> Option<u32>
     }
 }
 
+/// The number of an option, that of the file where it isn't given.
+fn number_in(matches: &ArgMatches<'_>, file: &NodeFile, name: &str) -> Option<u32>
+    ensures { IfSome result (IsNumberIn matches.now file.now name.now) }
+{
+    number_or(matches.get_one::<u32>(name), file, name)
+}
+
 /// So many turns, or as many as there can be.
 fn turns_or_all(turns: Option<u32>) -> u64
     ensures { result ≡ turns_or_all turns }
@@ -120,6 +130,27 @@ fn turns_or_all(turns: Option<u32>) -> u64
     }
 }
 
+/// How many turns are made.
+fn turns_in(matches: &ArgMatches<'_>) -> u64
+    ensures { AreTurns (one_text (found_of matches.now) (codes "turns")) result }
+{
+    turns_or_all(matches.get_one::<u32>("turns"))
+}
+
+/// Whether an option without a value is given.
+fn is_given(matches: &ArgMatches<'_>, name: &str) -> bool
+    ensures { IsFlag (one_text (found_of matches.now) name.now) result }
+{
+    matches.get_flag(name)
+}
+
+/// Whether an option without a value is given, or so in the file.
+fn is_set(matches: &ArgMatches<'_>, file: &NodeFile, name: &str) -> bool
+    ensures { IsFlagIn matches.now file.now name.now result }
+{
+    is_given(matches, name) || file.flag(name)
+}
+
 impl<'m, 'w, 'a> NodeWords<'m, 'w, 'a> {
     /// What the matches of the words and a file of settings say, with these members; none where one of them is wanting.
     /// `clap` has refused numbers out of range.
@@ -128,20 +159,33 @@ impl<'m, 'w, 'a> NodeWords<'m, 'w, 'a> {
         file: &'a NodeFile,
         members: &'m [&'w str],
     ) -> Option<NodeWords<'m, 'w, 'a>>
+        ensures me { IfSome result (λ w. IsNumberIn matches.now file.now (codes "me") w.me) }
+        ensures cluster { IfSome result (λ w. IsNumberIn matches.now file.now (codes "cluster") w.cluster) }
+        ensures is_from_file { IfSome result (λ w. w.is_from_file ≡
+            is_some (first_value (found_of matches.now) (codes "config"))) }
+        ensures is_new { IfSome result (λ w. IsFlag (one_text (found_of matches.now) (codes "new")) w.is_new) }
+        ensures turns { IfSome result (λ w. AreTurns (one_text (found_of matches.now) (codes "turns")) w.turns) }
+        ensures makes_starts { IfSome result (λ w.
+            IsFlag (one_text (found_of matches.now) (codes "new-starts")) w.makes_starts) }
+        ensures is_unsealed { IfSome result (λ w. IsFlagIn matches.now file.now (codes "unsealed") w.is_unsealed) }
+        ensures is_quiet { IfSome result (λ w. IsFlagIn matches.now file.now (codes "quiet") w.is_quiet) }
         ensures store { IfSome result (λ w. text_in matches.now file.now (codes "store") ≡ Some w.store.now) }
         ensures key { IfSome result (λ w. option_map (λ t. t.now) w.key ≡ text_in matches.now file.now (codes "key")) }
-        ensures other_key { IfSome result (λ w. option_map (λ t. t.now) w.other_key ≡ text_in matches.now file.now (codes "other-key")) }
-        ensures control { IfSome result (λ w. option_map (λ t. t.now) w.control ≡ text_in matches.now file.now (codes "control")) }
-        ensures metrics { IfSome result (λ w. option_map (λ t. t.now) w.metrics ≡ text_in matches.now file.now (codes "metrics")) }
+        ensures other_key { IfSome result (λ w. option_map (λ t. t.now) w.other_key ≡
+            text_in matches.now file.now (codes "other-key")) }
+        ensures control { IfSome result (λ w. option_map (λ t. t.now) w.control ≡
+            text_in matches.now file.now (codes "control")) }
+        ensures metrics { IfSome result (λ w. option_map (λ t. t.now) w.metrics ≡
+            text_in matches.now file.now (codes "metrics")) }
         ensures members { IfSome result (λ w. w.members ≡ members.entry) }
     {
-        let Some(me) = number_or(matches.get_one::<u32>("me"), file, "me") else {
+        let Some(me) = number_in(matches, file, "me") else {
             return None;
         };
         let Ok(me) = u8::try_from(me) else {
             return None;
         };
-        let Some(cluster) = number_or(matches.get_one::<u32>("cluster"), file, "cluster") else {
+        let Some(cluster) = number_in(matches, file, "cluster") else {
             return None;
         };
         let Some(store) = text_or(matches.get_str("store"), file, "store") else {
@@ -152,15 +196,15 @@ impl<'m, 'w, 'a> NodeWords<'m, 'w, 'a> {
             cluster,
             store,
             is_from_file: matches.get_str("config").is_some(),
-            is_new: matches.get_flag("new"),
-            turns: turns_or_all(matches.get_one::<u32>("turns")),
+            is_new: is_given(matches, "new"),
+            turns: turns_in(matches),
             key: text_or(matches.get_str("key"), file, "key"),
             other_key: text_or(matches.get_str("other-key"), file, "other-key"),
-            makes_starts: matches.get_flag("new-starts"),
-            is_unsealed: matches.get_flag("unsealed") || file.flag("unsealed"),
+            makes_starts: is_given(matches, "new-starts"),
+            is_unsealed: is_set(matches, file, "unsealed"),
             control: text_or(matches.get_str("control"), file, "control"),
             metrics: text_or(matches.get_str("metrics"), file, "metrics"),
-            is_quiet: matches.get_flag("quiet") || file.flag("quiet"),
+            is_quiet: is_set(matches, file, "quiet"),
             members,
         })
     }
@@ -294,8 +338,9 @@ fn run_at<R: Records, T: Timer>(
     timer: &mut T,
     place: Option<ControlPlace<'_>>,
 ) -> (Outcome, R)
-    requires placed { IsPlaced (λ p. p.path.now) (λ p. p.figures) (option_map (λ t. t.now) words.control)
-        words.metrics place }
+    requires placed { IsPlaced (λ p. p.path.now) (λ p. p.figures) (λ p. p.members.now)
+        (option_map (λ t. t.now) words.control) (AreFigures (option_map (λ t. t.now) words.metrics))
+        (λ text. IfOk wire (λ w. text ≡ spaced (map shown_address (peers_of w)))) place }
     requires members { R.members records ≡ m.members }
     requires here { m.me < m.members }
     requires is { m.me ≡ words.me }
@@ -356,7 +401,7 @@ fn run_at<R: Records, T: Timer>(
 /// a port.
 pub(crate) fn figures_at(words: NodeWords<'_, '_, '_>) -> Result<Option<SocketAddr>, Outcome>
     ensures refused { OnErr result (result ≡ Err (Refused 82)) }
-    ensures served { IfOk result (λ f. is_some f ≡ is_some words.entry.metrics) }
+    ensures served { IfOk result (AreFigures (option_map (λ t. t.now) words.entry.metrics)) }
 {
     let Some(text) = words.metrics else {
         return Ok(None);
@@ -568,6 +613,7 @@ fn run_new<F: NodeFiles, D: Databases, T: Timer>(
         OnFront how (MakesTurns words.entry.turns (T.timer_events timer.old) (T.timer_events timer.new))) result }
     ensures ending { result ≢ Refused 80 }
     ensures store { IsStoreless words.entry.is_from_file words.entry.is_new result }
+    ensures none { result ≡ Refused NO_STORE → IsNone found }
 {
     let sealing = match sealing_for(rt, files, alloc, words, m, keys, found) {
         Ok(sealing) => sealing,
@@ -594,7 +640,8 @@ fn run_node<F: NodeFiles, D: Databases, T: Timer>(
         (m.members ≡ length words.entry.members.now))
         (AreNamed (F.makes files.now words.entry.cluster (map (λ t. t.now) words.entry.members.now))
         (option_map (λ t. t.now) words.entry.key) (option_map (λ t. t.now) words.entry.other_key))
-        (λ m start. (found : Found) × F.raises files.now (words.entry.store.now ++ codes "-starts") m.members m.me
+        (λ m start. (found : Found) × IsFoundAt (D.is_seen dbs.now) words.entry.store.now found ×
+        F.raises files.now (words.entry.store.now ++ codes "-starts") m.members m.me
         (is_made words.entry.is_from_file words.entry.is_new found || words.entry.makes_starts) start)
         (hears_asks words.entry.key words.entry.control) (map (λ t. t.now) words.entry.members.now) (λ r. IsKept
         (D.holds dbs.now words.entry.store.now) (state ⟦<FileStore<File> as Store>⟧ (connection_of r))
@@ -603,6 +650,7 @@ fn run_node<F: NodeFiles, D: Databases, T: Timer>(
         OnFront how (MakesTurns words.entry.turns (T.timer_events timer.old) (T.timer_events timer.new))) result }
     ensures ending { result ≢ Refused 80 }
     ensures store { IsStoreless words.entry.is_from_file words.entry.is_new result }
+    ensures none { result ≡ Refused NO_STORE → HasNone (D.is_seen dbs.now) words.entry.store.now }
 {
     let Some(m) = membership(words) else {
         say_place(rt, words);
@@ -613,7 +661,7 @@ fn run_node<F: NodeFiles, D: Databases, T: Timer>(
         Err(outcome) => return outcome,
     };
     warn_unsealed(rt, words);
-    let Ok(found) = found_at(rt, alloc, words.store) else {
+    let Ok(found) = found_at(dbs, alloc, words.store) else {
         return Outcome::Memory;
     };
     if is_made(words.is_from_file, words.is_new, found) {

@@ -109,7 +109,8 @@ fn outcome_for<'g: 'f, 'f>(
         return halved(rt);
     }
     if matches.get_flag("check") {
-        check_outcome(rt, rt, alloc, words)
+        let mut inspection = *rt;
+        check_outcome(rt, rt, &mut inspection, alloc, words)
     } else {
         node_outcome(rt, alloc, words)
     }

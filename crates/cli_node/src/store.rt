@@ -10,9 +10,11 @@ ghost use Rattle.px_store.specs.View.{connection_of, IsOpened};
 ghost use Rattle.cli_node.specs.declared.outcome.Outcome.TheVariants.{Memory, Refused};
 ghost use Rattle.cli_node.specs.declared.store.TheConstants.{NO_STORE, FILE_IS_THERE};
 ghost use Rattle.cli_node.specs.inner.Outcomes.{adopt_outcome};
-ghost use Rattle.cli_node.specs.inner.Stores.{identity_at, IsKept, IsOpening, IsRefusal, IsStoreless, IsUnmade, is_made};
+ghost use Rattle.cli_node.specs.inner.Stores.{identity_at, IsKept, IsOpening, IsRefusal, IsStoreless, IsUnmade};
+ghost use Rattle.cli_node.specs.inner.Stores.{is_made};
+ghost use Rattle.cli_node.specs.inner.Stores.{IsFoundAt, IsNone, found_by, has_no_byte};
 
-use crate::database::Databases;
+use crate::database::{Databases, Seen};
 use crate::faults::{say_closed, say_judged, say_storeless, why_closed};
 use crate::node::NodeWords;
 use crate::outcome::{Outcome, numbered};
@@ -24,8 +26,6 @@ use px_store::{AdoptFault, Format, Identity, SqlRecords};
 use sqlite::{Alter, Connection, Error, ErrorCode, File, FileStore};
 use sqlite_trees::store::Store;
 use std::alloc::{AllocError, Global};
-use std::fs;
-use std::io::ErrorKind;
 
 /// A store that isn't there.
 const NO_STORE: u8 = 93;
@@ -79,33 +79,42 @@ pub(crate) fn opening_of(is_from_file: bool, is_new: bool, found: Found) -> Open
 }
 
 /// Whether a file has no byte, or isn't there.
-fn is_empty(rt: &HostRuntime, path: &str) -> bool {
-    match fs::metadata(rt, path) {
-        Ok(found) => found.len() == 0,
-        Err(_) => true,
+fn has_no_byte(seen: Seen) -> bool
+    ensures { result ≡ has_no_byte seen }
+{
+    match seen {
+        Seen::File(size) => size == 0,
+        Seen::Another(size) => size == 0,
+        Seen::Nothing | Seen::Unsaid => true,
     }
 }
 
-/// What is at a path.
-pub(crate) fn found_at(rt: &HostRuntime, alloc: Global, path: &str) -> Result<Found, AllocError> {
-    match fs::metadata(rt, path) {
-        Ok(found) => {
-            if !found.is_file() {
-                return Ok(Found::Other);
-            }
-            let log = format!(in alloc; "{path}-wal")?;
-            if found.len() == 0 && is_empty(rt, log.as_str()) {
-                Ok(Found::Empty)
-            } else {
-                Ok(Found::Store)
-            }
-        }
-        Err(error) => if error.kind() == ErrorKind::NotFound {
-            Ok(Found::Nothing)
+/// What is found of a store, by what is seen of its file and of its log of writes.
+fn found_by(file: Seen, log: Seen) -> Found
+    ensures { result ≡ found_by file log }
+{
+    match file {
+        Seen::File(size) => if size == 0 && has_no_byte(log) {
+            Found::Empty
         } else {
-            Ok(Found::Other)
+            Found::Store
         },
+        Seen::Nothing => Found::Nothing,
+        Seen::Another(_) | Seen::Unsaid => Found::Other,
     }
+}
+
+/// What is found of the store at a path.
+pub(crate) fn found_at<D: Databases>(
+    dbs: &D,
+    alloc: Global,
+    path: &str,
+) -> Result<Found, AllocError>
+    ensures { IfOk result (IsFoundAt (D.is_seen dbs.now) path.now) }
+{
+    let log = format!(in alloc; "{path}-wal")?;
+    let file = dbs.see(path);
+    Ok(found_by(file, dbs.see(log.as_str())))
 }
 
 /// The outcome of a store that isn't taken.
@@ -164,7 +173,8 @@ fn open_file<D: Databases>(
 ) -> Result<Connection<FileStore<File>>, Outcome>
     ensures refused { OnErr result ((result ≡ Err Memory) ⊎ (result ≡ Err (Refused 70))) }
     ensures held { IfOk result (λ c.
-        D.holds dbs.now path.now (state ⟦<FileStore<File> as Store>⟧ c).now (state ⟦<FileStore<File> as Store>⟧ c).in_transaction) }
+        D.holds dbs.now path.now (state ⟦<FileStore<File> as Store>⟧ c).now
+        (state ⟦<FileStore<File> as Store>⟧ c).in_transaction) }
 {
     match dbs.open(path) {
         Ok(conn) => Ok(conn),
@@ -204,7 +214,8 @@ fn make_store<D: Databases>(
 ) -> Result<Connection<FileStore<File>>, Outcome>
     ensures refused { IfErr result IsUnmade }
     ensures held { IfOk result (λ c.
-        D.holds dbs.now words.entry.store.now (state ⟦<FileStore<File> as Store>⟧ c).now (state ⟦<FileStore<File> as Store>⟧ c).in_transaction) }
+        D.holds dbs.now words.entry.store.now (state ⟦<FileStore<File> as Store>⟧ c).now
+        (state ⟦<FileStore<File> as Store>⟧ c).in_transaction) }
 {
     match make_file(rt, words.store, found) {
         Ok(()) => {}
@@ -227,7 +238,7 @@ pub(crate) fn is_made(is_from_file: bool, is_new: bool, found: Found) -> bool
 }
 
 /// The database where a store is named, by what becomes of what is there.
-#[tactic(auto, using(crate::proofs::Stores::by_opening, crate::proofs::Stores::by_file, crate::proofs::Stores::by_making))]
+#[tactic(auto, using(crate::proofs::Stores::by_opening, crate::proofs::Stores::by_file, crate::proofs::Stores::by_making, crate::proofs::Stores::none_opened, crate::proofs::Stores::none_made, crate::proofs::Stores::none_at))]
 fn open_store<D: Databases>(
     rt: &HostRuntime,
     dbs: &D,
@@ -238,10 +249,12 @@ fn open_store<D: Databases>(
     ensures refused { IfErr result (IsStoreless words.entry.is_from_file words.entry.is_new) }
     ensures kind { IfErr result IsRefusal }
     ensures at { IfOk result (λ c.
-        D.holds dbs.now words.entry.store.now (state ⟦<FileStore<File> as Store>⟧ c).now (state ⟦<FileStore<File> as Store>⟧ c).in_transaction) }
+        D.holds dbs.now words.entry.store.now (state ⟦<FileStore<File> as Store>⟧ c).now
+        (state ⟦<FileStore<File> as Store>⟧ c).in_transaction) }
     ensures lost { words.entry.is_from_file ≡ true → words.entry.is_new ≡ false →
         (found ≡ Found.Nothing) ⊎ (found ≡ Found.Empty) → result ≡ Err (Refused NO_STORE) }
     ensures held { words.entry.is_new ≡ true → found ≡ Found.Store → result ≡ Err (Refused FILE_IS_THERE) }
+    ensures none { result ≡ Err (Refused NO_STORE) → IsNone found }
     ensures unfailed { OnErr result (result ≢ Err (Refused 80)) }
 {
     match opening_of(words.is_from_file, words.is_new, found) {
@@ -289,9 +302,11 @@ pub(crate) fn record_at<D: Databases>(
     ensures members { IfOk result (λ r. ⟦<SqlRecords<FileStore<File>> as Records>⟧.members r ≡ m.members) }
     ensures begins { IfOk result (λ r. ⟦<SqlRecords<FileStore<File>> as Records>⟧.failed r ≡ 0) }
     ensures rows { IfOk result (λ r. IsKept (D.holds dbs.now words.entry.store.now)
-        (state ⟦<FileStore<File> as Store>⟧ (connection_of r)) (λ f db. IsOpened ⟦<FileStore<File> as Store>⟧ r (record_at f db.trees))) }
+        (state ⟦<FileStore<File> as Store>⟧ (connection_of r))
+        (λ f db. IsOpened ⟦<FileStore<File> as Store>⟧ r (record_at f db.trees))) }
     ensures refused { IfErr result (IsStoreless words.entry.is_from_file words.entry.is_new) }
     ensures kind { IfErr result IsRefusal }
+    ensures none { result ≡ Err (Refused NO_STORE) → IsNone found }
     ensures unfailed { OnErr result (result ≢ Err (Refused 80)) }
 {
     let conn = match open_store(rt, dbs, alloc, words, found) {

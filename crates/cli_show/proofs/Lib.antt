@@ -3,3 +3,4 @@ mod Reading
 mod Writing
 pub mod TextsShown
 pub mod LogScripts
+pub mod Closing

@@ -1,6 +1,6 @@
 -- What a node shows that was opened is shown of its record.
 use Rattle.std.proofs.Common.{◌≡◌, ℕ, Some, inl, refl, sym, ap, subst, ◌∙◌}
-use Rattle.px_model.specs.Node.{Log}
+use Rattle.px_model.specs.Node.{Log, Record}
 use Rattle.px_model.specs.Step.{front}
 use Rattle.px_model.specs.World.{NodeState, started}
 use Rattle.px_model.specs.Spelling.{Bytes}
@@ -54,3 +54,15 @@ not_shown {R} {G} members given back n was stands is =
       was = λ honest. was (subst G.is_honest is honest);
       same = λ honest. ap G.stored is ∙ ap (λ (x : NodeState Bytes). x.stored) (stands (subst G.is_honest is honest));
     })
+
+-- it was honest if it is, and what the next open may find is what it could find before
+pub was_before : {R : Type 0} {G : Ghosts R} (given back : R) (n : Node R G) → (G.is_honest (records_of n) → G.is_honest given) → back ≡ records_of n →
+    G.is_honest back → G.is_honest given
+was_before {R} {G} given back n was is honest = was (subst G.is_honest is honest)
+
+pub leaves_less : {R : Type 0} {G : Ghosts R} (given back : R) (n : Node R G) →
+    (G.is_honest (records_of n) → (left : Record Bytes) → G.may_leave (records_of n) left → G.may_leave given left) →
+    back ≡ records_of n →
+    G.is_honest back → (left : Record Bytes) → G.may_leave back left → G.may_leave given left
+leaves_less {R} {G} given back n stop is =
+    subst (λ (r : R). G.is_honest r → (left : Record Bytes) → G.may_leave r left → G.may_leave given left) (sym is) stop

@@ -1,5 +1,6 @@
 pub mod Writing
 pub mod Showing
+pub mod Owners
 pub mod Stores
 pub mod Outcomes
 pub mod Texts

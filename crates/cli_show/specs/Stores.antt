@@ -1,13 +1,26 @@
 -- What is shown of a store.
-use Rattle.std.specs.Prelude.{◌≡◌, ℕ, Option, Some, None}
-use Rattle.sqlite.specs.State.{State}
+use Rattle.std.specs.Prelude.{◌≡◌, ◌⊎◌, ℕ, Bool, Option, Some, None, Ok}
+use Rattle.sqlite.specs.Effect.{Database}
+use Rattle.sqlite.specs.Held.{Held, state}
+use Rattle.sqlite.specs.State.{State, HasCleanDisk}
+use Rattle.sqlite_trees.specs.declared.store.Store as store
+use Rattle.px_model.specs.Node.{Record}
+use Rattle.px_model.specs.Spelling.{Bytes}
 use Rattle.px_records.specs.declared.records.Records.{Ghosts}
 use Rattle.px_replica.specs.Codes.{node_fault_code}
 use Rattle.px_replica.specs.declared.fault.NodeFault.{NodeFault}
-use Rattle.px_store.specs.Adopting.{code_of}
+use Rattle.px_store.specs.Adopting.{Began, IsVerdict, code_of}
+use Rattle.px_store.specs.Formats.{record_at}
+use Rattle.px_store.specs.Judging.{reopen_refusal}
+use Rattle.px_store.specs.declared.calls.Identity.{Identity}
+use Rattle.px_store.specs.declared.formats.Format.TheVariants.{Three}
+use Rattle.px_store.specs.Ready.{MayLeave}
 use Rattle.px_store.specs.Seen.{record_in}
+use Rattle.px_store.specs.View.{connection_of}
 use Rattle.px_store.specs.declared.fault.AdoptFault.{AdoptFault}
-use Rattle.cli_show.specs.Showing.{ShowsLog}
+use Rattle.px_store.specs.declared.keeper.SqlRecords.{SqlRecords}
+use Rattle.cli_show.specs.Owners.{Says, IsUnowned}
+use Rattle.cli_show.specs.Showing.{ShowsLog, IsRefused}
 use Rattle.cli_show.specs.declared.shown.Shown.{Shown}
 use Rattle.cli_show.specs.declared.shown.Wanted.{Wanted}
 use Rattle.cli_show.specs.declared.store.Closed.{Closed}
@@ -34,3 +47,53 @@ closed_of fault = closed_by (code_of fault)
 -- Example: 70 of a store that has failed, 72 of a bad row.
 abbrev pub closed_for : NodeFault → Closed
 closed_for fault = closed_by (node_fault_code fault)
+
+-- ---- which store is refused
+
+-- The rows of a store of format 3 are refused to this node, which is their owner: with 72 for a bad row.
+abbrev pub IsUntaken : Identity → State → Closed → Type 0
+IsUntaken owner s c = (fault : AdoptFault) × ((c ≡ closed_of fault)
+    × (Began Three s → IsVerdict fault → reopen_refusal Three owner s.now.trees ≡ Some fault))
+
+-- a node of that many members doesn't open the record of these rows: with 72 for a bad entry
+abbrev pub IsUnopened : {R : Type 0} → (G : Ghosts R) → (members : ℕ) → State → Closed → Type 0
+IsUnopened {R} G members s c = (fault : NodeFault) × ((given : R) × ((back : R) × ((c ≡ closed_for fault)
+    × (IsRefused G members given fault back
+    × (G.is_honest given → Began Three s → G.stored given ≡ record_at Three s.now.trees)))))
+
+-- Nothing is shown of a store: its owner isn't known, or its rows are refused to the owner, or the record doesn't open.
+pub record IsClosed {R S : Type 0} (G : Ghosts R) (g : store.Ghosts S) (given : Held S) (c : Closed) : Type 0 where
+  pub came : Held S
+  pub why : IsUnowned (state g given) (state g came) c
+      ⊎ ((owner : Identity) × (Says (state g given) (state g came) (Ok owner)
+      × (IsUntaken owner (state g came) c ⊎ IsUnopened G owner.members (state g came) c)))
+
+-- ---- what is left of a store
+
+-- what an open after a stop may find is what it could find before, or the record of the rows
+abbrev pub LeavesRecord : (old new : State) → Type 0
+LeavesRecord old new =
+    (left : Record Bytes) → MayLeave new left → MayLeave old left ⊎ (left ≡ record_in old.now.trees)
+
+-- A database that a file holds is closed, and its record is left as it was.
+pub record LeavesFile {S : Type 0} (g : store.Ghosts S) (holds : Database → (within : Bool) → Type 0)
+    (is_closed : State → Type 0) (given back : Held S) : Type 0 where
+  pub held : holds (state g given).now (state g given).in_transaction
+  pub left : HasCleanDisk (state g back) → Began Three (state g given) → LeavesRecord (state g given) (state g back)
+  pub shut : is_closed (state g back)
+
+-- This is shown of the record in a file.
+pub record ShowsFile {S : Type 0} (g : store.Ghosts S) (G : Ghosts (SqlRecords S g))
+    (holds : Database → (within : Bool) → Type 0) (is_closed : State → Type 0) (w : Wanted) (s : Shown) : Type 0 where
+  pub given : Held S
+  pub back : SqlRecords S g
+  pub shows : G.is_honest back → Began Three (state g given) → ShowsStore G (state g given) back w s
+  pub leaves : LeavesFile g holds is_closed given (connection_of back)
+
+-- The store in a file is refused.
+pub record RefusesFile {S : Type 0} (g : store.Ghosts S) (G : Ghosts (SqlRecords S g))
+    (holds : Database → (within : Bool) → Type 0) (is_closed : State → Type 0) (c : Closed) : Type 0 where
+  pub given : Held S
+  pub back : Held S
+  pub why : HasCleanDisk (state g back) → IsClosed G g given c
+  pub leaves : LeavesFile g holds is_closed given back

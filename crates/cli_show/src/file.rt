@@ -1,8 +1,18 @@
 //! The store of a node is opened, as far as that changes nothing.
 
+ghost use Rattle.std.specs.Prelude.{◌⊎◌, ⊤, ℕ, Bool, List, IfOk, IfErr};
+ghost use Rattle.sqlite.specs.Effect.{Database};
+ghost use Rattle.sqlite.specs.Files.{file_state};
+ghost use Rattle.sqlite.specs.State.{State};
+ghost use Rattle.cli_show.specs.Stores.{RefusesFile, ShowsFile};
+ghost use Rattle.cli_show.specs.declared.store.Closed.{Closed};
+
 use crate::shown::{Shown, Wanted};
 use crate::store::{Closed, show_store};
+use px_records::Records;
+use px_store::SqlRecords;
 use sqlite::{Connection, Error, ErrorCode, File, FileStore};
+use sqlite_trees::store::Store;
 use std::alloc::Global;
 use std::fs;
 
@@ -41,19 +51,71 @@ fn open_file(rt: &HostRuntime, path: &str) -> Result<Connection<FileStore<File>>
     }
 }
 
-/// What is shown of the store in a file. It is closed without copying its log of writes.
-pub(crate) fn show_file(
-    rt: &HostRuntime,
+/// Where a store is opened and closed.
+pub(crate) trait Databases {
+    // the file at this path has this database, within a transaction or not
+    ghost holds: { Self → (path : List ℕ) → Database → (within : Bool) → Type 0 };
+
+    // it isn't opened
+    ghost refuses: { Self → (path : List ℕ) → Closed → Type 0 };
+
+    // a database was closed in this state
+    ghost closed: { Self → State → Type 0 };
+
+    /// Opens the database in a file, as [`open_file`] does.
+    fn open(&self, path: &str) -> Result<Connection<FileStore<File>>, Closed>
+        ensures opened { IfOk result (λ c.
+            holds self.now path.now (file_state c).now (file_state c).in_transaction) }
+        ensures refused { IfErr result (refuses self.now path.now) };
+
+    /// Closes a database, without copying its log of writes.
+    fn close(&self, conn: Connection<FileStore<File>>)
+        ensures { closed self.now (file_state conn) };
+}
+
+impl Databases for HostRuntime {
+    // no contract says what is in the file at a path
+    ghost holds = { λ _ _ _ _. ⊤ };
+
+    ghost refuses = { λ _ _ _. ⊤ };
+
+    ghost closed = { λ _ _. ⊤ };
+
+    fn open(&self, path: &str) -> Result<Connection<FileStore<File>>, Closed> {
+        open_file(self, path)
+    }
+
+    fn close(&self, conn: Connection<FileStore<File>>)
+        ensures { ⊤ }
+    {
+        drop(conn);
+    }
+}
+
+/// What is shown of the store in a file.
+pub(crate) fn show_file<D: Databases>(
+    dbs: &D,
     alloc: Global,
     path: &str,
     wanted: Wanted<'_>,
-) -> Result<Shown, Closed> {
-    let conn = match open_file(rt, path) {
+) -> Result<Shown, Closed>
+    ensures shown { IfOk result (λ shown. ShowsFile ⟦<FileStore<File> as Store>⟧
+        ⟦<SqlRecords<FileStore<File>> as Records>⟧ (D.holds dbs.now path.now) (D.closed dbs.now) wanted.entry shown) }
+    ensures refused { IfErr result (λ c. D.refuses dbs.now path.now c ⊎ RefusesFile ⟦<FileStore<File> as Store>⟧
+        ⟦<SqlRecords<FileStore<File>> as Records>⟧ (D.holds dbs.now path.now) (D.closed dbs.now) c) }
+{
+    let conn = match dbs.open(path) {
         Ok(conn) => conn,
         Err(closed) => return Err(closed),
     };
     match show_store(alloc, conn, wanted) {
-        Ok((shown, _records)) => Ok(shown),
-        Err(closed) => Err(closed),
+        Ok((shown, records)) => {
+            dbs.close(records.release());
+            Ok(shown)
+        }
+        Err((closed, conn)) => {
+            dbs.close(conn);
+            Err(closed)
+        }
     }
 }

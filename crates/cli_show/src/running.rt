@@ -5,7 +5,7 @@ ghost use Rattle.cli_show.specs.declared.outcome.Outcome.{Outcome};
 ghost use Rattle.cli_show.specs.Outcomes.{Ran};
 
 use crate::arguments::command;
-use crate::file::show_file;
+use crate::file::{Databases, show_file};
 use crate::outcome::{Outcome, outcome_for, write_outcome};
 use crate::shown::Wanted;
 use crate::wanted::{Kind, kind_of, rest_of};
@@ -15,15 +15,21 @@ use cli_nft::read_file;
 use pf_arguments::from_matches;
 use std::alloc::Global;
 use std::convert::AsStr;
+use std::fs::Files;
 use std::io::Write;
 
 /// What is shown of the store.
-fn shown_of(rt: &HostRuntime, alloc: Global, store: &str, wanted: Wanted<'_>) -> Outcome {
-    outcome_for(show_file(rt, alloc, store, wanted))
+fn shown_of<D: Databases>(dbs: &D, alloc: Global, store: &str, wanted: Wanted<'_>) -> Outcome {
+    outcome_for(show_file(dbs, alloc, store, wanted))
 }
 
 /// What the store is as what nft(8) loads: 40 where no file of interfaces is named.
-fn nft_outcome(rt: &HostRuntime, alloc: Global, store: &str, file: Option<&str>) -> Outcome {
+fn nft_outcome<RT: Databases + Files>(
+    rt: &RT,
+    alloc: Global,
+    store: &str,
+    file: Option<&str>,
+) -> Outcome {
     let Some(file) = file else {
         return Outcome::Refused(40);
     };
@@ -42,29 +48,34 @@ fn nft_outcome(rt: &HostRuntime, alloc: Global, store: &str, file: Option<&str>)
 }
 
 /// The lines of the log that the words ask for.
-fn log_outcome(rt: &HostRuntime, alloc: Global, store: &str, matches: &ArgMatches<'_>) -> Outcome {
+fn log_outcome<D: Databases>(
+    dbs: &D,
+    alloc: Global,
+    store: &str,
+    matches: &ArgMatches<'_>,
+) -> Outcome {
     let from = matches.get_one::<u32>("from");
     let count = matches.get_one::<u32>("count");
-    shown_of(rt, alloc, store, Wanted::Log { from, count })
+    shown_of(dbs, alloc, store, Wanted::Log { from, count })
 }
 
 /// The verdicts for the packets behind the subcommand `test`.
-fn packets_outcome(rt: &HostRuntime, alloc: Global, store: &str, rest: &[&str]) -> Outcome {
+fn packets_outcome<D: Databases>(dbs: &D, alloc: Global, store: &str, rest: &[&str]) -> Outcome {
     match rest.split_first() {
-        Some((_, packets)) => shown_of(rt, alloc, store, Wanted::Packets(packets)),
+        Some((_, packets)) => shown_of(dbs, alloc, store, Wanted::Packets(packets)),
         None => Outcome::Refused(40),
     }
 }
 
 /// What pfctl's options list.
-fn listing_outcome(
-    rt: &HostRuntime,
+fn listing_outcome<D: Databases>(
+    dbs: &D,
     alloc: Global,
     store: &str,
     matches: &ArgMatches<'_>,
 ) -> Outcome {
     match from_matches(alloc, matches, &[]) {
-        Ok(action) => shown_of(rt, alloc, store, Wanted::Listing(&action)),
+        Ok(action) => shown_of(dbs, alloc, store, Wanted::Listing(&action)),
         Err(fault) => match fault.code() {
             Some(code) => Outcome::Refused(code),
             None => Outcome::Memory,
@@ -73,7 +84,7 @@ fn listing_outcome(
 }
 
 /// What the words give.
-fn outcome_of(rt: &HostRuntime, alloc: Global, matches: &ArgMatches<'_>) -> Outcome {
+fn outcome_of<RT: Databases + Files>(rt: &RT, alloc: Global, matches: &ArgMatches<'_>) -> Outcome {
     let (Some(store), Some(kind)) = (matches.get_str("store"), kind_of(matches)) else {
         return Outcome::Refused(40);
     };

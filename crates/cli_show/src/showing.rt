@@ -1,6 +1,8 @@
 //! What is shown of a record.
 
 ghost use Rattle.std.specs.Prelude.{◌≡◌, ◌<◌, [], false, IfOk, IfErr, option_map};
+ghost use Rattle.px_model.specs.Node.{Record};
+ghost use Rattle.px_model.specs.Spelling.{Bytes};
 ghost use Rattle.px_model.specs.Step.{front};
 ghost use Rattle.pf_node.specs.Nodes.{learned_by, applied_of, kept_of, config_of};
 ghost use Rattle.cli_nft.specs.Outputs.{config_output};
@@ -59,7 +61,7 @@ pub fn show_node<R: Records>(
 ///
 /// `Store` and `BadStore` are as for [`Node::open`], `Memory` where memory runs out; but for `Store` the record is then
 /// as it was.
-#[tactic(auto, using(crate::proofs::Opened::shows_record, crate::proofs::Opened::not_shown))]
+#[tactic(auto, using(crate::proofs::Opened::shows_record, crate::proofs::Opened::not_shown, crate::proofs::Opened::was_before, crate::proofs::Opened::leaves_less))]
 pub fn show_record<R: Records>(
     alloc: Global,
     m: Membership,
@@ -71,6 +73,9 @@ pub fn show_record<R: Records>(
     ensures shows { R.is_honest result.1 → IfOk result.0
         (λ s. ShowsRecord R.Records records result.1 wanted.entry s) }
     ensures refused { IfErr result.0 (λ e. IsRefused R.Records m.members records e result.1) }
+    ensures was { R.is_honest result.1 → R.is_honest records }
+    ensures stop { R.is_honest result.1 → (left : Record Bytes) → R.may_leave result.1 left →
+        R.may_leave records left }
 {
     let node = match Node::open(alloc, m, records) {
         Ok(node) => node,

@@ -1,12 +1,15 @@
 //! What is shown of the record in a database.
 
-ghost use Rattle.std.specs.Prelude.{◌≡◌, IfOk};
+ghost use Rattle.std.specs.Prelude.{◌≡◌, IfOk, IfErr};
 ghost use Rattle.sqlite.specs.Held.{state};
 ghost use Rattle.sqlite.specs.State.{HasCleanDisk};
-ghost use Rattle.px_store.specs.Adopting.{Began};
+ghost use Rattle.px_store.specs.Adopting.{Began, IsBrought, LeavesOr};
 ghost use Rattle.px_store.specs.Formats.{record_at};
+ghost use Rattle.px_store.specs.View.{connection_of};
 ghost use Rattle.px_store.specs.declared.formats.Format.TheVariants.{Three};
-ghost use Rattle.cli_show.specs.Stores.{ShowsStore, closed_by, closed_of, closed_for};
+ghost use Rattle.cli_show.specs.Owners.{identity_of};
+ghost use Rattle.cli_show.specs.Stores.{ShowsStore, LeavesRecord, closed_by, closed_of, closed_for, IsUntaken};
+ghost use Rattle.cli_show.specs.Stores.{IsClosed};
 
 use crate::owner::owner_of;
 use crate::showing::show_record;
@@ -46,7 +49,7 @@ fn closed_of(refusal: AdoptFault) -> Closed
 
 /// Whose record it is, as the store has it.
 fn identity_of(m: Membership) -> Identity
-    ensures { result.members ≡ m.members }
+    ensures { result ≡ identity_of m }
 {
     Identity {
         cluster: m.cluster(),
@@ -55,21 +58,29 @@ fn identity_of(m: Membership) -> Identity
     }
 }
 
-/// The record in a store: that of the rows that are there.
+/// The record in a store: that of the rows that are there. A refusal gives the connection back.
 fn adopted<S: Alter + Drop>(
     alloc: Global,
     conn: Connection<S>,
     identity: Identity,
-) -> Result<SqlRecords<S>, Closed>
+) -> Result<SqlRecords<S>, (Closed, Connection<S>)>
     ensures members { IfOk result (λ r. ⟦<SqlRecords<S> as Records>⟧.members r ≡ identity.members) }
     ensures clean { IfOk result (λ r. ⟦<SqlRecords<S> as Records>⟧.is_honest r →
         HasCleanDisk (state S.Store conn)) }
     ensures rows { IfOk result (λ r. ⟦<SqlRecords<S> as Records>⟧.is_honest r → Began Three (state S.Store conn) →
         ⟦<SqlRecords<S> as Records>⟧.stored r ≡ record_at Three (state S.Store conn).now.trees) }
+    ensures stop { IfOk result (λ r. ⟦<SqlRecords<S> as Records>⟧.is_honest r → Began Three (state S.Store conn) →
+        LeavesOr (IsBrought Three identity (state S.Store conn).now.trees) (state S.Store conn)
+        (state S.Store (connection_of r))) }
+    ensures left { IfErr result (λ e. HasCleanDisk (state S.Store e.1) → Began Three (state S.Store conn) →
+        LeavesOr (IsBrought Three identity (state S.Store conn).now.trees) (state S.Store conn)
+        (state S.Store e.1)) }
+    ensures untaken { IfErr result (λ e. HasCleanDisk (state S.Store e.1) → HasCleanDisk (state S.Store conn)
+        × IsUntaken identity (state S.Store conn) e.0) }
 {
     match SqlRecords::reopen(alloc, conn, identity) {
         Ok(records) => Ok(records),
-        Err((fault, _)) => Err(closed_of(fault)),
+        Err((fault, conn)) => Err((closed_of(fault), conn)),
     }
 }
 
@@ -83,27 +94,33 @@ fn closed_for(fault: NodeFault) -> Closed
 /// What is shown of the record in a store of format 3, and the record, which is as it was: of the configuration after
 /// the first learned entries, up to the first gap. To take such a store writes nothing.
 ///
-/// 73 where it hasn't format 3, 72 for a bad row, 70 where the database refuses; a script is shown as refused where
-/// there is none.
+/// 73 where it hasn't format 3, 72 for a bad row, 70 where the database refuses, and the connection; a script is shown
+/// as refused where there is none.
 pub fn show_store<S: Alter + Drop>(
     alloc: Global,
     mut conn: Connection<S>,
     wanted: Wanted<'_>,
-) -> Result<(Shown, SqlRecords<S>), Closed>
-    ensures { IfOk result (λ r. ⟦<SqlRecords<S> as Records>⟧.is_honest r.1 → Began Three (state S.Store conn) →
+) -> Result<(Shown, SqlRecords<S>), (Closed, Connection<S>)>
+    ensures shown { IfOk result (λ r. ⟦<SqlRecords<S> as Records>⟧.is_honest r.1 → Began Three (state S.Store conn) →
         ShowsStore ⟦<SqlRecords<S> as Records>⟧ (state S.Store conn) r.1 wanted.entry r.0) }
+    ensures closed { IfErr result (λ e. HasCleanDisk (state S.Store e.1) →
+        IsClosed ⟦<SqlRecords<S> as Records>⟧ S.Store conn e.0) }
+    ensures stop { IfOk result (λ r. ⟦<SqlRecords<S> as Records>⟧.is_honest r.1 → Began Three (state S.Store conn) →
+        LeavesRecord (state S.Store conn) (state S.Store (connection_of r.1))) }
+    ensures left { IfErr result (λ e. HasCleanDisk (state S.Store e.1) → Began Three (state S.Store conn) →
+        LeavesRecord (state S.Store conn) (state S.Store e.1)) }
 {
     let m = match owner_of(&mut conn) {
         Ok(m) => m,
-        Err(closed) => return Err(closed),
+        Err(closed) => return Err((closed, conn)),
     };
     let records = match adopted(alloc, conn, identity_of(m)) {
         Ok(records) => records,
-        Err(closed) => return Err(closed),
+        Err(refused) => return Err(refused),
     };
     let (shown, records) = show_record(alloc, m, records, wanted);
     match shown {
         Ok(shown) => Ok((shown, records)),
-        Err(fault) => Err(closed_for(fault)),
+        Err(fault) => Err((closed_for(fault), records.release())),
     }
 }

@@ -3,10 +3,10 @@
 ghost use Rattle.std.specs.Prelude.{◌≡◌, ◌≤◌, IfOk, length, map, option_map};
 ghost use Rattle.std.specs.List.{list_any};
 ghost use Rattle.std.specs.Str.{bytes_eq};
-ghost use Rattle.pf_eval.specs.Packets.{without_digits};
 ghost use Rattle.nft_rules.specs.Rendering.{groups_in, names_of, names_in, interfaces_with, is_matched, is_skipped};
 ghost use Rattle.nft_rules.specs.Seen.{machine_of};
 
+use pf_eval::without_digits;
 use pf_rules::{Interface, InterfaceName};
 use std::alloc::{AllocError, Global};
 
@@ -37,21 +37,6 @@ fn groups_in<'m>(
         }
     }
     None
-}
-
-/// The name without the digits at its end.
-#[tactic(auto, using(pf_eval::proofs::Digits::no_digit, pf_eval::proofs::Digits::one_digit))]
-fn without_digits(name: &[u8]) -> &[u8]
-    ensures { result.now ≡ without_digits name.now }
-{
-    let mut rest = name;
-    while let [front @ .., last] = rest {
-        if !last.is_ascii_digit() {
-            return rest;
-        }
-        rest = front;
-    }
-    rest
 }
 
 /// Whether the name is among these.

@@ -1,5 +1,6 @@
 -- Requests at a control socket, one after another.
-use Rattle.std.proofs.Common.{◌≡◌, ℕ, Bool, true, false, List, [], ◌∷◌, sym, ap}
+use Rattle.std.proofs.Common.{◌≡◌, ◌∙◌, ℕ, ◌<◌, Bool, true, false, List, [], ◌∷◌, Some, None, IfSome, length, get_or, slice_get, sym, ap, subst, refl}
+use Rattle.std.proofs.lemmas.Option.{slice_get_read}
 use Rattle.http.specs.declared.request.Request.{Request}
 use Rattle.http_server.specs.Exchange.{Call, Chain}
 use Rattle.http_server.specs.declared.response.Response.{Response}
@@ -63,3 +64,12 @@ kept_chained {R} {G} answers are c d [] e =
     kept_same c d (ap (λ (k : HttpService R G). k.is_listening) e) (ap (λ (k : HttpService R G). k.counters) e)
 kept_chained answers are c d (k ∷ calls) (next, one, rest) =
     kept_then c next d (are c next k.0 k.1 one) (kept_chained answers are next d calls rest)
+
+-- what holds of the one that is at a place
+pub at_place : {X : Type 0} (P : X → Type 0) (xs : List X) (i : ℕ) (x : X) → i < length xs → x ≡ get_or xs i x → P x →
+    IfSome (slice_get xs i) P
+at_place P xs i x l at p = subst (λ o. IfSome o P) (sym (slice_get_read xs (length xs) i x refl l at)) p
+
+pub is_there : {X A : Type 0} (xs : List X) (i : ℕ) (x : X) → i < length xs → x ≡ get_or xs i x → slice_get xs i ≡ None → A
+is_there {X} xs i x l at none =
+    let some : Some x ≡ None = sym (slice_get_read xs (length xs) i x refl l at) ∙ none in absurd (cc)

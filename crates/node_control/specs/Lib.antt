@@ -1,2 +1,3 @@
+pub mod Observers
 pub mod Sockets
 pub mod inner

@@ -1,6 +1,7 @@
 //! A client: a connection over which requests come.
 
-ghost use Rattle.std.specs.Prelude.{◌≡◌, ◌≢◌, ◌⊎◌, ◌+◌, ◌&&◌, Some, None, true, false, not, min, nat_lt, IfSome, if◌then◌else◌};
+ghost use Rattle.std.specs.Prelude.{◌≡◌, ◌≢◌, ◌⊎◌, ◌+◌, ◌&&◌, Some, None, true, false, not, min, nat_lt, IfSome};
+ghost use Rattle.std.specs.Prelude.{if◌then◌else◌};
 ghost use Rattle.http_server.specs.Connection.{config_of};
 ghost use Rattle.http_server.specs.Exchange.{Calls};
 ghost use Rattle.node_control.specs.inner.Clients.{IsDoneThere, idle_since, is_late, is_quiet, is_spent};

@@ -1,19 +1,24 @@
 //! The control socket: a Unix socket, for figures alone a TCP port too, and the clients of both.
 
 ghost use Rattle.std.specs.Prelude.{◌≡◌, ◌<◌, ◌&&◌, length, nat_le, not, true, Some, None, unwrap_or, if◌then◌else◌};
+ghost use Rattle.std.specs.Prelude.{IfSome, slice_get};
+ghost use Rattle.http_server.specs.Exchange.{Calls};
 ghost use Rattle.node_requests.specs.Health.{health};
 ghost use Rattle.std.specs.List.{list_any};
 ghost use Rattle.node_loop.specs.Hosting.{AsksUpTo};
+ghost use Rattle.node_control.specs.declared.client.Client.{Client};
 ghost use Rattle.node_control.specs.declared.control.TheConstants.{CHANGES};
 ghost use Rattle.node_control.specs.inner.Clients.{earliest, has_room, most_silent, without};
 ghost use Rattle.node_control.specs.inner.Ending.{has_more, has_more_to_send};
 ghost use Rattle.node_control.specs.inner.Handling.{IsKept};
 ghost use Rattle.node_control.specs.inner.Runs.{AsksWithin, ServesFigures};
+ghost use Rattle.node_control.specs.inner.Serving.{calls_of};
 
 use crate::client::{Client, Look};
 use crate::noting::say;
 use crate::service::HttpService;
 use crate::stream::{Listener, Stream};
+use http_server::Service;
 use mio::unix::SourceFd;
 use mio::{Events, Interest, Poll, Token};
 use node_requests::Health;
@@ -300,6 +305,11 @@ impl Entrance {
     /// Does what can be done at once for a client: one read, one answer, one write. The client beyond the others is let
     /// go behind its first answer, so that it is there for the next client.
     fn look_at<R: Records>(&mut self, place: usize, service: &mut HttpService<R>, now: u64) -> Look
+        ensures answers { IfSome (slice_get self.old.clients.items place) (λ client. (left : Client) ×
+            Calls ⟦<HttpService<R> as Service>⟧.answers
+            (record service.old { is_spare = nat_le self.old.most place }) service.new
+            (calls_of client) (calls_of left)) }
+        ensures nobody { slice_get self.old.clients.items place ≡ None → service.new ≡ service.old }
         ensures asks { AsksWithin service.old service.new }
         ensures figures { ServesFigures service.old service.new }
         ensures kept { IsKept service.old service.new }
@@ -443,7 +453,8 @@ impl ControlSocket {
     /// The node's health, if it is to be said, since it is another than was said last: then it is noted.
     fn changed<R: Records>(&mut self, service: &HttpService<R>) -> Option<Health>
         ensures said { result ≡ (if not (⟦<Health as PartialEq>⟧.eq
-            (health service.now.handler.node service.now.counters) self.old.health) && nat_le START service.now.counters.up
+            (health service.now.handler.node service.now.counters) self.old.health)
+            && nat_le START service.now.counters.up
             then Some (health service.now.handler.node service.now.counters) else None) }
         ensures noted { self.new ≡ record self.old { health = unwrap_or result self.old.health } }
     {

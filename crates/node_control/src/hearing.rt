@@ -1,6 +1,7 @@
 //! Who is heard, on standard error.
 
 ghost use Rattle.std.specs.Prelude.{◌≡◌, ◌||◌};
+ghost use Rattle.node_control.specs.Observers.{unheard};
 ghost use Rattle.node_control.specs.inner.Hearing.{after_round, all_heard, count_heard, heard_by, is_within, judged};
 ghost use Rattle.node_control.specs.inner.Hearing.{lacking_since, said_at, says_caught_up, says_end, with_end};
 
@@ -68,7 +69,9 @@ fn is_within(since: u64, now: u64, seconds: u64) -> bool
 
 impl Hearing {
     /// Nobody was heard yet.
-    pub(crate) fn new(m: Membership, is_quiet: bool) -> Hearing {
+    pub(crate) fn new(m: Membership, is_quiet: bool) -> Hearing
+        ensures { result ≡ unheard m is_quiet }
+    {
         Hearing {
             m,
             heard: [0; MEMBERS],
@@ -205,8 +208,8 @@ impl Hearing {
         self.say_majority(rt, now);
     }
 
-    /// Whether it is to be written that the node has caught up, since it lacked for long what others have. Since when it
-    /// lacks that is noted.
+    /// Whether it is to be written that the node has caught up, since it lacked for long what others have. Since when
+    /// it lacks that is noted.
     fn catches_up(&mut self, is_lacking: bool, now: u64) -> bool
         ensures said { result ≡ says_caught_up is_lacking now self.old.lacking self.old.is_quiet }
         ensures noted { self.new ≡ record self.old { lacking = lacking_since is_lacking now self.old.lacking } }

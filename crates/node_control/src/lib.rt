@@ -25,7 +25,8 @@
 //!   rounds it asks eight changes at most, or handles one other request.
 //! - **A ninth connection is accepted and answered 503**, but for `health` and `stop`: what a connection is for is in
 //!   its first request. It is the last of the list, so once another one closes it is one of the eight.
-//! - **No clause says that a change which is asked came from a client.** std doesn't say what a socket gives, and
+//! - **No clause of a run says that a change which is asked came from a client.** One look at a client changes the node
+//!   by the calls of that client's connection and by nothing else. But std doesn't say what a socket gives, and
 //!   `http_server` doesn't say for which request a service was called last if it is out of memory for the answer. A row
 //!   of pfx shows that nothing is learned where no client asks.
 //! - **Metrics over TCP are a second entrance of the same control socket** (`--metrics`), at an address of this machine

@@ -1,10 +1,12 @@
 //! What is seen of a node as it runs.
 
 ghost use Rattle.std.specs.Prelude.{◌≡◌, ◌==◌, ◌||◌, not, if◌then◌else◌, map, length, IfOk, string_bytes};
+ghost use Rattle.node_control.specs.Observers.{HasSeenNothing, first_rows};
 ghost use Rattle.node_control.specs.inner.Watching.{proposed_by, proposed_after, proposed_then};
 ghost use Rattle.node_control.specs.inner.Watching.{is_proposed, stood_since, seconds_since};
-ghost use Rattle.node_control.specs.inner.Observing.{IsShown, begun, counted, in_all, is_nack, noted, seen_of, stood_at};
-ghost use Rattle.node_control.specs.inner.Rows.{is_due, sampled, reported, sent_more, heard_from, rows_after, first_rows};
+ghost use Rattle.node_control.specs.inner.Observing.{IsShown, begun, counted, in_all, is_nack, noted, seen_of};
+ghost use Rattle.node_control.specs.inner.Observing.{stood_at};
+ghost use Rattle.node_control.specs.inner.Rows.{is_due, sampled, reported, sent_more, heard_from, rows_after};
 
 use crate::hearing::Hearing;
 use node_loop::{Progress, RoundCounts};
@@ -253,7 +255,9 @@ impl Observer {
         m: Membership,
         has_packets: bool,
         is_quiet: bool,
-    ) -> Result<Observer, AllocError> {
+    ) -> Result<Observer, AllocError>
+        ensures { IfOk result (HasSeenNothing m has_packets is_quiet) }
+    {
         let rows = first_rows(alloc, m)?;
         Ok(Observer {
             rows,
@@ -274,7 +278,11 @@ impl Observer {
     }
 
     /// What is counted as a node starts: a row for each other member, and nothing that came. The members listen there.
-    pub fn first_counters(&self, alloc: Global, members: &str) -> Result<Counters, AllocError>
+    pub(crate) fn first_counters(
+        &self,
+        alloc: Global,
+        members: &str,
+    ) -> Result<Counters, AllocError>
         ensures stood { IfOk result (λ t. t.stood ≡ 0) }
         ensures members { IfOk result (λ t. string_bytes t.members ≡ members.now) }
         ensures peers { IfOk result (λ t. t.peers.items ≡ map (reported 0) self.entry.now.rows.items) }

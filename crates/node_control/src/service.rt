@@ -9,7 +9,8 @@ ghost use Rattle.node_requests.specs.Answers.{answer_value};
 ghost use Rattle.node_requests.specs.Routing.{routed_value};
 ghost use Rattle.node_control.specs.inner.Answering.{standing_fields, answer_fields, content_type};
 ghost use Rattle.node_control.specs.inner.Asking.{accepts_json, asked_for, is_of_figures};
-ghost use Rattle.node_control.specs.inner.Handling.{Says, IsAnswered, IsKept, IsTurnedAway, IsPassedOn, HandledAs, IsHandled};
+ghost use Rattle.node_control.specs.inner.Handling.{Says, IsAnswered, IsKept, IsTurnedAway, IsPassedOn, HandledAs};
+ghost use Rattle.node_control.specs.inner.Handling.{IsHandled};
 ghost use Rattle.node_control.specs.inner.Handling.{is_served, is_urgent, is_change, is_read};
 ghost use Rattle.node_control.specs.inner.Handling.{waiting, no_text, not_found};
 

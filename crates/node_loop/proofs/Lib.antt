@@ -1,5 +1,6 @@
 pub mod Among
 mod Kept
+mod Counting
 mod Given
 pub mod Chains
 pub mod Looking

@@ -13,4 +13,6 @@ pub mod Pacing
 pub mod Living
 pub mod inner
 pub mod Asking
+pub mod Counting
+pub mod Counts
 pub mod Lives

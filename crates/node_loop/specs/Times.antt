@@ -27,8 +27,8 @@ times_in (TimerEvent.Ends ∷ ts) = times_in ts
 abbrev pub LooksAt : (times : List ℕ) → (before after : List TimerEvent → Type 0) → Type 0
 LooksAt times before after = (more : List TimerEvent) × (times_in more ≡ times) × Adds before after more
 
--- The clock was read once for each time that the timer was given what is seen, and each of these is how long it was then
--- since the start.
+-- The clock was read once for each time that the timer was given what is seen, and each of these is how long it was
+-- then since the start.
 -- Example: two rounds: two readings.
 abbrev pub IsTimed : (start : Reading) → (was is : List Reading → Type 0) →
     (before after : List TimerEvent → Type 0) → Type 0

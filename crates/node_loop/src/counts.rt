@@ -1,5 +1,11 @@
 //! What went over the wire in a round.
 
+ghost use Rattle.std.specs.Prelude.{◌≡◌, if◌then◌else◌};
+ghost use Rattle.node_loop.specs.Counts.{nothing_of, one_in, one_more, one_out};
+
+/// The most members.
+const MEMBERS: usize = 15;
+
 /// What went over the wire in a round, for whoever counts it. What is sent again isn't among it.
 #[derive(Clone, Copy, PartialEq, Eq)]
 pub struct RoundCounts {
@@ -19,9 +25,22 @@ pub struct RoundCounts {
     pub longest: usize,
 }
 
+/// How many datagrams were not sent, with one more that was sent or not.
+fn unsent_after(unsent: u32, is_sent: bool) -> u32
+    ensures { result ≡ (if is_sent then unsent else one_more unsent) }
+{
+    if is_sent {
+        unsent
+    } else {
+        unsent.saturating_add(1)
+    }
+}
+
 impl RoundCounts {
     /// Nothing went over the wire of this member.
-    pub(crate) fn new(me: u8) -> RoundCounts {
+    pub(crate) fn new(me: u8) -> RoundCounts
+        ensures { result ≡ nothing_of me }
+    {
         RoundCounts {
             me,
             came: 0,
@@ -34,12 +53,16 @@ impl RoundCounts {
     }
 
     /// The same of the next round.
-    pub(crate) fn next(self) -> RoundCounts {
+    pub(crate) fn next(self) -> RoundCounts
+        ensures { result ≡ nothing_of self.me }
+    {
         RoundCounts::new(self.me)
     }
 
     /// One datagram more came, of that many bytes.
-    pub(crate) fn count_in(&mut self, length: usize) {
+    pub(crate) fn count_in(&mut self, length: usize)
+        ensures { self.new ≡ one_in length self.old }
+    {
         self.came = self.came.saturating_add(1);
         if length == 0 {
             self.dropped = self.dropped.saturating_add(1);
@@ -47,16 +70,16 @@ impl RoundCounts {
     }
 
     /// One more was handed over for this member, of that many bytes.
-    pub(crate) fn count_out(&mut self, to: u8, length: usize, is_sent: bool) {
-        if !is_sent {
-            self.unsent = self.unsent.saturating_add(1);
-        }
-        let Some(sent) = self.sent.get_mut(usize::from(to)) else {
-            return;
-        };
-        *sent = sent.saturating_add(1);
-        if to != self.me {
-            self.longest = self.longest.max(length);
+    pub(crate) fn count_out(&mut self, to: u8, length: usize, is_sent: bool)
+        ensures { self.new ≡ one_out to length is_sent self.old }
+    {
+        self.unsent = unsent_after(self.unsent, is_sent);
+        let place = usize::from(to);
+        if place < MEMBERS {
+            self.sent[place] = self.sent[place].saturating_add(1);
+            if to != self.me {
+                self.longest = self.longest.max(length);
+            }
         }
     }
 }

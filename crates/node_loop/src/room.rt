@@ -1,6 +1,7 @@
 //! What one turn after another uses.
 
 ghost use Rattle.std.specs.Prelude.{◌≡◌, [], IfOk, length};
+ghost use Rattle.node_loop.specs.Counts.{nothing_of};
 ghost use Rattle.node_loop.specs.Resends.{kept_of, requests_of};
 
 use crate::counts::RoundCounts;
@@ -54,6 +55,7 @@ impl Room {
         ensures kept { IfOk result (λ r. kept_of r.resender ≡ []) }
         ensures requests { IfOk result (λ r. requests_of r.resender ≡ []) }
         ensures hears { IfOk result (λ r. r.hears_asks ≡ hears_asks) }
+        ensures counts { IfOk result (λ r. r.counts ≡ nothing_of m.now.me) }
     {
         let bytes = vec![in alloc; 0; ROOM_BYTES]?;
         let heads = Vec::with_capacity(alloc, HEADS)?;

@@ -5,6 +5,7 @@ ghost use Rattle.px_replica.specs.Faults.{fault_of};
 ghost use Rattle.pf_node.specs.Nodes.{replica_of, applied_of};
 ghost use Rattle.px_transport.specs.Wires.{Adds, Moves, gives, hands};
 ghost use Rattle.node_loop.specs.Again.{AreAmong};
+ghost use Rattle.node_loop.specs.Counts.{all_out, but_unsent};
 ghost use Rattle.node_loop.specs.Resends.{kept_of, requests_of};
 ghost use Rattle.node_loop.specs.Turns.{Acts, Turned, handed_over, standing};
 
@@ -26,6 +27,7 @@ pub(crate) fn send_all<W: Wire>(
     ensures handed { Adds (W.traffic wire.old) (W.traffic wire.new) (hands (handed_over out.now)) }
     ensures kept { AreAmong (kept_of resender.new) (kept_of resender.old ++ handed_over out.now) }
     ensures requests { requests_of resender.new ≡ requests_of resender.old }
+    ensures counts { but_unsent counts.new ≡ all_out out.now (but_unsent counts.old) }
     ensures same { W.identity wire.new ≡ W.identity wire.old }
 {
     for datagram in out {

@@ -1,16 +1,14 @@
 //! Which action of pfctl's the parameters of a listing ask for.
 
 ghost use Rattle.std.specs.Prelude.{◌≡◌, [], IfOk, map, codes};
-ghost use Rattle.pf_addr.specs.Spelling.{addr_of};
 ghost use Rattle.pf_arguments.specs.Answers.{Answers};
-ghost use Rattle.pf_arguments.specs.Asked.{path_given, table_given, asked, each};
-ghost use Rattle.pf_arguments.specs.inner.Answers.{PathGiven, Reads, lowest_of, vec_read};
+ghost use Rattle.pf_arguments.specs.Asked.{path_given, table_given, asked};
+ghost use Rattle.pf_arguments.specs.inner.Answers.{PathGiven};
 ghost use Rattle.node_requests.specs.Routing.{showing, on_table};
 ghost use Rattle.node_requests.specs.inner.Parameters.{pairs_of};
 
 use crate::query::{Parameter, value_of};
-use pf_addr::{Addr, AddrFault, parse_addr};
-use pf_arguments::{Action, CommandFault, Path, TableName};
+use pf_arguments::{Action, CommandFault, Path, TableName, addresses};
 use pf_config::{ConfigFault, parse_path};
 use std::alloc::{AllocError, Global};
 
@@ -61,41 +59,6 @@ pub(crate) fn table(alloc: Global, given: &[Parameter]) -> Result<Action, Comman
     };
     let path = path_in(alloc, given)?;
     Ok(Action::TableShow(path, table))
-}
-
-/// The lower of a fault and one that came before it, if one did.
-fn lowest(found: Option<AddrFault>, fault: AddrFault) -> AddrFault
-    ensures { result ≡ lowest_of found fault }
-{
-    match found {
-        None => fault,
-        Some(first) => {
-            if fault.code() < first.code() {
-                fault
-            } else {
-                first
-            }
-        }
-    }
-}
-
-/// The addresses that the lines spell, or the lowest fault of any.
-#[tactic(auto, using(pf_arguments::proofs::Each::one_value, pf_arguments::proofs::Each::one_fault))]
-fn addresses(alloc: Global, lines: &[&str]) -> Result<Vec<Addr>, CommandFault>
-    ensures { Reads (vec_read result) (each addr_of (map (λ l. l.now) lines.now)) }
-{
-    let mut list = Vec::new(alloc);
-    let mut found = None;
-    for line in lines {
-        match parse_addr(line) {
-            Ok(addr) => list.push(addr)?,
-            Err(fault) => found = Some(lowest(found, fault)),
-        }
-    }
-    match found {
-        Some(fault) => Err(CommandFault::BadAddress(fault)),
-        None => Ok(list),
-    }
 }
 
 /// The addresses of a line each, looked up in a table.

@@ -12,7 +12,8 @@ use Rattle.pf_rules.specs.declared.ruleset.TableEntry as rust
 use Rattle.pf_entry.specs.Seen.{address_of}
 use Rattle.pf_entry.specs.Owned.{addresses_value}
 use Rattle.pf_arguments.specs.declared.fault.CommandFault.{CommandFault}
-use Rattle.pf_arguments.specs.inner.Answers.{lowest_of, ReadsEntries, vec_read}
+use Rattle.pf_arguments.specs.Answers.{vec_read}
+use Rattle.pf_arguments.specs.inner.Answers.{lowest_of, ReadsEntries}
 use denote.Ref.{Bor}
 
 -- values and the lowest fault of words so far, before what the others come to

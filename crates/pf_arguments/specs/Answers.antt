@@ -1,6 +1,8 @@
 -- What the code's values stand for, and what its calls answer.
-use Rattle.std.specs.Prelude.{◌≡◌, ℕ, false, Option, Some, None, Result, Ok, Err}
+use Rattle.std.specs.Prelude.{◌≡◌, ℕ, false, List, Option, Some, None, Result, Ok, Err, Vec}
 use Rattle.pf_addr.specs.Faults.{fault_code}
+use Rattle.pf_addr.specs.declared.addr.Addr.{Addr}
+use Rattle.pf_addr.specs.declared.fault.AddrFault.{AddrFault}
 use Rattle.pf_entry.specs.Owned.{command_value}
 use Rattle.pf_arguments.specs.declared.action.Action.{Action}
 use Rattle.pf_arguments.specs.declared.action.Action.TheVariants as action
@@ -26,6 +28,26 @@ action_value (action.ShowTables path) = ShowTables path
 action_value action.ShowAnchors = ShowAnchors
 action_value (action.TableShow path table) = TableShow path table
 action_value (action.TableTest path table list) = TableTest path table list.items
+
+-- ---- addresses
+
+abbrev pub vec_read : {X A : Type 0} → Result (Vec X A) CommandFault → Result (List X) CommandFault
+vec_read (Ok v) = Ok v.items
+vec_read (Err fault) = Err fault
+
+-- of the faults of words that spell no values this is the lowest; nothing is said of out of memory
+abbrev pub FailsToRead : {X : Type 0} → CommandFault → Result (List X) AddrFault → Type 0
+FailsToRead Memory read = Unit {0}
+FailsToRead Usage read = ⊥
+FailsToRead BadPath read = ⊥
+FailsToRead (BadAddress fault) read = read ≡ Err fault
+FailsToRead TooLong read = ⊥
+
+-- the addresses that words spell, or the lowest fault
+-- Example: 10.0.0.1 and x: the fault of x.
+abbrev pub Reads : Result (List Addr) CommandFault → Result (List Addr) AddrFault → Type 0
+Reads (Ok list) read = read ≡ Ok list
+Reads (Err fault) read = FailsToRead fault read
 
 -- ---- actions
 

@@ -3,7 +3,8 @@
 ghost use Rattle.std.specs.Prelude.{◌≡◌, map, length, IfOk};
 ghost use Rattle.pf_addr.specs.Spelling.{addr_of, prefix_of};
 ghost use Rattle.pf_arguments.specs.Asked.{entry_of, each, lower, signed};
-ghost use Rattle.pf_arguments.specs.inner.Answers.{entry_read, vec_read, Reads, ReadsEntries, lowest_of};
+ghost use Rattle.pf_arguments.specs.Answers.{Reads, vec_read};
+ghost use Rattle.pf_arguments.specs.inner.Answers.{entry_read, lowest_of, ReadsEntries};
 
 use crate::fault::CommandFault;
 use pf_addr::{Addr, AddrFault, parse_addr, parse_prefix};
@@ -75,7 +76,7 @@ fn read_entries(alloc: Global, words: &[&str]) -> Result<Vec<TableEntry>, Comman
 }
 
 /// The addresses that the words spell, or the lowest fault of any.
-pub(crate) fn addresses(alloc: Global, words: &[&str]) -> Result<Vec<Addr>, CommandFault>
+pub fn addresses(alloc: Global, words: &[&str]) -> Result<Vec<Addr>, CommandFault>
     ensures { Reads (vec_read result) (each addr_of (map (λ w. w.now) words.now)) }
 {
     let mut list = Vec::new(alloc);

@@ -2,7 +2,8 @@
 //!
 //! # Organization
 //!
-//! - `Packet` and `parse_packet`: a packet as a record, and its text; `packets_as_spelled`: which strings spell one.
+//! - `Packet` and `parse_packet`: a packet as a record, and its text; `packets_as_spelled`: which strings spell one;
+//!   `without_digits`: the name of which an interface is one.
 //! - `verdict`: the verdict of a configuration; `verdict_flat`: that of one ruleset alone.
 //! - `show_verdict`: a verdict as text; `verdict_for`: that for a packet's text.
 //!
@@ -35,7 +36,7 @@ pub use answer::{Spot, Verdict};
 pub use decide::{verdict, verdict_flat};
 pub use fault::PacketFault;
 pub use laws::packets_as_spelled;
-pub use packet::Packet;
+pub use packet::{Packet, without_digits};
 pub use reading::parse_packet;
 pub use show::{show_verdict, verdict_for};
 pub use word::words as words_between_blanks;

@@ -97,7 +97,7 @@ pub(crate) fn stem(name: &[u8]) -> usize
 
 /// The name without the digits at its end.
 #[tactic(auto, using(crate::proofs::Digits::no_digit, crate::proofs::Digits::one_digit))]
-fn without_digits(name: &[u8]) -> &[u8]
+pub fn without_digits(name: &[u8]) -> &[u8]
     ensures { result.now ≡ without_digits name.now }
 {
     let mut rest = name;

@@ -8,33 +8,9 @@ ghost use Rattle.pf_expansion.specs.declared.judge.TheConstants.{MOST_RULES};
 
 use crate::cause::Cause;
 use crate::judge::judge_conditions;
-use pf_rules::{Action, Conditions, FlagTest, Policy, Rule, TcpFlags};
+use pf_rules::{Action, Conditions, FlagTest, Policy, Rule};
 use pf_statements::{WrittenAction, WrittenRule};
 use std::alloc::{AllocError, Global};
-
-/// The flags of the packet that begins a connection: of SYN and ACK just SYN.
-const SYN_OF_SYN_ACK: FlagTest = FlagTest::Just {
-    set: TcpFlags {
-        fin: false,
-        syn: true,
-        rst: false,
-        psh: false,
-        ack: false,
-        urg: false,
-        ece: false,
-        cwr: false,
-    },
-    of: TcpFlags {
-        fin: false,
-        syn: true,
-        rst: false,
-        psh: false,
-        ack: true,
-        urg: false,
-        ece: false,
-        cwr: false,
-    },
-};
 
 /// What the rule does: a plain `block` follows the policy.
 fn resolved(policy: Policy, action: WrittenAction) -> Action
@@ -66,7 +42,7 @@ pub(crate) fn tested_flags(keep: bool, written: Option<FlagTest>) -> FlagTest
 {
     match written {
         Some(test) => test,
-        None if keep => SYN_OF_SYN_ACK,
+        None if keep => FlagTest::SYN_OF_SYN_ACK,
         None => FlagTest::Any,
     }
 }

@@ -97,3 +97,29 @@ pub enum FlagTest {
     Any,
     Just { set: TcpFlags, of: TcpFlags },
 }
+
+impl FlagTest {
+    /// That of the packet that begins a connection: of SYN and ACK just SYN (`flags S/SA`).
+    pub const SYN_OF_SYN_ACK: FlagTest = FlagTest::Just {
+        set: TcpFlags {
+            fin: false,
+            syn: true,
+            rst: false,
+            psh: false,
+            ack: false,
+            urg: false,
+            ece: false,
+            cwr: false,
+        },
+        of: TcpFlags {
+            fin: false,
+            syn: true,
+            rst: false,
+            psh: false,
+            ack: true,
+            urg: false,
+            ece: false,
+            cwr: false,
+        },
+    };
+}

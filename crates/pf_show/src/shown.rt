@@ -369,29 +369,8 @@ impl fmt::Display for FlagsText {
     fn fmt<W: fmt::Write>(&self, f: &mut fmt::Formatter<W>) -> fmt::Result {
         match self.0 {
             FlagTest::Any => f.write_str("any"),
-            // What is asked of the packet that begins a connection, in most rules.
-            FlagTest::Just {
-                set: TcpFlags {
-                    fin: false,
-                    syn: true,
-                    rst: false,
-                    psh: false,
-                    ack: false,
-                    urg: false,
-                    ece: false,
-                    cwr: false,
-                },
-                of: TcpFlags {
-                    fin: false,
-                    syn: true,
-                    rst: false,
-                    psh: false,
-                    ack: true,
-                    urg: false,
-                    ece: false,
-                    cwr: false,
-                },
-            } => f.write_str("S/SA"),
+            // in most rules
+            test if test == FlagTest::SYN_OF_SYN_ACK => f.write_str("S/SA"),
             FlagTest::Just { set, of } => write!(f, "{}/{}", Letters(set), Letters(of)),
         }
     }

@@ -8,7 +8,8 @@
 //! the same line, what it writes, each line of its standard error behind `! `, and `-- STATUS`.
 
 use crate::line::{BEGIN, Line, LineFault, arguments_of, line_of, mode_of};
-use crate::running::{run_line, subcommand_of};
+use crate::running::subcommand_of;
+use crate::telling::run_line;
 use bstr::ByteSlice;
 use clap::{Arg, ArgAction, Command};
 use cli_io::{InputFault, Status, misused, out_of_memory, read_all};
@@ -134,7 +135,8 @@ fn status_of<W: Write>(
         "show" => Ok(run_kept(rt, arguments, kept, writer)),
         _ => {
             let input = input_of(rt.alloc(), line, kept.as_slice()).map_err(|_| LineFault::Memory)?;
-            Ok(run_line(rt, arguments, &mut input.as_slice(), writer, errors, false))
+            let reader = &mut input.as_slice();
+            Ok(run_line(rt, *rt, arguments, reader, writer, errors, false).status())
         }
     }
 }

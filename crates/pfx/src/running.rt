@@ -1,15 +1,62 @@
-//! One command line, run by the crate of its subcommand.
+//! The subcommands, run by their crates, and how the program ends.
 
-use crate::telling::{Heard, tell};
+ghost use Rattle.std.specs.Prelude.{◌≡◌, ◌<◌};
+ghost use Rattle.std.specs.Process.{exit_status};
+ghost use Rattle.cli_io.specs.Status.{code_of};
+
+use crate::batch::run_batch;
 use crate::version::write_version;
 use cli_ask::run_control_ask;
 use cli_follow::run_follow;
-use cli_io::{REFUSALS, Status};
+use cli_io::{REFUSALS, Status, out_of_memory};
 use cli_nft::{asks_nft, run_nft};
 use cli_node::run_net;
 use cli_show::run_show;
 use pf_tool::run;
-use std::io::{Read, Write};
+use std::io::{self, Eprint, ErrorKind, Read, Write};
+use std::process::{ExitCode, Termination};
+
+/// How the program ends, or a line of a batch. It is made here alone, and isn't dropped: whoever runs something ends as
+/// that did.
+pub(crate) struct Ended {
+    status: Status,
+}
+
+impl Ended {
+    /// Whether something was refused.
+    pub(crate) fn is_refused(&self) -> bool {
+        self.status == Status::Refused
+    }
+
+    /// How it ended.
+    pub(crate) fn status(self) -> Status
+        ensures { result ≡ self.status }
+    {
+        let Ended { status } = self;
+        status
+    }
+}
+
+impl Termination for Ended {
+    fn report<R: Eprint>(self, _rt: &R) -> ExitCode
+        ensures { exit_status result ≡ code_of self.status }
+    {
+        ExitCode::from(self.status().code())
+    }
+}
+
+/// Who runs a subcommand. A value is used up by the run, and isn't dropped: so each is run once.
+pub(crate) trait Runner {
+    /// Does what the arguments ask for, as the crate of their subcommand has it. All subcommands but `batch`.
+    fn run<R: Read, W: Write, E: Write>(
+        self,
+        arguments: &[&str],
+        reader: &mut R,
+        writer: &mut W,
+        errors: &mut E,
+        is_terminal: bool,
+    ) -> Ended;
+}
 
 /// The first argument behind the program's name, empty where there is none.
 pub(crate) fn subcommand_of<'a>(arguments: &[&'a str]) -> &'a str {
@@ -138,35 +185,42 @@ fn run_plain<R: Read, W: Write, E: Write>(
     }
 }
 
-/// The same on a terminal, with what the refusal means.
-fn run_explained<R: Read, W: Write, E: Write>(
-    rt: &HostRuntime,
-    arguments: &[&str],
-    reader: &mut R,
-    writer: &mut W,
-    errors: &mut E,
-) -> Status {
-    let mut heard = Heard::new(writer);
-    let status = run_plain(rt, arguments, reader, &mut heard, errors, true);
-    match heard.refusal {
-        Some(code) if status == Status::Refused => tell(rt, arguments, code, errors),
-        _ => {}
+impl Runner for HostRuntime {
+    fn run<R: Read, W: Write, E: Write>(
+        self,
+        arguments: &[&str],
+        reader: &mut R,
+        writer: &mut W,
+        errors: &mut E,
+        is_terminal: bool,
+    ) -> Ended {
+        Ended {
+            status: run_plain(&self, arguments, reader, writer, errors, is_terminal),
+        }
     }
-    status
 }
 
-/// Does what the arguments ask for, the program's name first; `is_terminal` says whether `errors` is a terminal. All
-/// subcommands but `batch`.
-pub(crate) fn run_line<R: Read, W: Write, E: Write>(
+/// The same of `batch`.
+pub(crate) fn run_lines<W: Write, E: Write>(
     rt: &HostRuntime,
     arguments: &[&str],
-    reader: &mut R,
     writer: &mut W,
     errors: &mut E,
-    is_terminal: bool,
-) -> Status {
-    match subcommand_of(arguments) {
-        "ask" | "show" if is_terminal => run_explained(rt, arguments, reader, writer, errors),
-        _ => run_plain(rt, arguments, reader, writer, errors, is_terminal),
+) -> Ended {
+    Ended {
+        status: run_batch(rt, arguments, writer, errors),
+    }
+}
+
+/// How the program ends where the system doesn't give it its arguments.
+pub(crate) fn without_arguments(rt: &HostRuntime, error: &io::Error) -> Ended
+    ensures { 0 < code_of result.status }
+{
+    Ended {
+        status: if error.kind() == ErrorKind::OutOfMemory {
+            out_of_memory(&mut io::writer(rt))
+        } else {
+            Status::Usage
+        },
     }
 }

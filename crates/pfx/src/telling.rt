@@ -1,16 +1,18 @@
-//! What is printed for people of a refusal that an argument's crate only prints the number of.
+//! One command line, and what is printed for people of a refusal that an argument's crate only prints the number of.
 
+use crate::running::{Ended, Runner, subcommand_of};
 use cli_io::{REFUSALS, Shown, explanation, knock};
-use std::io::{self, Write};
+use std::io::{self, Read, Write};
+use std::net::Net;
 
 /// That nobody answers at a control socket.
 const NOBODY: u8 = 85;
 
 /// A writer that keeps the number of the refusal that was written last.
 #[derive(Drop)]
-pub(crate) struct Heard<'w, W> {
+struct Heard<'w, W> {
     inner: &'w mut W,
-    pub(crate) refusal: Option<u8>,
+    refusal: Option<u8>,
 }
 
 /// The number of the refusal that a printed line is.
@@ -30,7 +32,7 @@ fn refusal_in(printed: &[u8]) -> Option<u8> {
 
 impl<'w, W> Heard<'w, W> {
     /// A writer over another.
-    pub(crate) fn new(inner: &'w mut W) -> Heard<'w, W> {
+    fn new(inner: &'w mut W) -> Heard<'w, W> {
         Heard {
             inner,
             refusal: None,
@@ -69,7 +71,7 @@ fn value_of<'s>(arguments: &[&'s str], option: &str) -> Option<&'s str> {
 }
 
 /// Says what a refusal means, and of a control socket at which nobody answers what the system says.
-pub(crate) fn tell<E: Write>(rt: &HostRuntime, arguments: &[&str], code: u8, errors: &mut E) {
+fn tell<RT: Net, E: Write>(rt: &RT, arguments: &[&str], code: u8, errors: &mut E) {
     // that people can't be told changes nothing
     if code == NOBODY {
         if let Some(path) = value_of(arguments, "--control") {
@@ -80,5 +82,42 @@ pub(crate) fn tell<E: Write>(rt: &HostRuntime, arguments: &[&str], code: u8, err
     }
     if let Some(row) = explanation(&REFUSALS, code) {
         let _written = writeln!(errors, "pfx: {} ({code}), see pfx explain {code}", row.name);
+    }
+}
+
+/// Does what the arguments ask for on a terminal, with what a refusal means.
+fn run_explained<RT: Net, T: Runner, R: Read, W: Write, E: Write>(
+    rt: &RT,
+    runner: T,
+    arguments: &[&str],
+    reader: &mut R,
+    writer: &mut W,
+    errors: &mut E,
+) -> Ended {
+    let mut heard = Heard::new(writer);
+    let ended = runner.run(arguments, reader, &mut heard, errors, true);
+    match heard.refusal {
+        Some(code) if ended.is_refused() => tell(rt, arguments, code, errors),
+        _ => {}
+    }
+    ended
+}
+
+/// Does what the arguments ask for, the program's name first; `is_terminal` says whether `errors` is a terminal. All
+/// subcommands but `batch`.
+pub(crate) fn run_line<RT: Net, T: Runner, R: Read, W: Write, E: Write>(
+    rt: &RT,
+    runner: T,
+    arguments: &[&str],
+    reader: &mut R,
+    writer: &mut W,
+    errors: &mut E,
+    is_terminal: bool,
+) -> Ended {
+    match subcommand_of(arguments) {
+        "ask" | "show" if is_terminal => {
+            run_explained(rt, runner, arguments, reader, writer, errors)
+        }
+        _ => runner.run(arguments, reader, writer, errors, is_terminal),
     }
 }

@@ -79,14 +79,16 @@ EndsAs {R} G m sealing hears members given is_closed made result =
     × (IsUnrun G m given outcome back ⊎ RunsHere G m sealing hears members given outcome back made)
 
 -- the same with these keys, where the packets of this start can be sealed: else it is out of memory, or 95
-abbrev pub EndsWith : {R : Type 0} → Ghosts R → Membership → Option Keys → (is_start : Start → Type 0) → (hears : Bool) →
+abbrev pub EndsWith : {R : Type 0} → Ghosts R → Membership → Option Keys → (is_start : Start → Type 0) →
+    (hears : Bool) →
     (members : List (List ℕ)) → (given : R) → (is_closed : R → Type 0) → (made : Ended → Type 0) → Outcome → Type 0
 EndsWith G m keys is_start hears members given is_closed made result =
     ((sealing : Option Sealing) × (option_map (λ s. s.keys) sealing ≡ keys) × IfSome sealing (λ s. is_start s.start)
     × EndsAs G m sealing hears members given is_closed made result)
     ⊎ ((result ≡ Memory) ⊎ (result ≡ Refused 95))
 
--- the same over such a record of the member that has not failed, where there is one: else it is refused, or out of memory
+-- the same over such a record of the member that has not failed, where there is one: else it is refused, or out of
+-- memory
 abbrev pub EndsNew : {R : Type 0} → Ghosts R → Membership → Option Keys → (is_start : Start → Type 0) → (hears : Bool) →
     (members : List (List ℕ)) → (is_record is_closed : R → Type 0) → (made : Ended → Type 0) → Outcome → Type 0
 EndsNew {R} G m keys is_start hears members is_record is_closed made result =

@@ -1,5 +1,6 @@
 -- Whether a node's store is opened or made.
-use Rattle.std.specs.Prelude.{◌≡◌, ◌≢◌, ◌⊎◌, ◌||◌, ⊤, not, ℕ, Bool, true, false}
+use Rattle.std.specs.Prelude.{◌≡◌, ◌≢◌, ◌⊎◌, ◌||◌, ◌&&◌, ◌==◌, if◌then◌else◌, ⊤, not, ℕ, Bool, true, false}
+use Rattle.std.specs.Prelude.{List, ◌++◌, codes}
 use Rattle.sqlite.specs.State.{State, HasCleanDisk}
 use Rattle.sqlite.specs.Effect.{Database}
 use Rattle.px_store.specs.Formats.{schema_at}
@@ -9,6 +10,8 @@ use Rattle.px_wire.specs.declared.membership.Membership.{Membership}
 use Rattle.cli_node.specs.declared.outcome.Outcome.{Outcome}
 use Rattle.cli_node.specs.declared.outcome.Outcome.TheVariants.{Front, Stopped, Asked, Key, Refused, RefusedLine}
 use Rattle.cli_node.specs.declared.outcome.Outcome.TheVariants.{NoAnswer, Sound, Made, Memory, Unread}
+use Rattle.cli_node.specs.declared.database.Seen.{Seen}
+use Rattle.cli_node.specs.declared.database.Seen.TheVariants as seen
 use Rattle.cli_node.specs.declared.store.Found.{Found}
 use Rattle.cli_node.specs.declared.store.Found.TheVariants as found
 use Rattle.cli_node.specs.declared.store.Opening.{Opening}
@@ -19,9 +22,32 @@ use Rattle.cli_node.specs.declared.store.TheConstants.{NO_STORE, FILE_IS_THERE}
 abbrev pub identity_at : Membership → Identity
 identity_at m = record { cluster = m.cluster; members = m.members; node = m.me }
 
+-- no byte is there
+abbrev pub has_no_byte : Seen → Bool
+has_no_byte (seen.File size) = size == 0
+has_no_byte (seen.Another size) = size == 0
+has_no_byte seen.Nothing = true
+has_no_byte seen.Unsaid = true
+
+-- what is found of a store, by what is seen of its file and of its log of writes
+abbrev pub found_by : (file log : Seen) → Found
+found_by (seen.File size) log = if (size == 0) && has_no_byte log then found.Empty else found.Store
+found_by (seen.Another size) log = found.Other
+found_by seen.Nothing log = found.Nothing
+found_by seen.Unsaid log = found.Other
+
+-- what is found of the store at a path
+abbrev pub IsFoundAt : (is_seen : (path : List ℕ) → Seen → Type 0) → (path : List ℕ) → Found → Type 0
+IsFoundAt is_seen path f = (file : Seen) × (log : Seen) × is_seen path file × is_seen (path ++ codes "-wal") log
+    × (f ≡ found_by file log)
+
 -- no store is there: nothing, or a file without a byte
 abbrev pub IsNone : Found → Type 0
 IsNone f = (f ≡ found.Nothing) ⊎ (f ≡ found.Empty)
+
+-- no store is at a path
+abbrev pub HasNone : (is_seen : (path : List ℕ) → Seen → Type 0) → (path : List ℕ) → Type 0
+HasNone is_seen path = (f : Found) × IsFoundAt is_seen path f × IsNone f
 
 -- whether a start makes a store there
 abbrev pub is_made : (is_from_file is_new : Bool) → Found → Bool
@@ -50,8 +76,8 @@ pub record IsOpening (is_from_file is_new : Bool) (f : Found) (o : Opening) : Ty
   pub refused : (code : ℕ) → o ≡ Refuses code → IsRefused is_from_file is_new f code
 
 -- a database that was held, within a transaction or not, is now in this state, and what it held in its format is opened
-abbrev pub IsKept : (held : Database → (within : Bool) → Type 0) → (now : State) → (is_opened : Format → Database → Type 0) →
-    Type 0
+abbrev pub IsKept : (held : Database → (within : Bool) → Type 0) → (now : State) →
+    (is_opened : Format → Database → Type 0) → Type 0
 IsKept held now is_opened =
     (was : Database) × (within : Bool) × held was within
     × (HasCleanDisk now → (f : Format) → was.schema ≡ schema_at f → within ≡ false → is_opened f was)

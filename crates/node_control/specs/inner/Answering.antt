@@ -29,7 +29,8 @@ standing_fields n =
     ((codes "pfx-front", decimal (front (learned_by n))) ∷ []))
 
 -- those of an answer with this status and this kind of text: a client is to ask again behind 503, a second later
-abbrev pub answer_fields : {R : Type 0} {G : Ghosts R} → Node R G → (code : ℕ) → (kind : List ℕ) → List (List ℕ × List ℕ)
+abbrev pub answer_fields : {R : Type 0} {G : Ghosts R} → Node R G → (code : ℕ) → (kind : List ℕ) →
+    List (List ℕ × List ℕ)
 answer_fields n code kind =
     standing_fields n ++ ((codes "content-type", kind) ∷
     (if code == 503 then (codes "retry-after", codes "1") ∷ [] else []))

@@ -1,5 +1,6 @@
 -- What is seen of a node in a round, and what is counted of it then.
-use Rattle.std.specs.Prelude.{◌≡◌, ℕ, ◌+◌, ◌-◌, ◌/◌, ◌==◌, ◌&&◌, ◌||◌, Bool, true, false, not, List, [], ◌∷◌, length, map}
+use Rattle.std.specs.Prelude.{◌≡◌, ℕ, ◌+◌, ◌-◌, ◌/◌, ◌==◌, ◌&&◌, ◌||◌, Bool, true, false, not, List, [], ◌∷◌, length}
+use Rattle.std.specs.Prelude.{map}
 use Rattle.std.specs.Prelude.{max, nat_le, nat_lt, Option, if◌then◌else◌}
 use Rattle.px_wire.specs.Heads.{learned_below, proposal_in}
 use Rattle.px_wire.specs.declared.head.Head.{Head}
@@ -15,7 +16,8 @@ use Rattle.node_control.specs.inner.Rows.{up_to_max, sampled, reported, sent_mor
 use Rattle.node_control.specs.inner.Watching.{is_proposed, proposed_then, stood_since, seconds_since}
 
 -- what was seen by now: the members' rows, what was counted in all, how many datagrams came in the round, the time,
--- when what members show was kept last, the front and since when it has stood, the proposal of another member, how often
+-- when what members show was kept last, the front and since when it has stood, the proposal of another member, how
+-- often
 -- a proposal was refused by a higher round, and the most bytes of a datagram that fits no packet, since the front moved
 pub record Seen : Type 0 where
   pub rows : List Row
@@ -132,8 +134,8 @@ counted heads c s = all_noted heads (sent_in c (in_all (length heads) c s))
 
 -- ---- what is reported
 
--- What is counted for clients after a round that came to this. A turn that neither took a datagram nor is to be followed
--- by a wait was a tick.
+-- What is counted for clients after a round that came to this. A turn that neither took a datagram nor is to be
+-- followed by a wait was a tick.
 pub record IsShown (s : Seen) (made : Progress) (old new : Counters) : Type 0 where
   pub up : new.up ≡ s.now / 1000000
   pub stood : new.stood ≡ seconds_since s.since s.now

@@ -1,5 +1,5 @@
 -- What is counted of the other members, a row for each.
-use Rattle.std.specs.Prelude.{ℕ, suc, zero, ◌+◌, ◌-◌, ◌^◌, ◌==◌, Bool, List, [], ◌∷◌, ◌++◌, Option, Some, None, map, max, min, nat_le}
+use Rattle.std.specs.Prelude.{ℕ, ◌+◌, ◌-◌, ◌^◌, ◌==◌, Bool, List, [], ◌∷◌, Option, Some, None, map, max, min, nat_le}
 use Rattle.std.specs.Prelude.{if◌then◌else◌, option_map, slice_get, slice_index}
 use Rattle.px_wire.specs.declared.head.Head.{Head}
 use Rattle.px_wire.specs.Heads.{learned_below}
@@ -11,22 +11,6 @@ use Rattle.node_control.specs.inner.Watching.{seconds_since}
 -- a sum, up to 2^64 - 1
 abbrev pub up_to_max : ℕ → ℕ
 up_to_max n = min n (2 ^ 64 - 1)
-
--- nothing was counted of a member yet
-abbrev pub first_row : (node : ℕ) → Row
-first_row node = record {
-  node = node;
-  heard = None;
-  datagrams_in = 0;
-  datagrams_out = 0;
-  shown = 0;
-  earlier = 0 ∷ (0 ∷ (0 ∷ []));
-}
-
--- a row for each of n members but this one
-abbrev pub first_rows : (me n : ℕ) → List Row
-first_rows me zero = []
-first_rows me (suc n) = first_rows me n ++ (if n == me then [] else first_row n ∷ [])
 
 -- whether a second has passed since what members showed was kept last
 abbrev pub is_due : (last now : ℕ) → Bool

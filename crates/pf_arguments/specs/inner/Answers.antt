@@ -1,7 +1,6 @@
 -- What only code and proofs use beside `Answers`.
-use Rattle.std.specs.Prelude.{◌≡◌, List, map, Option, Some, None, Result, Ok, Err, Vec}
+use Rattle.std.specs.Prelude.{◌≡◌, List, map, Option, Some, None, Result, Ok, Err}
 use Rattle.std.specs.Option.{option_copied}
-use Rattle.pf_addr.specs.declared.addr.Addr.{Addr}
 use Rattle.pf_addr.specs.declared.fault.AddrFault.{AddrFault}
 use Rattle.pf_rules.specs.declared.ruleset.TableEntry as rust
 use Rattle.pf_rules.specs.Names.{Name}
@@ -11,8 +10,8 @@ use Rattle.pf_entry.specs.Owned.{addresses_value}
 use Rattle.pf_arguments.specs.declared.given.Given.{Given}
 use Rattle.pf_arguments.specs.declared.fault.CommandFault.{CommandFault}
 use Rattle.pf_arguments.specs.declared.fault.CommandFault.TheVariants.{Memory, Usage, BadPath, BadAddress, TooLong}
-use Rattle.pf_arguments.specs.Asked.{GivenWords}
-use Rattle.pf_arguments.specs.Asked.{lower}
+use Rattle.pf_arguments.specs.Answers.{FailsToRead}
+use Rattle.pf_arguments.specs.Asked.{GivenWords, lower}
 
 abbrev pub given_of : Given → GivenWords
 given_of given = record {
@@ -35,22 +34,6 @@ entry_read (Err fault) = Err fault
 abbrev pub lowest_of : Option AddrFault → AddrFault → AddrFault
 lowest_of None fault = fault
 lowest_of (Some first) fault = lower first fault
-
-abbrev pub vec_read : {X A : Type 0} → Result (Vec X A) CommandFault → Result (List X) CommandFault
-vec_read (Ok v) = Ok v.items
-vec_read (Err fault) = Err fault
-
-abbrev pub FailsToRead : {X : Type 0} → CommandFault → Result (List X) AddrFault → Type 0
-FailsToRead Memory read = Unit {0}
-FailsToRead Usage read = ⊥
-FailsToRead BadPath read = ⊥
-FailsToRead (BadAddress fault) read = read ≡ Err fault
-FailsToRead TooLong read = ⊥
-
--- the values that words spell, or the lowest fault
-abbrev pub Reads : Result (List Addr) CommandFault → Result (List Addr) AddrFault → Type 0
-Reads (Ok list) read = read ≡ Ok list
-Reads (Err fault) read = FailsToRead fault read
 
 abbrev pub ReadsEntries : Result (List rust.TableEntry) CommandFault → Result (List Address) AddrFault → Type 0
 ReadsEntries (Ok list) read = read ≡ Ok (addresses_value list)

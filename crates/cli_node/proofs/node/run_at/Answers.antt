@@ -1,6 +1,5 @@
 -- a run at the socket, without keys or with them
 use Rattle.std.proofs.Common.{◌∙◌, ap, inr, sym}
-use Rattle.px_transport.specs.Wiring.{inner_of}
 use Rattle.node_udp.specs.Members.{me_of, peers_of, route_of}
 use Rattle.cli_node.proofs.Refusing.{wire_is}
 use Rattle.cli_node.proofs.Sealed.{as_sealed, hearing_is}

@@ -1,6 +1,7 @@
 -- what the run ended with
-use Rattle.std.proofs.Common.{inl, inr}
-use Rattle.cli_node.proofs.Endings.{refusal_of}
+use Rattle.std.proofs.Common.{Err, ap, inl, inr}
+use Rattle.cli_node.proofs.Endings.{refusal_of, unsealed}
+use Rattle.cli_node.proofs.Stores.{not_lost}
 use Rattle.cli_node.proofs.node.run_new.Goals as goal
 
 pub returns-in-Ok-record_at-clause-store : goal.returns-in-Ok-record_at-clause-store
@@ -21,3 +22,13 @@ returns-in-Ok-record_at-clause-ran g c = inr (
 
 pub returns-in-Err-record_at-clause-ran : goal.returns-in-Err-record_at-clause-ran
 returns-in-Err-record_at-clause-ran g c = inl c.in-Err-record_at.ensures.kind
+
+pub returns-in-Err-clause-none : goal.returns-in-Err-clause-none
+returns-in-Err-clause-none g c = λ e. absurd (not_lost c.in-Err.outcome
+    (unsealed c.sealing_for.result c.in-Err.outcome c.in-Err.is c.sealing_for.ensures.refused) e)
+
+pub returns-in-Ok-record_at-clause-none : goal.returns-in-Ok-record_at-clause-none
+returns-in-Ok-record_at-clause-none g c = λ e. absurd (not_lost c.run_on.result c.run_on.ensures.store e)
+
+pub returns-in-Err-record_at-clause-none : goal.returns-in-Err-record_at-clause-none
+returns-in-Err-record_at-clause-none g c = λ e. c.in-Err-record_at.ensures.none (ap Err e)

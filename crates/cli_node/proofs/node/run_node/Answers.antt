@@ -1,6 +1,7 @@
 -- what the run ended with, of its member, its keys and its start
-use Rattle.std.proofs.Common.{inl, inr}
-use Rattle.cli_node.proofs.Endings.{refusal_of, new_map, with_map}
+use Rattle.std.proofs.Common.{Err, ap, arith, inl, inr}
+use Rattle.cli_node.proofs.Endings.{lost_by, refusal_of, new_map, with_map}
+use Rattle.cli_node.proofs.Stores.{not_lost}
 use Rattle.cli_node.proofs.node.run_node.Goals as goal
 
 pub returns-then-is_made-clause-ran : goal.returns-then-is_made-clause-ran
@@ -9,7 +10,8 @@ returns-then-is_made-clause-ran g c = inr (
   c.in-Ok.keys,
   c.in-Some.ensures.some,
   c.in-Ok.ensures.named,
-  new_map _ _ _ _ _ _ _ _ _ _ _ _ _ _ (λ start raised. (c.in-Ok-found_at.found, raised)) (λ r h. h) (λ r h. h) (λ how h. h)
+  new_map _ _ _ _ _ _ _ _ _ _ _ _ _ _ (λ start raised. (c.in-Ok-found_at.found, c.in-Ok-found_at.ensures, raised))
+      (λ r h. h) (λ r h. h) (λ how h. h)
       c.run_new.ensures.ran,
 )
 
@@ -24,7 +26,8 @@ returns-in-Ok-record_at-clause-ran g c = inr (
     c.in-Ok-record_at.ensures.members,
     c.in-Ok-record_at.ensures.begins,
     c.in-Ok-record_at.ensures.rows,
-    with_map _ _ _ _ _ _ _ _ _ _ _ _ _ (λ start raised. (c.in-Ok-found_at.found, raised)) (λ r h. h) (λ how h. h)
+    with_map _ _ _ _ _ _ _ _ _ _ _ _ _ (λ start raised. (c.in-Ok-found_at.found, c.in-Ok-found_at.ensures, raised))
+        (λ r h. h) (λ how h. h)
         c.run_sealed.ensures.ran,
   ),
 )
@@ -38,3 +41,20 @@ returns-in-Err-clause-ran g c =
 
 pub returns-in-Err-record_at-clause-ran : goal.returns-in-Err-record_at-clause-ran
 returns-in-Err-record_at-clause-ran g c = inl c.in-Err-record_at.ensures.kind
+
+-- 93 comes only where no store is
+
+pub returns-then-is_made-clause-none : goal.returns-then-is_made-clause-none
+returns-then-is_made-clause-none g c = λ e. (c.in-Ok-found_at.found, c.in-Ok-found_at.ensures, c.run_new.ensures.none e)
+
+pub returns-in-Ok-record_at-clause-none : goal.returns-in-Ok-record_at-clause-none
+returns-in-Ok-record_at-clause-none g c = λ e. absurd (not_lost c.run_sealed.result c.run_sealed.ensures.store e)
+
+pub returns-in-Err-record_at-clause-none : goal.returns-in-Err-record_at-clause-none
+returns-in-Err-record_at-clause-none g c = λ e.
+    (c.in-Ok-found_at.found, c.in-Ok-found_at.ensures, c.in-Err-record_at.ensures.none (ap Err e))
+
+pub returns-in-Err-clause-none : goal.returns-in-Err-clause-none
+returns-in-Err-clause-none g c = λ e.
+    absurd (lost_by 83 c.keys_for.result c.in-Err.outcome (λ b. omega (arith, b)) c.in-Err.is
+    c.keys_for.ensures.refused e)

@@ -1,8 +1,10 @@
 -- what a store that isn't taken comes to, and what one that is taken held
-use Rattle.std.proofs.Common.{refl, sym, subst}
+use Rattle.std.proofs.Common.{◌∙◌, Err, ap, sym, subst}
 use Rattle.cli_node.specs.declared.outcome.Outcome.{Outcome}
+use Rattle.cli_node.specs.declared.outcome.Outcome.TheVariants.{Refused}
+use Rattle.cli_node.specs.inner.Outcomes.{adopt_outcome}
 use Rattle.cli_node.specs.inner.Stores.{IsRefusal, IsStoreless}
-use Rattle.cli_node.proofs.Stores.{by_fault, kind_of_fault, unfailed_by}
+use Rattle.cli_node.proofs.Stores.{by_fault, err_is, kind_of_fault, not_lost, unfailed_fault}
 use Rattle.cli_node.proofs.store.record_at.Goals as goal
 
 pub returns-in-Ok-record_in-clause-rows : goal.returns-in-Ok-record_in-clause-rows
@@ -23,5 +25,13 @@ returns-in-Err-record_in-clause-kind g c =
     subst IsRefusal (sym c.untaken.ensures.is) (kind_of_fault c.in-Err-record_in.fault)
 
 pub returns-in-Err-record_in-clause-unfailed : goal.returns-in-Err-record_in-clause-unfailed
-returns-in-Err-record_in-clause-unfailed g c =
-    unfailed_by c.in-Err-record_in.fault c.untaken.result _ c.untaken.ensures.is refl
+returns-in-Err-record_in-clause-unfailed g c = λ e.
+    unfailed_fault c.in-Err-record_in.fault (sym c.untaken.ensures.is ∙ err_is c.untaken.result (Refused 80) e)
+
+pub returns-in-Err-record_in-clause-none : goal.returns-in-Err-record_in-clause-none
+returns-in-Err-record_in-clause-none g c = λ e.
+    absurd (not_lost (adopt_outcome c.in-Err-record_in.fault) (λ file new. by_fault file new c.in-Err-record_in.fault)
+    (sym c.untaken.ensures.is ∙ err_is c.untaken.result (Refused 93) e))
+
+pub returns-in-Err-clause-none : goal.returns-in-Err-clause-none
+returns-in-Err-clause-none g c = λ e. c.in-Err.ensures.none (ap Err (err_is c.in-Err.outcome (Refused 93) e))

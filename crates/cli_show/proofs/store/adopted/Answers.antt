@@ -7,3 +7,15 @@ returns-in-Ok-clause-clean g c = λ honest. c.in-Ok.ensures.clean honest
 
 pub returns-in-Ok-clause-rows : goal.returns-in-Ok-clause-rows
 returns-in-Ok-clause-rows g c = λ honest began. (c.in-Ok.ensures.rows honest Three began).1
+
+pub returns-in-Err-clause-untaken : goal.returns-in-Err-clause-untaken
+returns-in-Err-clause-untaken g c = λ clean. (
+  c.in-Err.ensures.refused clean,
+  (c.in-Err.fault, (c.closed_of.ensures, λ began verdict. c.in-Err.ensures.judged clean Three began verdict)),
+)
+
+pub returns-in-Ok-clause-stop : goal.returns-in-Ok-clause-stop
+returns-in-Ok-clause-stop g c = λ honest began. c.in-Ok.ensures.stop honest Three began
+
+pub returns-in-Err-clause-left : goal.returns-in-Err-clause-left
+returns-in-Err-clause-left g c = λ clean began. c.in-Err.ensures.stop clean Three began

@@ -1,6 +1,6 @@
 -- a row for each of those before
 use Rattle.std.proofs.Common.{◌≡◌}
-use Rattle.node_control.specs.inner.Rows.{first_rows}
+use Rattle.node_control.specs.Observers.{first_rows}
 use Rattle.node_control.proofs.observer.first_rows.Given as goal
 
 abbrev pub invariant-loop-node : goal.invariant-loop-node

@@ -5,6 +5,7 @@ use Rattle.node_loop.specs.Resends.{kept_of, requests_of}
 use Rattle.node_loop.proofs.Chains.{round_took, round_saw}
 use Rattle.node_loop.proofs.Looking.{looks_once}
 use Rattle.node_loop.proofs.Clocks.{looks_at_once}
+use Rattle.node_loop.proofs.Counting.{round_counts}
 use Rattle.node_loop.proofs.Given.{over_then, over_same, over_resent, over_between, on_ok}
 use Rattle.node_loop.proofs.running.round.Goals as goal
 
@@ -108,3 +109,11 @@ pub returns-clause-at : goal.returns-clause-at
 returns-clause-at g c =
     on_ok c.tick_if.result (λ _. looks_at_once (g.T.Timer.timer_events c.args.timer.now) (g.T.Timer.timer_events c.action-action.new.timer)
     (g.T.Timer.timer_events c.repeats-is_due.new.self) c.args.now c.view_of-view.result c.drain.new.room.peer_progress c.action-action.ensures.timer_events c.repeats-is_due.ensures.timer_events) c.tick_if.ensures.ticked
+
+pub returns-clause-counts : goal.returns-clause-counts
+returns-clause-counts g c =
+    on_ok c.tick_if.result (λ _.
+    let again = c.resend-has_own.ensures.again in
+    round_counts (g.W.Wire.traffic c.args.wire.now) (g.W.Wire.traffic c.drain.new.wire) (g.W.Wire.traffic c.resend-has_own.new.wire)
+    (g.W.Wire.traffic c.tick_if.new.wire) c.in-Ok.handled _ _ _ _ again.0 c.begin.ensures.counts c.in-Ok.ensures.counts again.2
+    c.tick_if.ensures.counts) c.tick_if.ensures.ticked

@@ -2,6 +2,7 @@
 use Rattle.std.proofs.Common.{refl, true, false}
 use Rattle.node_loop.specs.Turns.{standing}
 use Rattle.node_loop.proofs.Chains.{served_none, same_all, turned_by_clock}
+use Rattle.node_loop.proofs.Counting.{none_sent}
 use Rattle.node_loop.proofs.Given.{over_turn}
 use Rattle.node_loop.proofs.running.tick_if.Goals as goal
 
@@ -31,3 +32,9 @@ returns-else-handled-eq0-clause-served g c es t = (es, t, served_none _ _ (same_
 
 pub returns-else-handled-eq0-clause-ticked : goal.returns-else-handled-eq0-clause-ticked
 returns-else-handled-eq0-clause-ticked g c es t = (es, t, (false, same_all _))
+
+pub returns-then-not-has_own-clause-counts : goal.returns-then-not-has_own-clause-counts
+returns-then-not-has_own-clause-counts g c = none_sent (g.W.Wire.traffic c.args.wire.now) _
+
+pub returns-else-handled-eq0-clause-counts : goal.returns-else-handled-eq0-clause-counts
+returns-else-handled-eq0-clause-counts g c = none_sent (g.W.Wire.traffic c.args.wire.now) _

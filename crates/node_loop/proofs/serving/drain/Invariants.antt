@@ -2,7 +2,8 @@
 use Rattle.std.proofs.Common.{◌≡◌, ◌≤◌, None}
 use Rattle.px_transport.specs.Wires.{Moves}
 use Rattle.pf_node.specs.Nodes.{applied_of}
-use Rattle.node_loop.specs.Progress.{SawAll, seen_in}
+use Rattle.node_loop.specs.Counting.{CountsAll}
+use Rattle.node_loop.specs.Progress.{SawAll, counts_in, seen_in}
 use Rattle.node_loop.specs.Turns.{Served, standing}
 use Rattle.node_loop.proofs.serving.drain.Given as goal
 
@@ -12,6 +13,8 @@ invariant-loop-handled g l = record {
       (λ es es'. Served (standing l.fn.node es l.fn.room) (standing l.node es' l.room) None);
   saw : Moves (g.W.Wire.traffic l.fn.wire) (g.W.Wire.traffic l.wire) (λ es es'. SawAll l.handled
       (standing l.fn.node es l.fn.room) (standing l.node es' l.room) (seen_in l.fn.room) (seen_in l.room));
+  counts : Moves (g.W.Wire.traffic l.fn.wire) (g.W.Wire.traffic l.wire)
+      (λ es es'. CountsAll l.handled es es' (counts_in l.fn.room) (counts_in l.room));
   grows : applied_of l.fn.node ≤ applied_of l.node;
   same : g.W.Wire.identity l.wire ≡ g.W.Wire.identity l.fn.wire;
 }

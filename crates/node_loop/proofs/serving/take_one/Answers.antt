@@ -1,11 +1,14 @@
 -- the turn of what had come, what is passed over, or none
-use Rattle.std.proofs.Common.{◌∙◌, [], ◌∷◌, refl, ap, inl, inr, Some, None, option_map, true, false}
+use Rattle.std.proofs.Common.{◌≡◌, ◌∙◌, [], ◌∷◌, refl, ap, subst, inl, inr, Some, None, option_map, true, false}
 use Rattle.px_transport.specs.Wires.{Gave, hands}
 use Rattle.px_transport.proofs.Traffic.{adds_then, quiet_adds, quiet_by, moves_by, moves_still}
+use Rattle.node_loop.specs.Counting.{CountsIf}
+use Rattle.node_loop.specs.Counts.{PassedOver, all_out, but_unsent}
 use Rattle.node_loop.specs.Progress.{seen_in}
 use Rattle.node_loop.specs.Resends.{kept_of, requests_of}
 use Rattle.node_loop.specs.Turns.{HeardTurn, Served, handed_over, standing}
 use Rattle.node_loop.specs.inner.Turns.{SawIf}
+use Rattle.node_loop.proofs.Counting.{out_on}
 use Rattle.node_loop.proofs.Given.{gave_some, handed_on, kept_on, requests_on, over_turn}
 use Rattle.node_loop.proofs.Chains.{served_none, served_between, between_passed, nobodys_still}
 use Rattle.node_loop.proofs.serving.take_one.Goals as goal
@@ -177,3 +180,54 @@ returns-in-Err-clause-served g c =
       },
       λ h from message spelled. c.passes_over.ensures.members c.if-passes_over.false h _ from _ message spelled,
     )))
+
+pub returns-in_default-clause-counts : goal.returns-in_default-clause-counts
+returns-in_default-clause-counts g c =
+    let old = g.W.Wire.traffic c.args.wire.now in
+    let new = g.W.Wire.traffic c.poll-len.new.wire in
+    moves_still old new (λ es es'. CountsIf false es es' c.args.room.now.counts c.args.room.now.counts)
+    (quiet_by old new
+    (gave_some old new c.poll-len.new.bytes.items c.deref.result.now c.poll-len.result (option_map (λ b. b.now) c.came.result) None
+    c.poll-len.ensures.gave c.came.ensures c.deref.ensures.value (ap (option_map (λ b. b.now)) c.in_default.is)))
+    (λ es. (refl, refl))
+
+pub returns-then-passes_over-clause-counts : goal.returns-then-passes_over-clause-counts
+returns-then-passes_over-clause-counts g c =
+    let old = g.W.Wire.traffic c.args.wire.now in
+    let mid = g.W.Wire.traffic c.poll-len.new.wire in
+    let new = g.W.Wire.traffic c.passes_over.new.wire in
+    let again = c.passes_over.ensures.again in
+    moves_by old new (Gave c.in-Some.bytes.now ∷ hands again.0)
+    (λ es es'. CountsIf true es es' c.args.room.now.counts c.passes_over.new.counts)
+    (adds_then old mid new (Gave c.in-Some.bytes.now ∷ []) (hands again.0)
+    (gave_some old mid c.poll-len.new.bytes.items c.deref.result.now c.poll-len.result (option_map (λ b. b.now) c.came.result)
+    (Some c.in-Some.bytes.now) c.poll-len.ensures.gave c.came.ensures c.deref.ensures.value (ap (option_map (λ b. b.now)) c.in-Some.is))
+    again.2)
+    (λ es. inr (record {
+      bytes = c.in-Some.bytes.now;
+      again = again.0;
+      went = refl;
+      counts = subst (λ x. PassedOver x c.passes_over.new.counts) c.count_in.ensures (c.passes_over.ensures.counts c.if-passes_over.true);
+    }))
+
+pub returns-in-Ok-clause-counts : goal.returns-in-Ok-clause-counts
+returns-in-Ok-clause-counts g c =
+    let old = g.W.Wire.traffic c.args.wire.now in
+    let mid = g.W.Wire.traffic c.poll-len.new.wire in
+    let wait = g.W.Wire.traffic c.passes_over.new.wire in
+    let new = g.W.Wire.traffic c.send_all.new.wire in
+    moves_by old new (Gave c.in-Some.bytes.now ∷ hands (handed_over c.receive-result.new.out.items))
+    (λ es es'. CountsIf true es es' c.args.room.now.counts c.send_all.new.counts)
+    (adds_then old mid new (Gave c.in-Some.bytes.now ∷ []) (hands (handed_over c.receive-result.new.out.items))
+    (gave_some old mid c.poll-len.new.bytes.items c.deref.result.now c.poll-len.result (option_map (λ b. b.now) c.came.result)
+    (Some c.in-Some.bytes.now) c.poll-len.ensures.gave c.came.ensures c.deref.ensures.value (ap (option_map (λ b. b.now)) c.in-Some.is))
+    (quiet_adds mid wait new (hands (handed_over c.receive-result.new.out.items)) (c.passes_over.ensures.others c.if-passes_over.false)
+    (handed_on wait new c.receive-result.new.out.items c.as_slice.result.now c.as_slice.ensures.value c.send_all.ensures.handed)))
+    (λ es. inl (record {
+      bytes = c.in-Some.bytes.now;
+      out = c.receive-result.new.out.items;
+      went = refl;
+      counts = subst (λ x. but_unsent c.send_all.new.counts ≡ all_out c.receive-result.new.out.items (but_unsent x))
+          (c.passes_over.ensures.uncounted c.if-passes_over.false ∙ c.count_in.ensures)
+          (out_on c.receive-result.new.out.items c.as_slice.result.now c.passes_over.new.counts c.send_all.new.counts c.as_slice.ensures.value c.send_all.ensures.counts);
+    }))

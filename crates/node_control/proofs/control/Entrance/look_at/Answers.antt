@@ -1,7 +1,7 @@
 -- what was asked at the client
 use Rattle.std.proofs.Common.{refl}
 use Rattle.node_control.proofs.Asked.{from_here, figures_turned, figures_then, kept_same, kept_then}
-use Rattle.node_control.proofs.Asking.{chained, figures_chained, kept_chained}
+use Rattle.node_control.proofs.Asking.{at_place, chained, figures_chained, is_there, kept_chained}
 use Rattle.node_control.proofs.control.Entrance.look_at.Goals as goal
 
 pub returns-in_default-answer-clause-asks : goal.returns-in_default-answer-clause-asks
@@ -36,3 +36,24 @@ returns-then-is_served-clause-kept g c = kept_then c.args.service.now _ _ (kept_
 pub returns-clause-kept : goal.returns-clause-kept
 returns-clause-kept g c = kept_then c.args.service.now _ _ (kept_same _ _ refl refl)
     (kept_chained _ (λ a b q r h. h.3) _ _ c.answer.ensures.calls.0 c.answer.ensures.calls.2)
+
+pub returns-in_default-answer-clause-answers : goal.returns-in_default-answer-clause-answers
+returns-in_default-answer-clause-answers g c = at_place _ c.args.self.now.clients.items c.args.place c.in-Some.client.now c.in-Some.ensures.item.3.0 c.in-Some.ensures.value
+    (c.answer.new.self, c.answer.ensures.calls)
+
+pub returns-in_default-answer-clause-nobody : goal.returns-in_default-answer-clause-nobody
+returns-in_default-answer-clause-nobody g c = is_there c.args.self.now.clients.items c.args.place c.in-Some.client.now c.in-Some.ensures.item.3.0 c.in-Some.ensures.value
+
+pub returns-then-is_served-clause-answers : goal.returns-then-is_served-clause-answers
+returns-then-is_served-clause-answers g c = at_place _ c.args.self.now.clients.items c.args.place c.in-Some.client.now c.in-Some.ensures.item.3.0 c.in-Some.ensures.value
+    (c.answer.new.self, c.answer.ensures.calls)
+
+pub returns-then-is_served-clause-nobody : goal.returns-then-is_served-clause-nobody
+returns-then-is_served-clause-nobody g c = is_there c.args.self.now.clients.items c.args.place c.in-Some.client.now c.in-Some.ensures.item.3.0 c.in-Some.ensures.value
+
+pub returns-clause-answers : goal.returns-clause-answers
+returns-clause-answers g c = at_place _ c.args.self.now.clients.items c.args.place c.in-Some.client.now c.in-Some.ensures.item.3.0 c.in-Some.ensures.value
+    (c.answer.new.self, c.answer.ensures.calls)
+
+pub returns-clause-nobody : goal.returns-clause-nobody
+returns-clause-nobody g c = is_there c.args.self.now.clients.items c.args.place c.in-Some.client.now c.in-Some.ensures.item.3.0 c.in-Some.ensures.value

@@ -1,0 +1,12 @@
+use Rattle.std.proofs.Common.{◌≡◌, ◌∙◌, true, sym, rules}
+use Rattle.std.specs.List.{list_any}
+use Rattle.cli_follow.specs.inner.Files.{is_there}
+use Rattle.cli_follow.proofs.Kept.{there_written}
+use Rattle.cli_follow.proofs.files.TextFiles.stands.Goals as goal
+
+pub returns-then-is_written : goal.returns-then-is_written
+returns-then-is_written g c = λ written put.
+    let is : c.is_written.result ≡ true = search rules in
+    let any : c.is_written.result ≡ list_any (is_there c.args.name.now c.args.text.now) c.args.self.now.written.items =
+    rw c.as_slice.ensures.value at c.is_written.ensures in
+    there_written g.F.File.Write.contents c.args.name.now c.args.text.now c.args.self.now.written.items written (sym any ∙ is)
