@@ -8,7 +8,7 @@ ghost use Rattle.node_requests.specs.Routing.{showing, on_table};
 ghost use Rattle.node_requests.specs.inner.Parameters.{pairs_of};
 
 use crate::query::{Parameter, value_of};
-use pf_arguments::{Action, CommandFault, Path, TableName, addresses};
+use pf_arguments::{Action, CommandFault, Path, TableName, read_addresses};
 use pf_config::{ConfigFault, parse_path};
 use std::alloc::{AllocError, Global};
 
@@ -77,6 +77,6 @@ pub(crate) fn table_test(
         return Err(CommandFault::Usage);
     }
     let path = path_in(alloc, given)?;
-    let list = addresses(alloc, lines)?;
+    let list = read_addresses(alloc, lines)?;
     Ok(Action::TableTest(path, table, list))
 }

@@ -35,7 +35,7 @@ abbrev pub vec_read : {X A : Type 0} → Result (Vec X A) CommandFault → Resul
 vec_read (Ok v) = Ok v.items
 vec_read (Err fault) = Err fault
 
--- of the faults of words that spell no values this is the lowest; nothing is said of out of memory
+-- of the faults of arguments that spell no values this is the lowest; nothing is said of out of memory
 abbrev pub FailsToRead : {X : Type 0} → CommandFault → Result (List X) AddrFault → Type 0
 FailsToRead Memory read = Unit {0}
 FailsToRead Usage read = ⊥
@@ -43,7 +43,7 @@ FailsToRead BadPath read = ⊥
 FailsToRead (BadAddress fault) read = read ≡ Err fault
 FailsToRead TooLong read = ⊥
 
--- the addresses that words spell, or the lowest fault
+-- the addresses that arguments spell, or the lowest fault
 -- Example: 10.0.0.1 and x: the fault of x.
 abbrev pub Reads : Result (List Addr) CommandFault → Result (List Addr) AddrFault → Type 0
 Reads (Ok list) read = read ≡ Ok list

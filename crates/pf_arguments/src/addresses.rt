@@ -76,7 +76,7 @@ fn read_entries(alloc: Global, words: &[&str]) -> Result<Vec<TableEntry>, Comman
 }
 
 /// The addresses that the words spell, or the lowest fault of any.
-pub fn addresses(alloc: Global, words: &[&str]) -> Result<Vec<Addr>, CommandFault>
+pub fn read_addresses(alloc: Global, words: &[&str]) -> Result<Vec<Addr>, CommandFault>
     ensures { Reads (vec_read result) (each addr_of (map (λ w. w.now) words.now)) }
 {
     let mut list = Vec::new(alloc);

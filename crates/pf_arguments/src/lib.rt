@@ -3,8 +3,8 @@
 //! # Organization
 //!
 //! - [`pfctl_args`] adds pfctl's options to a command line that `clap` reads.
-//! - [`from_matches`] answers the [`Action`] that its matches ask for, or the first fault; [`addresses`] those that
-//!   words spell.
+//! - [`from_matches`] answers the [`Action`] that its matches ask for, or the first fault. [`read_addresses`] reads the
+//!   addresses that arguments spell.
 //! - Of the crates below: [`Command`], [`Entry`] and their bytes.
 //!
 //! # Why
@@ -43,7 +43,7 @@ mod given;
 mod reading;
 
 pub use action::Action;
-pub use addresses::addresses;
+pub use addresses::read_addresses;
 pub use args::pfctl_args;
 pub use fault::CommandFault;
 pub use pf_entry::{

@@ -11,7 +11,7 @@ ghost use Rattle.pf_arguments.specs.Answers.{Answers, IsShort};
 ghost use Rattle.pf_arguments.specs.inner.Answers.{given_of, PathGiven};
 
 use crate::action::Action;
-use crate::addresses::{addresses, entries};
+use crate::addresses::{entries, read_addresses};
 use crate::chosen::{TableWord, WholeWord, Word, word_of};
 use crate::fault::CommandFault;
 use crate::given::Given;
@@ -142,7 +142,7 @@ fn table_action(
         TableWord::Flush => change(alloc, Command::FlushTable { path, table }),
         TableWord::Show => Ok(Action::TableShow(path, table)),
         TableWord::Test => {
-            let list = addresses(alloc, words)?;
+            let list = read_addresses(alloc, words)?;
             Ok(Action::TableTest(path, table, list))
         }
     }

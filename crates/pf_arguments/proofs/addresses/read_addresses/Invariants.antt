@@ -2,7 +2,7 @@ use Rattle.std.proofs.Common.{◌≡◌, drop, map}
 use Rattle.pf_addr.specs.Spelling.{addr_of}
 use Rattle.pf_arguments.specs.Asked.{each}
 use Rattle.pf_arguments.proofs.Each.{behind}
-use Rattle.pf_arguments.proofs.addresses.addresses.Given as goal
+use Rattle.pf_arguments.proofs.addresses.read_addresses.Given as goal
 
 -- the values so far and the lowest fault so far, and then what the words left give
 abbrev pub invariant-loop-word : goal.invariant-loop-word
