@@ -26,6 +26,8 @@ use px_store::{AdoptFault, Format, Identity, SqlRecords};
 use sqlite::{Alter, Connection, Error, ErrorCode, File, FileStore};
 use sqlite_trees::store::Store;
 use std::alloc::{AllocError, Global};
+use std::fs::Files;
+use std::io::Eprint;
 
 /// A store that isn't there.
 const NO_STORE: u8 = 93;
@@ -125,8 +127,8 @@ fn adopt_outcome(fault: AdoptFault) -> Outcome
 }
 
 /// What a store comes to that isn't taken; why is said on standard error.
-pub(crate) fn untaken<S: Alter>(
-    rt: &HostRuntime,
+pub(crate) fn untaken<RT: Eprint, S: Alter>(
+    rt: &RT,
     path: &str,
     m: Membership,
     fault: AdoptFault,
@@ -153,7 +155,7 @@ pub(crate) fn identity_of(m: Membership) -> Identity
 }
 
 /// The outcome of a database that the system or its own code doesn't open or read; why is said on standard error.
-pub(crate) fn failed_outcome(rt: &HostRuntime, path: &str, error: Error) -> Outcome
+pub(crate) fn failed_outcome<RT: Files + Eprint>(rt: &RT, path: &str, error: Error) -> Outcome
     ensures { (result ≡ Memory) ⊎ (result ≡ Refused 70) }
 {
     match error {
