@@ -44,7 +44,7 @@ pub(crate) enum Found {
     Empty,
     /// A file with bytes.
     Store,
-    /// What is no file, or the system doesn't say.
+    /// What is no file, or isn't known.
     Other,
 }
 
@@ -87,7 +87,7 @@ fn has_no_byte(seen: Seen) -> bool
     match seen {
         Seen::File(size) => size == 0,
         Seen::Another(size) => size == 0,
-        Seen::Nothing | Seen::Unsaid => true,
+        Seen::Nothing | Seen::Unknown => true,
     }
 }
 
@@ -102,7 +102,7 @@ fn found_by(file: Seen, log: Seen) -> Found
             Found::Store
         },
         Seen::Nothing => Found::Nothing,
-        Seen::Another(_) | Seen::Unsaid => Found::Other,
+        Seen::Another(_) | Seen::Unknown => Found::Other,
     }
 }
 
