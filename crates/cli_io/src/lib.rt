@@ -3,7 +3,8 @@
 //! # Organization
 //!
 //! - [`Status`]: how a run ends, and the exit status.
-//! - [`read_all`]: the whole input, up to a limit.
+//! - [`read_all`]: the whole input, up to a limit; [`text_named`]: the text that an option names, of the input or of
+//!   [`Texts`].
 //! - [`open_regular`], [`make_private`]: a file that isn't waited for, and one that its owner alone may read;
 //!   [`knock`]: why nobody answers at a socket.
 //! - [`Shown`]: a foreign string for people.
@@ -33,6 +34,7 @@ mod remark;
 mod shown;
 mod status;
 mod table;
+mod texts;
 mod writing;
 
 pub use files::{knock, make_private, open_regular};
@@ -45,4 +47,5 @@ pub use remark::Remark;
 pub use shown::Shown;
 pub use status::Status;
 pub use table::REFUSALS;
+pub use texts::{Texts, text_named};
 pub use writing::{misused, out_of_memory, write_bytes};

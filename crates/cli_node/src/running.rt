@@ -23,7 +23,7 @@ fn outcome_of<R: Read>(
     reader: &mut R,
 ) -> Option<Outcome> {
     if let Some(inner) = matches.subcommand_matches("node") {
-        return Some(settled_outcome(rt, alloc, inner));
+        return Some(settled_outcome(rt, *rt, alloc, inner));
     }
     if let Some(inner) = matches.subcommand_matches("key") {
         return Some(key_outcome(rt, alloc, inner.get_str("file")));
