@@ -1,11 +1,13 @@
 //! rulesets for pfctl(8) in files, one for each path.
 
-ghost use Rattle.std.specs.Prelude.{◌≡◌, ◌⊎◌, ⊤, ℕ, List, [], true, not, IfOk, IfNone, OnOk, map, string_bytes};
+ghost use Rattle.std.specs.Prelude.{◌≡◌, ◌⊎◌, ⊤, ℕ, List, [], true, not, IfOk, IfSome, IfNone, OnOk, map, string_bytes};
 ghost use Rattle.std.specs.List.{list_all, list_any};
 ghost use Rattle.pf_dump.specs.Done.{AreDoneTo};
+ghost use Rattle.pf_dump.specs.Seen.{text_of};
 ghost use Rattle.pf_dump.specs.Written.{texts_of};
 ghost use Rattle.cli_follow.specs.inner.Files.{AreWritten, IsWritten, IsPut, is_put, is_there};
-ghost use Rattle.cli_follow.specs.inner.Files.{file_value, is_named, is_gone, with_gone};
+ghost use Rattle.cli_follow.specs.inner.Files.{file_value, file_name, file_at, files_of, is_named};
+ghost use Rattle.cli_follow.specs.inner.Files.{is_gone, with_gone};
 
 use crate::followed_configuration::FollowedConfiguration;
 use crate::follower::say;
@@ -35,7 +37,9 @@ pub struct TextFiles {
 }
 
 /// The name of a path's file: `main.conf`, or `anchor` and the names behind a `+` each, which no name has, and `.conf`.
-fn file_name(alloc: Global, path: &[Name]) -> Result<String, AllocError> {
+fn file_name(alloc: Global, path: &[Name]) -> Result<String, AllocError>
+    ensures { IfOk result (λ name. string_bytes name ≡ file_name path.now) }
+{
     if path.is_empty() {
         return String::from_str(alloc, "main.conf");
     }
@@ -48,25 +52,40 @@ fn file_name(alloc: Global, path: &[Name]) -> Result<String, AllocError> {
     Ok(name)
 }
 
-/// The files of a configuration: those of all paths that a command may load, and main's in any case. None where
-/// rulesets don't give it.
-fn files_of(alloc: Global, config: &Config) -> Result<Option<Vec<TextFile>>, AllocError>
-    ensures { IfOk result (λ files. IfNone files (AreDoneTo (texts_of config.now) config.now → ⊥)) }
+/// Whether one of the files has this name.
+fn has_name(files: &[TextFile], name: &str) -> bool
+    ensures { result ≡ list_any (is_named name.now) (map file_value files.now) }
 {
-    let Some(texts) = texts(alloc, config)? else {
-        return Ok(None);
-    };
+    files.iter().any(|file| file.name.as_str() == name)
+}
+
+/// The files of rulesets.
+fn files_in(alloc: Global, texts: Vec<PathText<'_>>) -> Result<Vec<TextFile>, AllocError>
+    ensures { IfOk result (λ files. map file_value files.items ≡ map file_at (map text_of texts.items)) }
+{
     let mut files = Vec::new(alloc);
-    let mut has_main = false;
-    for PathText { path, text } in texts {
-        has_main = has_main || path.is_empty();
+    for it in texts {
+        let PathText { path, text } = it;
         files.push(TextFile {
             name: file_name(alloc, path)?,
             text,
             is_put: false,
         })?;
     }
-    if !has_main {
+    Ok(files)
+}
+
+/// The files of a configuration: those of all paths that a command may load, and main's in any case. None where
+/// rulesets don't give it.
+fn files_of(alloc: Global, config: &Config) -> Result<Option<Vec<TextFile>>, AllocError>
+    ensures files { IfOk result (λ o. IfSome o (λ files. map file_value files.items ≡ files_of config.now)) }
+    ensures none { IfOk result (λ o. IfNone o (AreDoneTo (texts_of config.now) config.now → ⊥)) }
+{
+    let Some(texts) = texts(alloc, config)? else {
+        return Ok(None);
+    };
+    let mut files = files_in(alloc, texts)?;
+    if !has_name(files.as_slice(), "main.conf") {
         files.push(TextFile {
             name: String::from_str(alloc, "main.conf")?,
             text: String::new(alloc),
@@ -74,13 +93,6 @@ fn files_of(alloc: Global, config: &Config) -> Result<Option<Vec<TextFile>>, All
         })?;
     }
     Ok(Some(files))
-}
-
-/// Whether one of the files has this name.
-fn has_name(files: &[TextFile], name: &str) -> bool
-    ensures { result ≡ list_any (is_named name.now) (map file_value files.now) }
-{
-    files.iter().any(|file| file.name.as_str() == name)
 }
 
 /// Whether a file has to be emptied, where these are to be written.
@@ -289,7 +301,9 @@ impl TextFiles {
             self.new.written.items }
         ensures behind { OnOk result (
             ((self.new ≡ self.old) × (AreDoneTo (texts_of followed.now.config) followed.now.config → ⊥))
-            ⊎ (self.new.is_behind ≡ not (list_all is_put self.new.written.items))) }
+            ⊎ ((self.new.is_behind ≡ not (list_all is_put self.new.written.items))
+            × (map file_value self.new.written.items
+            ≡ with_gone (files_of followed.now.config) self.old.written.items))) }
     {
         let Some(files) = files_of(alloc, &followed.config)? else {
             return say(errors, alloc, followed.position, "refused 91\n");

@@ -1,8 +1,12 @@
 -- Rulesets for pfctl(8) in files.
 use Rattle.std.specs.Prelude.{◌≡◌, ℕ, Bool, true, ◌&&◌, ◌==◌, not, List, [], ◌∷◌, ◌++◌, length, Option, bytes_eq}
-use Rattle.std.specs.Prelude.{codes, if◌then◌else◌, string_bytes}
+use Rattle.std.specs.Prelude.{codes, map, if◌then◌else◌, string_bytes}
 use Rattle.std.specs.Io.KnownBytes.{Appends}
-use Rattle.std.specs.List.{list_any}
+use Rattle.std.specs.List.{flat_map, list_any}
+use Rattle.pf_rules.specs.Names.{Name}
+use Rattle.pf_config.specs.Map.{Configuration, Path}
+use Rattle.pf_dump.specs.Texts.{Text}
+use Rattle.pf_dump.specs.Written.{texts_of}
 use Rattle.cli_follow.specs.declared.files.TextFile.{TextFile}
 
 -- these bytes were written into a file
@@ -47,9 +51,32 @@ pub record FileValue : Type 0 where
 abbrev pub file_value : TextFile → FileValue
 file_value f = record { name = string_bytes f.name; text = string_bytes f.text }
 
+-- the name of a path's file
+-- Example: main.conf, and of x/y anchor+x+y.conf.
+abbrev pub after_plus : Name → List ℕ
+after_plus n = 43 ∷ n
+
+abbrev pub file_name : Path → List ℕ
+file_name [] = codes "main.conf"
+file_name (n ∷ p) = (codes "anchor" ++ flat_map after_plus (n ∷ p)) ++ codes ".conf"
+
+-- the file of a ruleset
+abbrev pub file_at : Text → FileValue
+file_at t = record { name = file_name t.path; text = t.text }
+
 -- the file has this name
 abbrev pub is_named : (name : List ℕ) → FileValue → Bool
 is_named name f = bytes_eq f.name name
+
+-- files, and an empty one for the main ruleset where it has none
+abbrev pub with_main : List FileValue → List FileValue
+with_main files =
+    if list_any (is_named (codes "main.conf")) files then files
+    else files ++ record { name = codes "main.conf"; text = [] } ∷ []
+
+-- the files of a configuration: those of its rulesets, and main.conf in any case
+abbrev pub files_of : Configuration → List FileValue
+files_of c = with_main (map file_at (texts_of c))
 
 -- a file has to be emptied: none of these has its name, and it isn't recorded as empty
 abbrev pub is_gone : List FileValue → TextFile → Bool
