@@ -1,5 +1,5 @@
 -- Which store is refused.
-use Rattle.std.proofs.Common.{◌≡◌, ℕ, List, [], Result, Ok, Err, refl, sym, ◌∙◌, subst, inl, inr}
+use Rattle.std.proofs.Common.{◌≡◌, ℕ, List, [], Some, Result, Ok, Err, refl, sym, ap, ◌∙◌, subst, inl, inr}
 use Rattle.std.specs.Prelude.{◌⊎◌, IfOk, IfErr}
 use Rattle.sqlite.specs.declared.error.Error.{Error}
 use Rattle.sqlite.specs.Held.{Held, state}
@@ -9,9 +9,10 @@ use Rattle.sqlite_value.specs.Order.{Row}
 use Rattle.px_records.specs.declared.records.Records.{Ghosts}
 use Rattle.px_replica.specs.declared.fault.NodeFault.{NodeFault}
 use Rattle.px_wire.specs.declared.membership.Membership.{Membership}
-use Rattle.px_store.specs.Adopting.{Began}
+use Rattle.px_store.specs.Adopting.{Began, IsSame, IsVerdict}
 use Rattle.px_store.specs.Formats.{record_at}
 use Rattle.px_store.specs.declared.calls.Identity.{Identity}
+use Rattle.px_store.specs.declared.fault.AdoptFault.TheVariants.{WrongNode}
 use Rattle.px_store.specs.declared.formats.Format.TheVariants.{Three}
 use Rattle.cli_show.specs.Owners.{identity_of, owner_of, IsOwner, get_owner, AnswersOwner, code_for, IsUnanswered, IsUnowned}
 use Rattle.cli_show.specs.Showing.{IsRefused}
@@ -19,6 +20,8 @@ use Rattle.cli_show.specs.Stores.{closed_for, IsRefusedTo, IsClosed}
 use Rattle.cli_show.specs.declared.shown.Shown.{Shown}
 use Rattle.cli_show.specs.declared.store.Closed.{Closed}
 use Rattle.cli_show.specs.declared.store.Closed.TheVariants as closed
+use Rattle.cli_show.proofs.Naming.{not_another}
+use Rattle.cli_show.proofs.Reading.{begins_again}
 
 pub same_fault : {V A B : Type 0} (r : Result V (A × B)) (a b : A) (x y : B) → r ≡ Err (a, x) → r ≡ Err (b, y) → a ≡ b
 same_fault {V} {A} {B} r a b x y e f = subst (λ (q : Result V (A × B)). IfErr q (λ p. a ≡ p.0)) (sym e ∙ f) refl
@@ -55,11 +58,13 @@ pub closed_unowned : {R S : Type 0} {G : Ghosts R} {g : store.Ghosts S} (given c
 closed_unowned given came c h = record { came = came; why = inl h }
 
 pub closed_refused : {R S : Type 0} {G : Ghosts R} {g : store.Ghosts S} (given came : Held S) (c : Closed) (owner i : Identity) → AnswersOwner (state g given) (state g came) (Ok owner) →
-    i ≡ owner → IsRefusedTo i (state g came) c → IsClosed G g given c
-closed_refused {R} {S} {G} {g} given came c owner i names is h = record {
-  came = came;
-  why = inr (owner, (names, inl (subst (λ (i : Identity). IsRefusedTo i (state g came) c) is h)));
-}
+    (Began Three (state g given) → IsSame (state g given) (state g came)) → i ≡ owner → IsRefusedTo i (state g came) c → IsClosed G g given c
+closed_refused {R} {S} {G} {g} given came c owner i names stays is h =
+    let r : IsRefusedTo owner (state g came) c = subst (λ (i : Identity). IsRefusedTo i (state g came) c) is h in
+    let own : Began Three (state g given) → r.fault ≡ WrongNode → ⊥ = λ began e.
+    not_another (state g given) (state g came) owner began (stays began) names
+    (r.judged Three (begins_again (state g given) (state g came) began (stays began)) (subst IsVerdict (sym e) tt) ∙ ap Some e) in
+    record { came = came; why = inr (owner, (names, inl (r, own))) }
 
 pub closed_unopened : {R S : Type 0} {G : Ghosts R} {g : store.Ghosts S} (given came : Held S) (c : Closed) (owner : Identity) (answer : Result Shown NodeFault) (fault : NodeFault)
     (adopted back : R) → AnswersOwner (state g given) (state g came) (Ok owner) → c ≡ closed_for fault → answer ≡ Err fault →

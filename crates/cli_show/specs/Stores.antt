@@ -1,5 +1,5 @@
 -- What is shown of a store.
-use Rattle.std.specs.Prelude.{◌≡◌, ◌⊎◌, ℕ, Bool, false, Option, Some, None, Ok}
+use Rattle.std.specs.Prelude.{◌≡◌, ◌≢◌, ◌⊎◌, ℕ, Bool, false, Option, Some, None, Ok}
 use Rattle.sqlite.specs.Effect.{Database}
 use Rattle.sqlite.specs.Held.{Held, state}
 use Rattle.sqlite.specs.State.{State, HasCleanDisk}
@@ -20,7 +20,7 @@ use Rattle.px_store.specs.Seen.{record_in}
 use Rattle.px_store.specs.Tables.{no_schema}
 use Rattle.px_store.specs.View.{connection_of}
 use Rattle.px_store.specs.declared.fault.AdoptFault.{AdoptFault}
-use Rattle.px_store.specs.declared.fault.AdoptFault.TheVariants.{StoreVersion}
+use Rattle.px_store.specs.declared.fault.AdoptFault.TheVariants.{StoreVersion, WrongNode}
 use Rattle.px_store.specs.declared.keeper.SqlRecords.{SqlRecords}
 use Rattle.cli_show.specs.Owners.{AnswersOwner, IsUnowned}
 use Rattle.cli_show.specs.Showing.{ShowsLog, IsRefused}
@@ -61,6 +61,10 @@ pub record IsRefusedTo (owner : Identity) (s : State) (c : Closed) : Type 0 wher
   pub lost : s.now.schema ≡ no_schema → s.in_transaction ≡ false → fault ≡ StoreVersion
   pub unknown : (IsKnown s.now.schema → ⊥) → s.in_transaction ≡ false → fault ≡ StoreVersion
 
+-- and one of format 3 not as another node's
+abbrev pub IsRefusedToOwner : Identity → (given came : State) → Closed → Type 0
+IsRefusedToOwner owner given came c = (r : IsRefusedTo owner came c) × (Began Three given → r.fault ≢ WrongNode)
+
 -- a node of that many members doesn't open the record of these rows: with 72 for a bad entry
 abbrev pub IsUnopened : {R : Type 0} → (G : Ghosts R) → (members : ℕ) → State → Closed → Type 0
 IsUnopened {R} G members s c = (fault : NodeFault) × ((given : R) × ((back : R) × ((c ≡ closed_for fault)
@@ -72,7 +76,7 @@ pub record IsClosed {R S : Type 0} (G : Ghosts R) (g : store.Ghosts S) (given : 
   pub came : Held S
   pub why : IsUnowned (state g given) (state g came) c
       ⊎ ((owner : Identity) × (AnswersOwner (state g given) (state g came) (Ok owner)
-      × (IsRefusedTo owner (state g came) c ⊎ IsUnopened G owner.members (state g came) c)))
+      × (IsRefusedToOwner owner (state g given) (state g came) c ⊎ IsUnopened G owner.members (state g came) c)))
 
 -- ---- what is left of a store
 

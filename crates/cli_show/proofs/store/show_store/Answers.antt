@@ -22,7 +22,7 @@ pub returns-in-Err-adopted-clause-closed : goal.returns-in-Err-adopted-clause-cl
 returns-in-Err-adopted-clause-closed g c = λ clean.
     let refused = c.in-Err-adopted.ensures.refused clean in
     closed_refused c.args.conn c.owner_of.new.conn c.in-Err-adopted.refused.0 (identity_of c.in-Ok.m) c.identity_of.result
-    (c.in-Ok.ensures.owner refused.0) c.identity_of.ensures refused.1
+    (c.in-Ok.ensures.owner refused.0) (c.in-Ok.ensures.stays refused.0) c.identity_of.ensures refused.1
 
 pub returns-in-Err-shown-clause-closed : goal.returns-in-Err-shown-clause-closed
 returns-in-Err-shown-clause-closed g c = λ clean.
