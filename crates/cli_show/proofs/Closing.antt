@@ -23,8 +23,8 @@ use Rattle.cli_show.specs.declared.store.Closed.TheVariants as closed
 use Rattle.cli_show.proofs.Naming.{not_another}
 use Rattle.cli_show.proofs.Reading.{begins_again}
 
-pub same_fault : {V A B : Type 0} (r : Result V (A × B)) (a b : A) (x y : B) → r ≡ Err (a, x) → r ≡ Err (b, y) → a ≡ b
-same_fault {V} {A} {B} r a b x y e f = subst (λ (q : Result V (A × B)). IfErr q (λ p. a ≡ p.0)) (sym e ∙ f) refl
+pub same_fault : {V A B : Type 0} (r : Result V (A × B)) (a b : A) (x y : B) → r ≡ Err (b, y) → r ≡ Err (a, x) → a ≡ b
+same_fault {V} {A} {B} r a b x y f e = subst (λ (q : Result V (A × B)). IfErr q (λ p. a ≡ p.0)) (sym e ∙ f) refl
 
 -- the database doesn't answer
 same_code : (a b : ℕ) → closed.Refused a ≡ closed.Refused b → a ≡ b

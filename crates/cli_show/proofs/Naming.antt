@@ -1,5 +1,5 @@
 -- The row that names the owner is the one that is judged: a store isn't refused to its owner as another node's.
-use Rattle.std.proofs.Common.{◌≡◌, ◌∙◌, ℕ, pos, negsuc, List, [], ◌∷◌, ◌++◌, map, cond, Bool, true, false, not, ◌&&◌, ◌||◌, ◌==◌, None, Some, Ok, Err, Result, length, codes, refl, sym, ap, subst, subst₂, arith}
+use Rattle.std.proofs.Common.{◌≡◌, ◌∙◌, ℕ, pos, negsuc, List, [], ◌∷◌, ◌++◌, map, cond, Bool, true, false, not, ◌&&◌, ◌||◌, ◌==◌, Option, None, Some, Ok, Err, Result, length, codes, refl, sym, ap, subst, subst₂, arith}
 use Rattle.std.specs.Prelude.{if◌then◌else◌}
 use Rattle.std.specs.List.{flat_map, list_all}
 use Rattle.std.specs.List.Sorted.{IsPermutation}
@@ -88,7 +88,7 @@ answered db rows a =
 named_by : (r : Row) (owner : Identity) → owner_in r ≡ Ok owner → owner ≡ identity_in r
 named_by r owner = go (is_three r) (has_member r)
   where
-    go : (a b : Bool) → cond a (cond b (Ok (identity_in r)) (Err 72)) (Err 73) ≡ Ok owner → owner ≡ identity_in r
+    go : (a b : Bool) → cond {A = Result Identity ℕ} a (cond {A = Result Identity ℕ} b (Ok (identity_in r)) (Err 72)) (Err 73) ≡ Ok owner → owner ≡ identity_in r
     go false b e = absurd cc
     go true false e = absurd cc
     go true true e = cc

@@ -1,4 +1,5 @@
 -- what opened the store has it
+use Rattle.std.proofs.Common.{refl}
 use Rattle.cli_show.proofs.Closing.{same_fault}
 use Rattle.px_store.specs.declared.formats.Format.TheVariants.{Three}
 use Rattle.cli_show.proofs.store.adopted.Goals as goal
@@ -14,8 +15,8 @@ returns-in-Err-clause-refused g c = λ clean. (c.in-Err.ensures.refused clean, r
   fault = c.in-Err.fault;
   numbered = c.closed_of.ensures;
   judged = c.in-Err.ensures.judged clean;
-  lost = λ none auto. same_fault _ _ _ _ _ c.in-Err.is (c.in-Err.ensures.lost none auto);
-  unknown = λ other auto. same_fault _ _ _ _ _ c.in-Err.is (c.in-Err.ensures.unknown other auto);
+  lost = λ none auto. same_fault _ _ _ _ _ (c.in-Err.ensures.lost none auto) refl;
+  unknown = λ other auto. same_fault _ _ _ _ _ (c.in-Err.ensures.unknown other auto) refl;
 })
 
 pub returns-in-Ok-clause-stop : goal.returns-in-Ok-clause-stop
