@@ -21,7 +21,7 @@ abbrev pub first_rows : (me n : ℕ) → List Row
 first_rows me zero = []
 first_rows me (suc n) = first_rows me n ++ (if n == me then [] else first_row n ∷ [])
 
--- nobody was heard yet, and nothing was said
+-- nobody was heard yet, and nothing was logged
 abbrev pub unheard : Membership → (is_quiet : Bool) → Hearing
 unheard m is_quiet = record {
   m = m;

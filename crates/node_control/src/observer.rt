@@ -5,7 +5,7 @@ ghost use Rattle.node_control.specs.Observers.{HasSeenNothing, first_rows};
 ghost use Rattle.node_control.specs.inner.Watching.{proposed_by, proposed_after, proposed_then};
 ghost use Rattle.node_control.specs.inner.Watching.{is_proposed, stood_since, seconds_since};
 ghost use Rattle.node_control.specs.inner.Observing.{IsShown, begun, counted, in_all, is_nack, noted, seen_of};
-ghost use Rattle.node_control.specs.inner.Observing.{stood_at};
+ghost use Rattle.node_control.specs.inner.Observing.{listened, stood_at};
 ghost use Rattle.node_control.specs.inner.Rows.{is_due, sampled, reported, sent_more, heard_from, rows_after};
 
 use crate::hearing::Hearing;
@@ -460,7 +460,7 @@ impl Observer {
         counts: &RoundCounts,
         is_lacking: bool,
     )
-        ensures { seen_of self.new ≡ seen_of self.old }
+        ensures { seen_of self.new ≡ listened is_lacking heads.now counts.now (seen_of self.old) }
     {
         self.hearing.look(rt, heads, counts, self.now);
         self.hearing.note_lack(rt, is_lacking, self.now);
