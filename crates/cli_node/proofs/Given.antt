@@ -1,16 +1,11 @@
 -- What is read of options.
 use Rattle.std.proofs.Common.{◌≡◌, ℕ, Bool, true, false, List, Option, Some, None, Result, Ok, Err, refl, sym, ◌∙◌, ap}
 use Rattle.std.proofs.Common.{subst, codes}
-use Rattle.std.proofs.NetLemmas.Theorems.{IsSocketText_unique}
-use Rattle.std.specs.Prelude.{◌≢◌, IfSome}
-use Rattle.std.specs.Net.Addr.{MatchIp, IsLoopbackV4, IsLoopbackV6}
-use Rattle.std.specs.Net.Grammar.{IsSocketText}
-use Rattle.std.specs.Net.Socket.{socket_ip, socket_port}
-use Rattle.std.specs.declared.net.socket_addr.SocketAddr.{SocketAddr}
+use Rattle.std.specs.Prelude.{IfSome}
 use Rattle.std.specs.Str.Parse.{ParsesUnsigned}
 use Rattle.clap.specs.Matches.{ReadsOne}
 use Rattle.cli_node.specs.inner.Given.{AreTurns, IsFlag, IsNumber, IsSpelled}
-use Rattle.cli_node.specs.inner.Places.{IsLoopback, turns_or_all}
+use Rattle.cli_node.specs.inner.Places.{turns_or_all}
 
 -- an argument that was read as a number, or as none
 spelled : (E : Type 0) (t : List ℕ) (v : ℕ) → ParsesUnsigned {E = E} 32 10 t (Ok v) → IsSpelled t v
@@ -46,11 +41,3 @@ pub is_flag : (text : Option (List ℕ)) (b : Bool) → (text ≡ None → b ≡
     (text ≡ Some (codes "true") → b ≡ true) → (text ≡ Some (codes "false") → b ≡ false) → IsFlag text b
 is_flag None b none so not_so = none refl
 is_flag (Some t) b none so not_so = (λ e. so (ap Some e), λ e. not_so (ap Some e))
-
--- a text is no address of this machine alone where the one that it is isn't
-pub not_loopback : (text : List ℕ) (a at : SocketAddr) → IsSocketText text a →
-    (MatchIp (socket_ip a) IsLoopbackV4 IsLoopbackV6 → socket_port a ≢ 0 → ⊥) → IsLoopback text at → ⊥
-not_loopback text a at is not_so h =
-    let e = IsSocketText_unique text at a h.0 is in
-    not_so (subst (λ (x : SocketAddr). MatchIp (socket_ip x) IsLoopbackV4 IsLoopbackV6) e h.1)
-    (subst (λ (x : SocketAddr). socket_port x ≢ 0) e h.2)

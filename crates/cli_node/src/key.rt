@@ -1,18 +1,22 @@
 //! The keys that the arguments of `node` name, and new ones.
 
-ghost use Rattle.std.specs.Prelude.{◌≡◌, ◌≢◌, ◌⊎◌, Ok, Err, OnErr, IfOk, option_map};
+ghost use Rattle.std.specs.Prelude.{◌≡◌, ◌≢◌, ◌⊎◌, ◌==◌, ◌/◌, Ok, Err, OnErr, IfOk, option_map};
 ghost use Rattle.std.specs.Prelude.{ℕ, List, OnOk, map, is_some};
 ghost use Rattle.cli_files.specs.KeyTexts.{key_text};
+ghost use Rattle.node_udp.specs.Addresses.{address_of};
 ghost use Rattle.cli_node.specs.declared.outcome.Outcome.TheVariants.{Key, Made, Memory, Refused};
 ghost use Rattle.cli_node.specs.inner.Keeping.{IsWritten};
+ghost use Rattle.cli_node.specs.inner.Places.{is_loopback, is_loopback_ip};
 ghost use Rattle.cli_node.specs.inner.Secrets.{IsNamed, AreNamed};
 
 use crate::files::NodeFiles;
-use crate::node::{NodeWords, loopback_in};
+use crate::node::NodeWords;
 use crate::outcome::Outcome;
 use crate::store::FILE_IS_THERE;
 use cli_files::{KeyFault, RandomBytes, key_text, new_key};
 use cli_io::{Shown, make_private, open_regular};
+use node_udp::parse_address;
+use pf_addr::Addr;
 use std::alloc::Global;
 use std::fs::{self, Files};
 use std::io::{self, Eprint, ErrorKind, Write};
@@ -128,12 +132,32 @@ pub(crate) fn keys_for<F: NodeFiles>(
     }
 }
 
+/// Whether an address is one at which this machine alone is heard.
+fn is_loopback_ip(ip: Addr) -> bool
+    ensures { result ≡ is_loopback_ip ip }
+{
+    match ip {
+        Addr::V4(bits) => bits / 0x100_0000 == 127,
+        Addr::V6(bits) => bits == 1,
+    }
+}
+
+/// Whether the text is such an address and a port; a name isn't.
+fn is_loopback(text: &str) -> bool
+    ensures { result ≡ is_loopback (address_of text.now) }
+{
+    match parse_address(text) {
+        Some(address) => is_loopback_ip(address.ip),
+        None => false,
+    }
+}
+
 /// Says on standard error that the datagrams of a node carry no tag, where others than this machine may send it some.
 pub(crate) fn warn_unsealed(rt: &HostRuntime, words: NodeWords<'_, '_, '_>) {
     let Some(own) = words.members.get(usize::from(words.me)) else {
         return;
     };
-    if words.key.is_some() || words.is_unsealed || loopback_in(own).is_some() {
+    if words.key.is_some() || words.is_unsealed || is_loopback(own) {
         return;
     }
     let _said = eprintln!(rt;

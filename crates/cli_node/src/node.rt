@@ -3,7 +3,6 @@
 ghost use Rattle.std.specs.Prelude.{◌≡◌, ◌≢◌, ◌<◌, ◌≤◌, ◌⊎◌, ◌↔◌, Err, false, length, IfSome, OnErr, IsSome, IsTrue};
 ghost use Rattle.std.specs.Prelude.{ℕ, Bool, [], None, Ok, IfOk, map, option_map, option_and_then, is_some};
 ghost use Rattle.std.specs.Prelude.{◌||◌, ◌++◌, codes, string_bytes};
-ghost use Rattle.std.specs.declared.net.socket_addr.SocketAddr.{SocketAddr};
 ghost use Rattle.clap.specs.Words.{found_of, one_text};
 ghost use Rattle.sqlite.specs.Held.{state};
 ghost use Rattle.px_store.specs.Formats.{record_at};
@@ -28,7 +27,7 @@ ghost use Rattle.cli_node.specs.inner.Settled.{AreWords, is_whole};
 ghost use Rattle.cli_node.specs.inner.Stores.{HasNone, IsFoundAt, IsKept, IsNone, IsStoreless, is_made};
 ghost use Rattle.cli_node.specs.declared.store.Found.{Found};
 ghost use Rattle.cli_node.specs.declared.store.TheConstants.{NO_STORE};
-ghost use Rattle.cli_node.specs.inner.Places.{IsLoopback, is_count, has_place, turns_or_all, chosen};
+ghost use Rattle.cli_node.specs.inner.Places.{is_count, has_place, turns_or_all, chosen};
 
 use crate::database::Databases;
 use crate::events::{say_end, say_start};
@@ -382,21 +381,6 @@ fn run_at<R: Records, T: Timer>(
     (ended_outcome(ended, Outcome::Memory), records)
 }
 
-/// The address that a text is, if it is one at which this machine alone is heard, with a port; a name is none.
-pub(crate) fn loopback_in(text: &str) -> Option<SocketAddr>
-    ensures some { IfSome result (IsLoopback text.now) }
-    ensures none { result ≡ None → (at : SocketAddr) → IsLoopback text.now at → ⊥ }
-{
-    let Ok(address) = text.parse::<SocketAddr>() else {
-        return None;
-    };
-    if address.ip().is_loopback() && address.port() != 0 {
-        Some(address)
-    } else {
-        None
-    }
-}
-
 /// Where figures are served over TCP, if they are: 82 for what is no address at which this machine alone is heard, with
 /// a port.
 pub(crate) fn figures_at(words: NodeWords<'_, '_, '_>) -> Result<Option<SocketAddr>, Outcome>
@@ -406,9 +390,15 @@ pub(crate) fn figures_at(words: NodeWords<'_, '_, '_>) -> Result<Option<SocketAd
     let Some(text) = words.metrics else {
         return Ok(None);
     };
-    match loopback_in(text) {
-        Some(address) => Ok(Some(address)),
-        None => Err(Outcome::Refused(82)),
+    match text.parse::<SocketAddr>() {
+        Ok(address) => {
+            if address.ip().is_loopback() && address.port() != 0 {
+                Ok(Some(address))
+            } else {
+                Err(Outcome::Refused(82))
+            }
+        }
+        Err(_) => Err(Outcome::Refused(82)),
     }
 }
 

@@ -12,7 +12,7 @@ ghost use Rattle.cli_node.specs.declared.settings.TheConstants.{BAD_SETTINGS};
 ghost use Rattle.cli_node.specs.inner.Places.{has_place};
 ghost use Rattle.cli_node.specs.inner.Running.{Anything, EndsNode, hears_asks};
 ghost use Rattle.cli_node.specs.inner.Secrets.{AreNamed};
-ghost use Rattle.cli_node.specs.inner.Settled.{IsNode, IsSettled, IsUnsettled, members_in};
+ghost use Rattle.cli_node.specs.inner.Settled.{AreSettings, IsNode, IsSettled, IsUnread, IsUnsettled, members_in};
 ghost use Rattle.cli_node.specs.inner.Stores.{IsStoreless};
 
 use crate::check::check_outcome;
@@ -38,7 +38,7 @@ const BAD_SETTINGS: u8 = 92;
 /// The bytes of a file.
 fn bytes_of<RT: Files + Eprint>(rt: &RT, alloc: Global, path: &str) -> Result<Vec<u8>, Outcome>
     ensures read { IfOk result (λ bytes. IsOfFile RT.File.remaining bytes.items) }
-    ensures refused { IfErr result IsUnsettled }
+    ensures refused { IfErr result IsUnread }
 {
     let mut file = match open_regular(rt, path) {
         Ok(file) => file,
@@ -59,7 +59,7 @@ fn bytes_of<RT: Files + Eprint>(rt: &RT, alloc: Global, path: &str) -> Result<Ve
 
 /// What a wrong file is refused for, logged on standard error too.
 fn file_refused<RT: Eprint>(rt: &RT, path: &str, fault: FileFault) -> Outcome
-    ensures { IsUnsettled result }
+    ensures { IsUnread result }
 {
     if fault == FileFault::Memory {
         return Outcome::Memory;
@@ -84,7 +84,7 @@ fn file_refused<RT: Eprint>(rt: &RT, path: &str, fault: FileFault) -> Outcome
 fn settings_in<RT: Files + Eprint>(rt: &RT, alloc: Global, path: &str) -> Result<NodeFile, Outcome>
     ensures settings { IfOk result (λ f. (text : List ℕ) × IsOfFile RT.File.remaining text ×
         (parse_document text ≡ Some (settings_of f))) }
-    ensures refused { IfErr result IsUnsettled }
+    ensures refused { IfErr result IsUnread }
 {
     let bytes = match bytes_of(rt, alloc, path) {
         Ok(bytes) => bytes,
@@ -93,6 +93,22 @@ fn settings_in<RT: Files + Eprint>(rt: &RT, alloc: Global, path: &str) -> Result
     match NodeFile::read(alloc, &bytes) {
         Ok(file) => Ok(file),
         Err(fault) => Err(file_refused(rt, path, fault)),
+    }
+}
+
+/// The settings in the file that is named; none without one.
+fn settings_for<RT: Files + Eprint>(
+    rt: &RT,
+    alloc: Global,
+    named: Option<&str>,
+) -> Result<NodeFile, Outcome>
+    ensures settings { IfOk result (λ f. AreSettings (λ text. IsOfFile RT.File.remaining text)
+        (option_map (λ n. n.now) named.entry) f) }
+    ensures refused { IfErr result (IsUnsettled (option_map (λ n. n.now) named.entry)) }
+{
+    match named {
+        Some(path) => settings_in(rt, alloc, path),
+        None => Ok(NodeFile::empty(alloc)),
     }
 }
 
@@ -204,12 +220,12 @@ fn outcome_with<'g: 'f, 'f, RT: Eprint, N: Nodes + Drop>(
     ensures { (result ≡ Memory) ⊎ IsSettled (N.ran nodes) (N.checked nodes) matches.now file.now
         (members_in matches.now file.now) result }
 {
-    if let Some(members) = matches.get_strs("member") {
-        return outcome_for(rt, nodes, alloc, matches, file, members);
-    }
-    match file.texts(alloc, "members") {
-        Ok(listed) => outcome_for(rt, nodes, alloc, matches, file, listed.as_slice()),
-        Err(_) => Outcome::Memory,
+    match matches.get_strs("member") {
+        Some(members) => outcome_for(rt, nodes, alloc, matches, file, members),
+        None => match file.texts(alloc, "members") {
+            Ok(listed) => outcome_for(rt, nodes, alloc, matches, file, listed.as_slice()),
+            Err(_) => Outcome::Memory,
+        },
     }
 }
 
@@ -223,11 +239,7 @@ pub(crate) fn settled_outcome<RT: Files + Eprint, N: Nodes + Drop>(
 ) -> Outcome
     ensures { IsNode (N.ran nodes) (N.checked nodes) (λ text. IsOfFile RT.File.remaining text) matches.now result }
 {
-    let Some(path) = matches.get_str("config") else {
-        let file = NodeFile::empty(alloc);
-        return outcome_with(rt, nodes, alloc, matches, &file);
-    };
-    match settings_in(rt, alloc, path) {
+    match settings_for(rt, alloc, matches.get_str("config")) {
         Ok(file) => outcome_with(rt, nodes, alloc, matches, &file),
         Err(outcome) => outcome,
     }

@@ -1,7 +1,10 @@
 -- What the words and a file of settings say.
-use Rattle.std.specs.Prelude.{◌≡◌, ℕ, ◌<◌, ◌^◌, ⊤, Bool, true, false, ◌||◌, List, codes}
+use Rattle.std.specs.Prelude.{◌≡◌, ◌≢◌, ℕ, ◌<◌, ◌^◌, ⊤, Bool, true, false, ◌||◌, List, codes}
 use Rattle.std.specs.Prelude.{Option, Some, None, option_and_then}
 use Rattle.std.specs.Str.Parse.{IsNumeral, digits_value, without_leading_plus}
+use Rattle.std.specs.Net.Addr.{MatchIp, IsLoopbackV4, IsLoopbackV6}
+use Rattle.std.specs.Net.Grammar.{IsSocketText}
+use Rattle.std.specs.Net.Socket.{socket_ip, socket_port}
 use Rattle.std.specs.declared.net.socket_addr.SocketAddr.{SocketAddr}
 use Rattle.clap.specs.Words.{found_of, first_value, one_text}
 use Rattle.clap.specs.declared.parser.matches.ArgMatches.{ArgMatches}
@@ -9,7 +12,7 @@ use Rattle.toml.specs.Data.{as_str, get_member}
 use Rattle.cli_files.specs.Files.{settings_of}
 use Rattle.cli_files.specs.Settings.{flag_at, number_of}
 use Rattle.cli_files.specs.declared.settings.NodeFile.{NodeFile}
-use Rattle.cli_node.specs.inner.Places.{IsLoopback, chosen, turns_or_all}
+use Rattle.cli_node.specs.inner.Places.{chosen, turns_or_all}
 
 -- the text of an option, that of the file where it isn't given
 abbrev pub text_in : ArgMatches → NodeFile → (name : List ℕ) → Option (List ℕ)
@@ -60,7 +63,8 @@ abbrev pub AreFigures : (named : Option (List ℕ)) → Option SocketAddr → Ty
 AreFigures None None = ⊤
 AreFigures None (Some at) = ⊥
 AreFigures (Some text) None = ⊥
-AreFigures (Some text) (Some at) = IsLoopback text at
+AreFigures (Some text) (Some at) =
+    IsSocketText text at × MatchIp (socket_ip at) IsLoopbackV4 IsLoopbackV6 × (socket_port at ≢ 0)
 
 -- a control socket is where the words name one, and this holds of its figures and of the members that it shows
 abbrev pub IsPlaced : {P A : Type 0} → (path_of : P → List ℕ) → (figures_of : P → A) → (members_of : P → List ℕ) →

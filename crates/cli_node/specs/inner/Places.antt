@@ -1,9 +1,8 @@
 -- Which numbers a cluster and its members may have.
-use Rattle.std.specs.Prelude.{◌≢◌, ℕ, ◌*◌, max, ◌-◌, ◌^◌, Bool, ◌&&◌, nat_le, nat_lt, List, Option, Some, None}
-use Rattle.std.specs.Net.Addr.{MatchIp, IsLoopbackV4, IsLoopbackV6}
-use Rattle.std.specs.Net.Grammar.{IsSocketText}
-use Rattle.std.specs.Net.Socket.{socket_ip, socket_port}
-use Rattle.std.specs.declared.net.socket_addr.SocketAddr.{SocketAddr}
+use Rattle.std.specs.Prelude.{ℕ, ◌*◌, max, ◌/◌, ◌-◌, ◌^◌, ◌==◌, Bool, false, ◌&&◌, nat_le, nat_lt, Option, Some, None}
+use Rattle.pf_addr.specs.declared.addr.Addr.{Addr}
+use Rattle.pf_addr.specs.declared.addr.Addr.TheVariants.{V4, V6}
+use Rattle.node_udp.specs.declared.address.Address.{Address}
 
 -- n members
 abbrev pub is_count : ℕ → Bool
@@ -23,11 +22,14 @@ abbrev pub waits_of : Option ℕ → ℕ
 waits_of (Some seconds) = max (5 * seconds) 1
 waits_of None = 5
 
--- the text is this address, at which a machine hears itself alone: 127.0.0.0/8 (RFC 1122, 3.2.1.3) or ::1 (RFC 4291,
--- 2.5.3), with a port
-abbrev pub IsLoopback : (text : List ℕ) → SocketAddr → Type 0
-IsLoopback text at =
-    IsSocketText text at × MatchIp (socket_ip at) IsLoopbackV4 IsLoopbackV6 × (socket_port at ≢ 0)
+-- an address at which a machine hears itself alone: 127.0.0.0/8 (RFC 1122, 3.2.1.3), ::1 (RFC 4291, 2.5.3)
+abbrev pub is_loopback_ip : Addr → Bool
+is_loopback_ip (V4 bits) = bits / 0x1000000 == 127
+is_loopback_ip (V6 bits) = bits == 1
+
+abbrev pub is_loopback : Option Address → Bool
+is_loopback None = false
+is_loopback (Some a) = is_loopback_ip a.ip
 
 -- what is given goes before what else there is
 abbrev pub chosen : {A : Type 0} → Option A → Option A → Option A

@@ -56,19 +56,24 @@ IsSettled ran checked matches file members outcome = (outcome ≡ Refused BAD_SE
     ⊎ ((w : NodeWords) × (is_check : Bool) × AreWords matches file members w × (is_whole w ≡ true)
     × IsFlag (one_text (found_of matches) (codes "check")) is_check × IsDone ran checked is_check w outcome)
 
--- why there are no settings: out of memory, or their file can't be read or is wrong
-abbrev pub IsUnsettled : Outcome → Type 0
-IsUnsettled Memory = ⊤
-IsUnsettled (Refused code) = (code ≡ UNREADABLE) ⊎ (code ≡ BAD_SETTINGS)
-IsUnsettled (RefusedLine code at) = code ≡ BAD_SETTINGS
-IsUnsettled (Front front applied) = ⊥
-IsUnsettled (Stopped front applied) = ⊥
-IsUnsettled (Asked node number) = ⊥
-IsUnsettled (Key key) = ⊥
-IsUnsettled NoAnswer = ⊥
-IsUnsettled Sound = ⊥
-IsUnsettled Made = ⊥
-IsUnsettled Unread = ⊥
+-- why a file gives no settings: out of memory, or it can't be read or is wrong
+abbrev pub IsUnread : Outcome → Type 0
+IsUnread Memory = ⊤
+IsUnread (Refused code) = (code ≡ UNREADABLE) ⊎ (code ≡ BAD_SETTINGS)
+IsUnread (RefusedLine code at) = code ≡ BAD_SETTINGS
+IsUnread (Front front applied) = ⊥
+IsUnread (Stopped front applied) = ⊥
+IsUnread (Asked node number) = ⊥
+IsUnread (Key key) = ⊥
+IsUnread NoAnswer = ⊥
+IsUnread Sound = ⊥
+IsUnread Made = ⊥
+IsUnread Unread = ⊥
+
+-- the same of the file that is named; without one nothing is read
+abbrev pub IsUnsettled : (named : Option (List ℕ)) → Outcome → Type 0
+IsUnsettled None outcome = ⊥
+IsUnsettled (Some path) outcome = IsUnread outcome
 
 -- the settings of the file that the arguments name, none without one
 abbrev pub AreSettings : (is_of_file : (text : List ℕ) → Type 0) → (named : Option (List ℕ)) → NodeFile → Type 0
@@ -79,8 +84,7 @@ AreSettings is_of_file (Some path) file =
 -- What `node` gives: its file's refusal, memory ran out, or what its settings give.
 abbrev pub IsNode : (ran checked : NodeWords → Outcome → Type 0) → (is_of_file : (text : List ℕ) → Type 0) →
     ArgMatches → Outcome → Type 0
-IsNode ran checked is_of_file matches outcome =
-    ((path : List ℕ) × (first_value (found_of matches) (codes "config") ≡ Some path) × IsUnsettled outcome)
+IsNode ran checked is_of_file matches outcome = IsUnsettled (first_value (found_of matches) (codes "config")) outcome
     ⊎ ((outcome ≡ Memory)
     ⊎ ((file : NodeFile) × AreSettings is_of_file (first_value (found_of matches) (codes "config")) file
     × IsSettled ran checked matches file (members_in matches file) outcome))
