@@ -4,8 +4,10 @@ ghost use Rattle.std.specs.Prelude.{◌≡◌, ◌<◌};
 ghost use Rattle.std.specs.Process.{exit_status};
 ghost use Rattle.cli_io.specs.Status.{code_of};
 
-use crate::batch::run_batch;
+mod batch;
+
 use crate::version::write_version;
+use batch::run_batch;
 use cli_ask::run_control_ask;
 use cli_follow::run_follow;
 use cli_io::{REFUSALS, Status, out_of_memory};
@@ -16,20 +18,15 @@ use pf_tool::run;
 use std::io::{self, Eprint, ErrorKind, Read, Write};
 use std::process::{ExitCode, Termination};
 
-/// How the program ends, or a line of a batch. It is made here alone, and isn't dropped: whoever runs something ends as
-/// that did.
+/// How the program ends, or a command line of a batch. It is made here alone, and isn't dropped: what runs something
+/// ends as that did, but for `batch`, which reads the status of each line.
 pub(crate) struct Ended {
     status: Status,
 }
 
 impl Ended {
-    /// Whether something was refused.
-    pub(crate) fn is_refused(&self) -> bool {
-        self.status == Status::Refused
-    }
-
-    /// How it ended.
-    pub(crate) fn status(self) -> Status
+    /// The status, for `batch` alone.
+    fn status(self) -> Status
         ensures { result ≡ self.status }
     {
         let Ended { status } = self;
@@ -45,17 +42,73 @@ impl Termination for Ended {
     }
 }
 
-/// Who runs a subcommand. A value is used up by the run, and isn't dropped: so each is run once.
+/// What runs the subcommands, each by its crate. A caller that is generic over this makes exactly one run, and ends as
+/// that did: it can't copy, drop or make a value of this, nor of `Ended`.
 pub(crate) trait Runner {
-    /// Does what the arguments ask for, as the crate of their subcommand has it. All subcommands but `batch`.
-    fn run<R: Read, W: Write, E: Write>(
+    /// How a run ended.
+    type Ended;
+
+    /// Whether something was refused.
+    fn is_refused(ended: &Self::Ended) -> bool;
+
+    /// Writes which program this is.
+    fn version<W: Write>(self, writer: &mut W) -> Self::Ended;
+
+    /// Writes the help of `ask`.
+    fn ask_help<R: Read, W: Write, E: Write>(
+        self,
+        arguments: &[&str],
+        reader: &mut R,
+        writer: &mut W,
+        errors: &mut E,
+    ) -> Self::Ended;
+
+    /// `ask` at a control socket.
+    fn control_ask<R: Read, W: Write, E: Write>(
         self,
         arguments: &[&str],
         reader: &mut R,
         writer: &mut W,
         errors: &mut E,
         is_terminal: bool,
-    ) -> Ended;
+    ) -> Self::Ended;
+
+    /// `node`, `key`, and `ask` over UDP.
+    fn net<R: Read, W: Write>(
+        self,
+        arguments: &[&str],
+        reader: &mut R,
+        writer: &mut W,
+    ) -> Self::Ended;
+
+    /// `show`.
+    fn show<W: Write>(self, arguments: &[&str], writer: &mut W) -> Self::Ended;
+
+    /// `follow`.
+    fn follow<W: Write, E: Write>(
+        self,
+        arguments: &[&str],
+        writer: &mut W,
+        errors: &mut E,
+    ) -> Self::Ended;
+
+    /// `check --nft`.
+    fn nft<R: Read, W: Write>(
+        self,
+        arguments: &[&str],
+        reader: &mut R,
+        writer: &mut W,
+    ) -> Self::Ended;
+
+    /// All other subcommands but `batch`.
+    fn tool<R: Read, W: Write, E: Write>(
+        self,
+        arguments: &[&str],
+        reader: &mut R,
+        writer: &mut W,
+        errors: &mut E,
+        is_terminal: bool,
+    ) -> Self::Ended;
 }
 
 /// The first argument behind the program's name, empty where there is none.
@@ -120,7 +173,7 @@ pub(crate) fn lacks_control(arguments: &[&str]) -> bool {
 }
 
 /// Writes the help of `ask`: of the control socket's form, then of the one over UDP.
-fn help_ask<R: Read, W: Write, E: Write>(
+fn write_ask_help<R: Read, W: Write, E: Write>(
     rt: &HostRuntime,
     arguments: &[&str],
     reader: &mut R,
@@ -137,56 +190,58 @@ fn help_ask<R: Read, W: Write, E: Write>(
     }
 }
 
-/// Writes which program this is.
-fn tell_version<W: Write>(writer: &mut W) -> Status {
-    match write_version(writer) {
-        Ok(()) => Status::Done,
-        Err(_) => Status::Failed,
-    }
-}
-
-/// Does what the arguments ask for, as the crate of their subcommand has it.
-fn run_plain<R: Read, W: Write, E: Write>(
-    rt: &HostRuntime,
+/// Does what the arguments ask for, by the crate of their subcommand. All subcommands but `batch`.
+pub(crate) fn run_subcommand<T: Runner, R: Read, W: Write, E: Write>(
+    runner: T,
     arguments: &[&str],
     reader: &mut R,
     writer: &mut W,
     errors: &mut E,
     is_terminal: bool,
-) -> Status {
-    let alloc = rt.alloc();
+) -> T::Ended {
     match subcommand_of(arguments) {
-        "--version" | "-V" => tell_version(writer),
+        "--version" | "-V" => runner.version(writer),
         "ask" if asks_help(arguments) && !has_control(arguments) => {
-            help_ask(rt, arguments, reader, writer, errors)
+            runner.ask_help(arguments, reader, writer, errors)
         }
-        "ask" if has_control(arguments) => run_control_ask(
-            rt,
-            alloc,
-            arguments,
-            reader,
-            writer,
-            errors,
-            is_terminal,
-        ),
-        "node" | "ask" | "key" => run_net(rt, alloc, arguments, reader, writer),
-        "show" => run_show(rt, alloc, arguments, writer),
-        "follow" => run_follow(rt, alloc, arguments, writer, errors),
-        "check" if asks_nft(arguments) => run_nft(rt, alloc, arguments, reader, writer),
-        _ => run(
-            rt,
-            &REFUSALS,
-            arguments,
-            reader,
-            writer,
-            errors,
-            is_terminal,
-        ),
+        "ask" if has_control(arguments) => {
+            runner.control_ask(arguments, reader, writer, errors, is_terminal)
+        }
+        "node" | "ask" | "key" => runner.net(arguments, reader, writer),
+        "show" => runner.show(arguments, writer),
+        "follow" => runner.follow(arguments, writer, errors),
+        "check" if asks_nft(arguments) => runner.nft(arguments, reader, writer),
+        _ => runner.tool(arguments, reader, writer, errors, is_terminal),
     }
 }
 
 impl Runner for HostRuntime {
-    fn run<R: Read, W: Write, E: Write>(
+    type Ended = Ended;
+
+    fn is_refused(ended: &Ended) -> bool {
+        ended.status == Status::Refused
+    }
+
+    fn version<W: Write>(self, writer: &mut W) -> Ended {
+        let status = match write_version(writer) {
+            Ok(()) => Status::Done,
+            Err(_) => Status::Failed,
+        };
+        Ended { status }
+    }
+
+    fn ask_help<R: Read, W: Write, E: Write>(
+        self,
+        arguments: &[&str],
+        reader: &mut R,
+        writer: &mut W,
+        errors: &mut E,
+    ) -> Ended {
+        let status = write_ask_help(&self, arguments, reader, writer, errors);
+        Ended { status }
+    }
+
+    fn control_ask<R: Read, W: Write, E: Write>(
         self,
         arguments: &[&str],
         reader: &mut R,
@@ -194,13 +249,76 @@ impl Runner for HostRuntime {
         errors: &mut E,
         is_terminal: bool,
     ) -> Ended {
-        Ended {
-            status: run_plain(&self, arguments, reader, writer, errors, is_terminal),
-        }
+        let alloc = self.alloc();
+        let status = run_control_ask(
+            &self,
+            alloc,
+            arguments,
+            reader,
+            writer,
+            errors,
+            is_terminal,
+        );
+        Ended { status }
+    }
+
+    fn net<R: Read, W: Write>(
+        self,
+        arguments: &[&str],
+        reader: &mut R,
+        writer: &mut W,
+    ) -> Ended {
+        let status = run_net(&self, self.alloc(), arguments, reader, writer);
+        Ended { status }
+    }
+
+    fn show<W: Write>(self, arguments: &[&str], writer: &mut W) -> Ended {
+        let status = run_show(&self, self.alloc(), arguments, writer);
+        Ended { status }
+    }
+
+    fn follow<W: Write, E: Write>(
+        self,
+        arguments: &[&str],
+        writer: &mut W,
+        errors: &mut E,
+    ) -> Ended {
+        let status = run_follow(&self, self.alloc(), arguments, writer, errors);
+        Ended { status }
+    }
+
+    fn nft<R: Read, W: Write>(
+        self,
+        arguments: &[&str],
+        reader: &mut R,
+        writer: &mut W,
+    ) -> Ended {
+        let status = run_nft(&self, self.alloc(), arguments, reader, writer);
+        Ended { status }
+    }
+
+    fn tool<R: Read, W: Write, E: Write>(
+        self,
+        arguments: &[&str],
+        reader: &mut R,
+        writer: &mut W,
+        errors: &mut E,
+        is_terminal: bool,
+    ) -> Ended {
+        let status = run(
+            &self,
+            &REFUSALS,
+            arguments,
+            reader,
+            writer,
+            errors,
+            is_terminal,
+        );
+        Ended { status }
     }
 }
 
-/// The same of `batch`.
+/// Runs the command lines of a batch.
 pub(crate) fn run_lines<W: Write, E: Write>(
     rt: &HostRuntime,
     arguments: &[&str],

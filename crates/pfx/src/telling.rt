@@ -1,6 +1,6 @@
 //! One command line, and what is printed for people of a refusal that an argument's crate only prints the number of.
 
-use crate::running::{Ended, Runner, subcommand_of};
+use crate::running::{Runner, run_subcommand, subcommand_of};
 use cli_io::{REFUSALS, Shown, explanation, knock};
 use std::io::{self, Read, Write};
 use std::net::Net;
@@ -93,11 +93,11 @@ fn run_explained<RT: Net, T: Runner, R: Read, W: Write, E: Write>(
     reader: &mut R,
     writer: &mut W,
     errors: &mut E,
-) -> Ended {
+) -> T::Ended {
     let mut heard = Heard::new(writer);
-    let ended = runner.run(arguments, reader, &mut heard, errors, true);
+    let ended = run_subcommand(runner, arguments, reader, &mut heard, errors, true);
     match heard.refusal {
-        Some(code) if ended.is_refused() => tell(rt, arguments, code, errors),
+        Some(code) if T::is_refused(&ended) => tell(rt, arguments, code, errors),
         _ => {}
     }
     ended
@@ -113,11 +113,11 @@ pub(crate) fn run_line<RT: Net, T: Runner, R: Read, W: Write, E: Write>(
     writer: &mut W,
     errors: &mut E,
     is_terminal: bool,
-) -> Ended {
+) -> T::Ended {
     match subcommand_of(arguments) {
         "ask" | "show" if is_terminal => {
             run_explained(rt, runner, arguments, reader, writer, errors)
         }
-        _ => runner.run(arguments, reader, writer, errors, is_terminal),
+        _ => run_subcommand(runner, arguments, reader, writer, errors, is_terminal),
     }
 }
