@@ -145,8 +145,8 @@ fn owner_rows<S: Alter>(conn: &mut Connection<S>) -> Result<Vec<Row>, Closed>
     }
 }
 
-/// Whose store it is: 73 where it hasn't the tables of format 3, 72 where the row for the whole node is missing or names
-/// no member, 70 where the database doesn't answer. Nothing differs in the store.
+/// Whose store it is: 73 where it hasn't the tables of format 3, 72 where the row for the whole node is missing or
+/// names no member, 70 where the database doesn't answer. Nothing differs in the store.
 pub(crate) fn owner_of<S: Alter>(conn: &mut Connection<S>) -> Result<Membership, Closed>
     ensures stays { HasCleanDisk (state S.Store conn.new) → Began Three (state S.Store conn.old) →
         OnOk result (IsSame (state S.Store conn.old) (state S.Store conn.new)) }

@@ -18,8 +18,8 @@ use pf_tool::run;
 use std::io::{self, Eprint, ErrorKind, Read, Write};
 use std::process::{ExitCode, Termination};
 
-/// How the program ends, or a command line of a batch. It is made here alone, and isn't dropped: what runs something ends
-/// as that did, but for `batch`, which reads the status of each line.
+/// How the program ends, or a command line of a batch. It is made here alone, and isn't dropped: what runs something
+/// ends as that did, but for `batch`, which reads the status of each line.
 pub(crate) struct Ended {
     status: Status,
 }
@@ -250,24 +250,11 @@ impl Runner for HostRuntime {
         is_terminal: bool,
     ) -> Ended {
         let alloc = self.alloc();
-        let status = run_control_ask(
-            &self,
-            alloc,
-            arguments,
-            reader,
-            writer,
-            errors,
-            is_terminal,
-        );
+        let status = run_control_ask(&self, alloc, arguments, reader, writer, errors, is_terminal);
         Ended { status }
     }
 
-    fn net<R: Read, W: Write>(
-        self,
-        arguments: &[&str],
-        reader: &mut R,
-        writer: &mut W,
-    ) -> Ended {
+    fn net<R: Read, W: Write>(self, arguments: &[&str], reader: &mut R, writer: &mut W) -> Ended {
         let status = run_net(&self, self.alloc(), arguments, reader, writer);
         Ended { status }
     }
@@ -287,12 +274,7 @@ impl Runner for HostRuntime {
         Ended { status }
     }
 
-    fn nft<R: Read, W: Write>(
-        self,
-        arguments: &[&str],
-        reader: &mut R,
-        writer: &mut W,
-    ) -> Ended {
+    fn nft<R: Read, W: Write>(self, arguments: &[&str], reader: &mut R, writer: &mut W) -> Ended {
         let status = run_nft(&self, self.alloc(), arguments, reader, writer);
         Ended { status }
     }
