@@ -344,7 +344,7 @@ fn run_at<R: Records, T: Timer>(
         Ok(wire) => wire,
         Err(outcome) => return open_alone(alloc, m, records, outcome),
     };
-    let Ok(mut observer) = Observer::new(alloc, m, words.key.is_some(), words.is_quiet) else {
+    let Ok(mut observer) = Observer::new(alloc, m, sealing.is_some(), words.is_quiet) else {
         return open_alone(alloc, m, records, Outcome::Memory);
     };
     let hears = words.hears_asks();

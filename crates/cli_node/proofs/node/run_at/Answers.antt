@@ -1,9 +1,21 @@
 -- a run at the socket, without keys or with them
-use Rattle.std.proofs.Common.{◌∙◌, ap, inr, sym}
+use Rattle.std.proofs.Common.{◌≡◌, ◌∙◌, ap, inr, map, subst, sym}
+use Rattle.std.specs.Prelude.{IfSome}
+use Rattle.pf_scripts.specs.Lines.{spaced}
+use Rattle.node_udp.specs.Addresses.{shown_address}
 use Rattle.node_udp.specs.Members.{me_of, peers_of, route_of}
-use Rattle.cli_node.proofs.Refusing.{wire_is}
+use Rattle.cli_node.proofs.Refusing.{shown_here, wire_is}
 use Rattle.cli_node.proofs.Sealed.{as_sealed, hearing_is}
 use Rattle.cli_node.proofs.node.run_at.Goals as goal
+
+pub run_at_socket-ended-requires-clause-shown : goal.run_at_socket-ended-requires-clause-shown
+run_at_socket-ended-requires-clause-shown g c =
+    shown_here _ _ _ _ _ _ _ _ c.args.place c.in-Ok.is c.requires.placed
+
+pub run_sealed_at_socket-ended-requires-clause-shown : goal.run_sealed_at_socket-ended-requires-clause-shown
+run_sealed_at_socket-ended-requires-clause-shown g c =
+    subst (λ w. IfSome c.args.place (λ p. p.members.now ≡ spaced (map shown_address (peers_of w)))) (sym c.in-Ok-sealed.ensures.inner)
+    (shown_here _ _ _ _ _ _ _ _ c.args.place c.in-Ok.is c.requires.placed)
 
 pub returns-in_default-sealing-clause-ran : goal.returns-in_default-sealing-clause-ran
 returns-in_default-sealing-clause-ran g c = inr (
