@@ -5,7 +5,7 @@ use Rattle.std.specs.Prelude.{nat_lt, is_some, option_and_then, unwrap_or, if◌
 use Rattle.std.specs.Io.KnownBytes.{Appends}
 use Rattle.cli_io.specs.declared.status.Status.{Status}
 use Rattle.cli_io.specs.declared.status.Status.TheVariants as status
-use Rattle.cli_io.specs.Texts.{IsNamed}
+use Rattle.cli_io.specs.Sources.{IsNamed}
 use Rattle.cli_io.specs.Written.{line, AppendsFront}
 use Rattle.pf_scripts.specs.Lines.{refused_line}
 use Rattle.pf_arguments.specs.Asked.{is_given}

@@ -3,7 +3,7 @@
 ghost use Rattle.std.specs.Prelude.{◌≡◌, IfOk, IfErr, map, option_map};
 ghost use Rattle.clap.specs.Words.{found_of, rows_of};
 ghost use Rattle.cli_ask.specs.Asking.{answer_value};
-ghost use Rattle.cli_io.specs.Texts.{IsText, IsNamed};
+ghost use Rattle.cli_io.specs.Sources.{IsText, IsNamed};
 ghost use Rattle.cli_ask.specs.Outcomes.{number_at, IsUnread, HasNoText};
 ghost use Rattle.cli_ask.specs.Outcomes.{Replied, AsksWith, Asks};
 ghost use Rattle.cli_ask.specs.Outcomes.{are_there, has_others, seconds_by, refusal_in, IsScript, IsNoScript};
@@ -22,7 +22,7 @@ use crate::scripting::{ScriptRequest, ask_script};
 use crate::telling::tell_left;
 use crate::words::command;
 use clap::ArgMatches;
-use cli_io::{InputFault, Status, Texts, UNREADABLE, misused, out_of_memory, text_named, values_in};
+use cli_io::{InputFault, Status, Sources, UNREADABLE, misused, out_of_memory, source_named, values_in};
 use std::alloc::{AllocError, Global};
 use std::convert::AsStr;
 use std::io::{Read, Write};
@@ -36,7 +36,7 @@ fn number_at(matches: &ArgMatches<'_>, id: &str) -> Option<u32>
     matches.get_one::<u32>(id)
 }
 
-/// What a text that can't be read gives: of a file 90.
+/// What a source that can't be read gives: of a file 90.
 fn unread(name: &str, fault: InputFault) -> Outcome
     ensures { IsUnread name.now result }
 {
@@ -51,20 +51,20 @@ fn unread(name: &str, fault: InputFault) -> Outcome
 }
 
 /// The text that an option names; none without it.
-fn text_for<T: Texts, R: Read>(
-    texts: &T,
+fn text_for<T: Sources, R: Read>(
+    sources: &T,
     alloc: Global,
     named: Option<&str>,
     reader: &mut R,
 ) -> Result<Vec<u8>, Outcome>
     ensures text { IfOk result (λ text. IsNamed (option_map (λ n. n.now) named.entry)
-        (IsText (T.has texts.now) (R.remaining reader.old)) text.items) }
+        (IsText (T.has sources.now) (R.remaining reader.old)) text.items) }
     ensures none { IfErr result (λ outcome. HasNoText (option_map (λ n. n.now) named.entry) outcome) }
 {
     let Some(name) = named else {
         return Ok(Vec::new(alloc));
     };
-    match text_named(texts, alloc, name, reader) {
+    match source_named(sources, alloc, name, reader) {
         Ok(text) => Ok(text),
         Err(fault) => Err(unread(name, fault)),
     }
@@ -116,7 +116,7 @@ fn ask_with<RT: Net + Clock, C: Control, E: Write>(
 }
 
 /// What the arguments give at a control socket.
-fn outcome_of<RT: Net + Clock + Texts, C: Control, R: Read, E: Write>(
+fn outcome_of<RT: Net + Clock + Sources, C: Control, R: Read, E: Write>(
     rt: &RT,
     alloc: Global,
     matches: &ArgMatches<'_>,
@@ -184,22 +184,22 @@ fn refusal_in(
 }
 
 /// The script that is asked, or why none is.
-fn script_in<T: Texts, R: Read>(
-    texts: &T,
+fn script_in<T: Sources, R: Read>(
+    sources: &T,
     alloc: Global,
     matches: &ArgMatches<'_>,
     file: &str,
     reader: &mut R,
 ) -> Result<Vec<u8>, Outcome>
     ensures script { IfOk result (λ script. IsScript (rows_of (found_of matches.now)) file.now
-        (IsText (T.has texts.now) (R.remaining reader.old)) script.items) }
+        (IsText (T.has sources.now) (R.remaining reader.old)) script.items) }
     ensures none { IfErr result (λ outcome. IsNoScript (rows_of (found_of matches.now)) file.now
-        (IsText (T.has texts.now) (R.remaining reader.old)) outcome) }
+        (IsText (T.has sources.now) (R.remaining reader.old)) outcome) }
 {
     if has_others(matches) {
         return Err(refused(40));
     }
-    let script = match text_for(texts, alloc, Some(file), reader) {
+    let script = match text_for(sources, alloc, Some(file), reader) {
         Ok(script) => script,
         Err(outcome) => return Err(outcome),
     };
@@ -211,7 +211,7 @@ fn script_in<T: Texts, R: Read>(
 }
 
 /// Asks the changes of a script.
-fn run_script<RT: Net + Clock + Texts, C: Control, R: Read, W: Write, E: Write>(
+fn run_script<RT: Net + Clock + Sources, C: Control, R: Read, W: Write, E: Write>(
     rt: &RT,
     alloc: Global,
     matches: &ArgMatches<'_>,
@@ -240,7 +240,7 @@ fn run_script<RT: Net + Clock + Texts, C: Control, R: Read, W: Write, E: Write>(
 }
 
 /// Asks at a control socket what the arguments say, and writes what that gives.
-fn run_at<RT: Net + Clock + Texts, C: Control, R: Read, W: Write, E: Write>(
+fn run_at<RT: Net + Clock + Sources, C: Control, R: Read, W: Write, E: Write>(
     rt: &RT,
     alloc: Global,
     matches: &ArgMatches<'_>,
@@ -281,7 +281,7 @@ fn run_at<RT: Net + Clock + Texts, C: Control, R: Read, W: Write, E: Write>(
 /// The status is 1 where a change was refused or its outcome isn't known in time, where not all addresses of `-T test`
 /// match, and of every refusal. For people stands on `errors` how many positions are left once few are, and, where that
 /// is a terminal, at which line a script is.
-pub fn run_control_ask<RT: Net + Clock + Texts, S: AsStr, R: Read, W: Write, E: Write>(
+pub fn run_control_ask<RT: Net + Clock + Sources, S: AsStr, R: Read, W: Write, E: Write>(
     rt: &RT,
     alloc: Global,
     words: &[S],

@@ -3,4 +3,4 @@ pub mod Status
 pub mod Written
 pub mod Shown
 pub mod Explained
-pub mod Texts
+pub mod Sources

@@ -12,13 +12,13 @@ ghost use Rattle.node_udp.specs.Addresses.{AreFound};
 ghost use Rattle.node_udp.specs.Members.{me_of, peers_of};
 ghost use Rattle.cli_node.specs.declared.outcome.Outcome.TheVariants.{Refused};
 ghost use Rattle.cli_node.specs.inner.Places.{has_place, waits_of};
-ghost use Rattle.cli_io.specs.Texts.{IsNamed, IsText};
+ghost use Rattle.cli_io.specs.Sources.{IsNamed, IsText};
 ghost use Rattle.cli_node.specs.inner.Asked.{IsAsked, IsUnasked};
 ghost use Rattle.cli_node.specs.declared.ask.TheConstants.{CLIENT};
 
 use crate::outcome::{Outcome, answer_outcome, fault_outcome};
 use clap::ArgMatches;
-use cli_io::{InputFault, Texts, text_named};
+use cli_io::{InputFault, Sources, source_named};
 use node_udp::{BindFault, Membership, UdpWire, ask_once};
 use pf_arguments::{Action, Command, from_matches};
 use px_transport::Wire;
@@ -81,7 +81,7 @@ impl<'a> AskWords<'a> {
     }
 }
 
-/// What a text that can't be read gives: of a file 40.
+/// What a source that can't be read gives: of a file 40.
 fn unread(name: &str, fault: InputFault) -> Outcome
     ensures { IsUnasked result }
 {
@@ -96,20 +96,20 @@ fn unread(name: &str, fault: InputFault) -> Outcome
 }
 
 /// The text that `-f` names; none without it.
-fn text_for<T: Texts, R: Read>(
-    texts: &T,
+fn text_for<T: Sources, R: Read>(
+    sources: &T,
     alloc: Global,
     named: Option<&str>,
     reader: &mut R,
 ) -> Result<Vec<u8>, Outcome>
     ensures text { IfOk result (λ text. IsNamed (option_map (λ n. n.now) named.entry)
-        (IsText (T.has texts.now) (R.remaining reader.old)) text.items) }
+        (IsText (T.has sources.now) (R.remaining reader.old)) text.items) }
     ensures why { IfErr result IsUnasked }
 {
     let Some(name) = named else {
         return Ok(Vec::new(alloc));
     };
-    match text_named(texts, alloc, name, reader) {
+    match source_named(sources, alloc, name, reader) {
         Ok(text) => Ok(text),
         Err(fault) => Err(unread(name, fault)),
     }
@@ -189,8 +189,8 @@ fn membership(words: AskWords<'_>) -> Option<Membership>
 }
 
 /// What `ask` comes to: 40 of its numbers, the faults of the action, and 82, in this order; then the answer.
-pub(crate) fn ask_outcome<T: Texts, C: Client + Drop, R: Read>(
-    texts: &T,
+pub(crate) fn ask_outcome<T: Sources, C: Client + Drop, R: Read>(
+    sources: &T,
     client: C,
     alloc: Global,
     words: AskWords<'_>,
@@ -201,7 +201,7 @@ pub(crate) fn ask_outcome<T: Texts, C: Client + Drop, R: Read>(
     ensures asked { IsUnasked result ⊎ ((m : Membership) × (text : List ℕ) × (command : Command) × (w : C.Wire) ×
         (back : C.Wire) × (m.cluster ≡ words.entry.cluster) × (m.members ≡ words.entry.members) ×
         IsNamed (first_value (found_of matches.now) (codes "file"))
-        (IsText (T.has texts.now) (R.remaining reader.old)) text ×
+        (IsText (T.has sources.now) (R.remaining reader.old)) text ×
         (asked (given_in (rows_of (found_of matches.now))) text ≡ Ok (Change (command_value command))) ×
         C.reaches client words.entry.to.now w ×
         IsAsked C.Wire.traffic w back m words.entry.node words.entry.waits command result) }
@@ -209,7 +209,7 @@ pub(crate) fn ask_outcome<T: Texts, C: Client + Drop, R: Read>(
     let Some(m) = membership(words) else {
         return Outcome::Refused(40);
     };
-    let text = match text_for(texts, alloc, matches.get_str("file"), reader) {
+    let text = match text_for(sources, alloc, matches.get_str("file"), reader) {
         Ok(text) => text,
         Err(outcome) => return outcome,
     };

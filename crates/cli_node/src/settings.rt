@@ -2,7 +2,7 @@
 
 ghost use Rattle.std.specs.Prelude.{◌≡◌, ◌≢◌, ◌⊎◌, ℕ, List, Some, false, length, map, option_map, IfOk, IfErr};
 ghost use Rattle.toml.specs.Parse.{parse_document};
-ghost use Rattle.cli_io.specs.Texts.{IsOfFile};
+ghost use Rattle.cli_io.specs.Sources.{IsOfFile};
 ghost use Rattle.cli_files.specs.Clusters.{IsClusterKey};
 ghost use Rattle.cli_files.specs.Files.{settings_of};
 ghost use Rattle.cli_node.specs.declared.node.NodeWords.{NodeWords};
@@ -222,7 +222,7 @@ fn outcome_with<'g: 'f, 'f, RT: Eprint, N: Nodes + Drop>(
 {
     match matches.get_strs("member") {
         Some(members) => outcome_for(rt, nodes, alloc, matches, file, members),
-        None => match file.texts(alloc, "members") {
+        None => match file.sources(alloc, "members") {
             Ok(listed) => outcome_for(rt, nodes, alloc, matches, file, listed.as_slice()),
             Err(_) => Outcome::Memory,
         },

@@ -88,7 +88,7 @@ abbrev pub emptied : TextFile → FileValue
 emptied old = record { name = string_bytes old.name; text = [] }
 
 -- files, and empty ones in the place of those before that have to be emptied
--- Example: main.conf, where anchor+x.conf has a text: main.conf, and anchor+x.conf without text.
+-- Example: main.conf, where anchor+x.conf has a ruleset: main.conf, and anchor+x.conf without text.
 abbrev pub with_gone : List FileValue → List TextFile → List FileValue
 with_gone files [] = files
 with_gone files (old ∷ olds) = with_gone (if is_gone files old then files ++ emptied old ∷ [] else files) olds

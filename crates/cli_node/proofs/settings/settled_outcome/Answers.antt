@@ -1,6 +1,6 @@
 -- the settings are those of the file that is named, or none
 use Rattle.std.proofs.Common.{inl, subst}
-use Rattle.cli_io.specs.Texts.{IsOfFile}
+use Rattle.cli_io.specs.Sources.{IsOfFile}
 use Rattle.cli_node.specs.inner.Settled.{AreSettings, IsUnsettled}
 use Rattle.cli_node.proofs.Settled.{with_settings}
 use Rattle.cli_node.proofs.settings.settled_outcome.Goals as goal
