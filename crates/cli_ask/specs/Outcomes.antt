@@ -1,10 +1,11 @@
 -- What a run of `ask` asks and writes, and how it ends.
-use Rattle.std.specs.Prelude.{◌≡◌, ◌⊎◌, ℕ, Bool, true, false, ◌||◌, List, [], ◌∷◌, Option, Some, None, Ok, Err, IfSome}
+use Rattle.std.specs.Prelude.{◌≡◌, ◌⊎◌, ℕ, Bool, true, false, ◌||◌, List, [], ◌∷◌, Option, Some, None, Ok, Err}
 use Rattle.std.specs.Prelude.{codes, bytes_eq}
 use Rattle.std.specs.Prelude.{nat_lt, is_some, option_and_then, unwrap_or, if◌then◌else◌}
 use Rattle.std.specs.Io.KnownBytes.{Appends}
 use Rattle.cli_io.specs.declared.status.Status.{Status}
 use Rattle.cli_io.specs.declared.status.Status.TheVariants as status
+use Rattle.cli_io.specs.Sources.{IsNamed}
 use Rattle.cli_io.specs.Written.{line, AppendsFront}
 use Rattle.pf_scripts.specs.Lines.{refused_line}
 use Rattle.pf_arguments.specs.Asked.{is_given}
@@ -61,21 +62,6 @@ Wrote ending outcome old new = (ending ≡ status_of outcome) × Appends old new
 -- the number that an option has, none where it isn't given
 abbrev pub number_at : List Row → (id : Text) → Option ℕ
 number_at rows id = option_and_then number_of (one_of id rows)
-
--- the text is what was left to read of a file
-abbrev pub IsOfFile : {F : Type 0} → (remaining : F → Option (List ℕ)) → (text : List ℕ) → Type 0
-IsOfFile {F} remaining text = (file : F) × IfSome (remaining file) (λ bytes. text ≡ bytes)
-
--- the text that a name stands for: of the input for `-`, else of a file
-abbrev pub IsText : {F : Type 0} → (remaining : F → Option (List ℕ)) → (input : Option (List ℕ)) → Text →
-    (text : List ℕ) → Type 0
-IsText remaining input name text = (bytes_eq name (codes "-") ≡ true → IfSome input (λ bytes. text ≡ bytes))
-    × (bytes_eq name (codes "-") ≡ false → IsOfFile remaining text)
-
--- the text that an option names, none without it
-abbrev pub IsNamed : (named : Option Text) → (is_text : Text → List ℕ → Type 0) → (text : List ℕ) → Type 0
-IsNamed None is_text text = text ≡ []
-IsNamed (Some name) is_text text = is_text name text
 
 -- what can't be read gives: of a file 90
 abbrev pub IsUnread : Text → Outcome → Type 0

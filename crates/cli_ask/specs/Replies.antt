@@ -1,6 +1,6 @@
 -- What is sent to a node, and what it answers, as HTTP has them.
 use Rattle.std.specs.Prelude.{◌≡◌, ℕ, ◌^◌, ◌≤◌, Bool, true, false, ◌&&◌, ◌==◌, List, [], ◌∷◌, ◌++◌, length, map, nat_lt}
-use Rattle.std.specs.Prelude.{Option, Some, None}
+use Rattle.std.specs.Prelude.{Option, Some, None, IfSome}
 use Rattle.std.specs.Prelude.{codes, decimal, option_and_then, if◌then◌else◌}
 use Rattle.std.specs.Char.{digit_value}
 use Rattle.std.specs.List.{list_all}
@@ -8,6 +8,7 @@ use Rattle.std.specs.Str.{is_utf8, str_eq_ignore_ascii_case}
 use Rattle.std.specs.Str.Parse.{digits_value, without_leading_plus}
 use Rattle.httparse.specs.Grammar.{ReadsResponse, ResponseHead, status_code}
 use Rattle.httparse.specs.Spans.{name_and_value}
+use Rattle.cli_io.specs.Written.{AppendsFront}
 use Rattle.cli_ask.specs.Calls.{Request}
 use Rattle.cli_ask.specs.declared.exchange.Reply.{Reply}
 use Rattle.cli_ask.specs.declared.reply.TheConstants.{FIELDS}
@@ -98,6 +99,14 @@ pub record IsAnswer (bytes : List ℕ) (a : Answer) : Type 0 where
   pub reads : ReadsResponse bytes head a.body
   pub whole : has_length (length a.body) (fields_of head) ≡ true
   pub is : a ≡ answer_of (status_code head) (fields_of head) a.body
+
+-- This is answered to a request: to a new connection its bytes were written, or a front of them, and all that was left
+-- to read of it then is the answer.
+abbrev pub IsAnswerTo : {S : Type 0} → (is_new : S → Type 0) → (contents remaining : S → Option (List ℕ)) → Request →
+    Answer → Type 0
+IsAnswerTo {S} is_new contents remaining r a =
+    (new : S) × (sent : S) × is_new new × AppendsFront (contents new) (contents sent) (request_bytes r)
+    × IfSome (remaining sent) (λ bytes. IsAnswer bytes a)
 
 -- they are none: no head, or one of more than 64 fields, or a body that isn't as long as the head says
 abbrev pub IsNoAnswer : List ℕ → Type 0

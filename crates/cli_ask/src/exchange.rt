@@ -1,11 +1,12 @@
 //! One request and its answer over a Unix socket.
 
-ghost use Rattle.std.specs.Prelude.{◌≡◌, ◌⊎◌, ℕ, ◌+◌, ⊤, IfOk, IfSome};
-ghost use Rattle.cli_ask.specs.Replies.{IsAnswer, reply_value};
+ghost use Rattle.std.specs.Prelude.{◌≡◌, ◌⊎◌, ℕ, ◌+◌, ⊤, IfOk};
+ghost use Rattle.cli_ask.specs.Calls.{call_value};
+ghost use Rattle.cli_ask.specs.Replies.{IsAnswerTo, reply_value};
 
 use crate::call::{Call, Kind};
 use crate::reply::{reply_in, request_bytes};
-use cli_io::{InputFault, read_all};
+use cli_io::{InputFault, read_all, write_bytes};
 use std::alloc::{AllocError, Global};
 use std::io::{self, ErrorKind, Read, Write};
 use std::net::Net;
@@ -87,9 +88,13 @@ pub(crate) trait Dial {
     // the number of connections that were asked for so far
     ghost dialed: { Self → ℕ → Type 0 };
 
+    // nothing was written to this connection or read of it
+    ghost is_new: { Self.Stream → Type 0 };
+
     /// A connection, written and read until the deadline.
     fn dial(&mut self, deadline: Deadline) -> io::Result<Self::Stream>
-        ensures { (n : ℕ) → dialed self.old n → dialed self.new (n + 1) };
+        ensures dialed { (n : ℕ) → dialed self.old n → dialed self.new (n + 1) }
+        ensures new { IfOk result is_new };
 }
 
 /// A stream that is read until the deadline.
@@ -131,6 +136,8 @@ impl<'a, RT: Net + Clock> Dial for ControlSocket<'a, RT> {
     // no contract can count what the system does
     ghost dialed = { λ _ _. ⊤ };
 
+    ghost is_new = { λ _. ⊤ };
+
     fn dial(&mut self, deadline: Deadline) -> io::Result<Timed<'a, RT>> {
         let stream = UnixStream::connect(self.rt, self.path)?;
         stream.set_write_timeout(Some(deadline.left(self.rt)?))?;
@@ -150,15 +157,15 @@ pub(crate) fn exchange<D: Dial>(
     deadline: Deadline,
 ) -> Result<Reply, AskFault>
     ensures dialed { (n : ℕ) → D.dialed control.old n → D.dialed control.new n ⊎ D.dialed control.new (n + 1) }
-    ensures answer { IfOk result (λ r. (s : D.Stream) ×
-        IfSome (D.Stream.remaining s) (λ bytes. IsAnswer bytes (reply_value r))) }
+    ensures answer { IfOk result (λ r. IsAnswerTo D.is_new D.Stream.contents D.Stream.remaining (call_value call.now)
+        (reply_value r)) }
 {
     let bytes = request_bytes(alloc, call)?;
     let Ok(mut stream) = control.dial(deadline) else {
         return Err(AskFault::NoAnswer);
     };
     // an answer may come before all is sent
-    let _sent = stream.write_all(bytes.as_slice());
+    let _sent = write_bytes(&mut stream, bytes.as_slice());
     match read_all(alloc, &mut stream) {
         Ok(answer) => reply_in(alloc, answer.as_slice()),
         Err(InputFault::Memory) => Err(AskFault::Memory),

@@ -1,13 +1,13 @@
 //! A run of `ask` with `--control`.
 
-ghost use Rattle.std.specs.Prelude.{◌≡◌, ◌⊎◌, IfOk, IfErr, map, option_map};
+ghost use Rattle.std.specs.Prelude.{◌≡◌, IfOk, IfErr, map, option_map};
 ghost use Rattle.clap.specs.Words.{found_of, rows_of};
 ghost use Rattle.cli_ask.specs.Asking.{answer_value};
-ghost use Rattle.cli_ask.specs.Outcomes.{unreadable, number_at, IsOfFile, IsText, IsNamed, IsUnread, HasNoText};
+ghost use Rattle.cli_io.specs.Sources.{IsText, IsNamed};
+ghost use Rattle.cli_ask.specs.Outcomes.{number_at, IsUnread, HasNoText};
 ghost use Rattle.cli_ask.specs.Outcomes.{Replied, AsksWith, Asks};
 ghost use Rattle.cli_ask.specs.Outcomes.{are_there, has_others, seconds_by, refusal_in, IsScript, IsNoScript};
 ghost use Rattle.cli_ask.specs.Outcomes.{RunsScript, Runs};
-ghost use Rattle.cli_ask.specs.declared.outcome.Outcome.TheVariants.{Memory};
 
 use crate::arguments::{call_in, has_option, is_given, value_of};
 use crate::asking::ask_at;
@@ -22,10 +22,11 @@ use crate::scripting::{ScriptRequest, ask_script};
 use crate::telling::tell_left;
 use crate::words::command;
 use clap::ArgMatches;
-use cli_io::{InputFault, Status, UNREADABLE, misused, out_of_memory, read_all, values_in};
+use cli_io::{
+    InputFault, Sources, Status, UNREADABLE, misused, out_of_memory, source_named, values_in,
+};
 use std::alloc::{AllocError, Global};
 use std::convert::AsStr;
-use std::fs::{self, Files};
 use std::io::{Read, Write};
 use std::net::Net;
 use std::time::Clock;
@@ -37,63 +38,37 @@ fn number_at(matches: &ArgMatches<'_>, id: &str) -> Option<u32>
     matches.get_one::<u32>(id)
 }
 
-/// What can't be read gives: memory ran out, or this.
-fn unread(fault: InputFault, outcome: Outcome) -> Outcome
-    ensures { (result ≡ Memory) ⊎ (result ≡ outcome) }
+/// What a source that can't be read gives: of a file 90.
+fn unread(name: &str, fault: InputFault) -> Outcome
+    ensures { IsUnread name.now result }
 {
     match fault {
         InputFault::Memory => Outcome::Memory,
-        InputFault::Failed | InputFault::TooLong => outcome,
+        InputFault::Failed | InputFault::TooLong => if name == "-" {
+            Outcome::Unread
+        } else {
+            refused(UNREADABLE)
+        },
     }
-}
-
-/// The text of a file. One that can't be read is 90.
-fn text_of_file<F: Files>(rt: &F, alloc: Global, path: &str) -> Result<Vec<u8>, Outcome>
-    ensures text { IfOk result (λ text. IsOfFile F.File.remaining text.items) }
-    ensures unread { IfErr result (λ outcome. (outcome ≡ Memory) ⊎ (outcome ≡ unreadable)) }
-{
-    let Ok(mut file) = fs::open(rt, path) else {
-        return Err(refused(UNREADABLE));
-    };
-    match read_all(alloc, &mut file) {
-        Ok(text) => Ok(text),
-        Err(fault) => Err(unread(fault, refused(UNREADABLE))),
-    }
-}
-
-/// The text that a name stands for: of the input for `-`, else of a file.
-fn text_named<F: Files, R: Read>(
-    rt: &F,
-    alloc: Global,
-    name: &str,
-    reader: &mut R,
-) -> Result<Vec<u8>, Outcome>
-    ensures text { IfOk result (λ text. IsText F.File.remaining (R.remaining reader.old) name.now text.items) }
-    ensures unread { IfErr result (λ outcome. IsUnread name.now outcome) }
-{
-    if name == "-" {
-        return match read_all(alloc, reader) {
-            Ok(text) => Ok(text),
-            Err(fault) => Err(unread(fault, Outcome::Unread)),
-        };
-    }
-    text_of_file(rt, alloc, name)
 }
 
 /// The text that an option names; none without it.
-fn text_for<F: Files, R: Read>(
-    rt: &F,
+fn text_for<T: Sources, R: Read>(
+    sources: &T,
     alloc: Global,
     named: Option<&str>,
     reader: &mut R,
 ) -> Result<Vec<u8>, Outcome>
     ensures text { IfOk result (λ text. IsNamed (option_map (λ n. n.now) named.entry)
-        (IsText F.File.remaining (R.remaining reader.old)) text.items) }
+        (IsText (T.has sources.now) (R.remaining reader.old)) text.items) }
     ensures none { IfErr result (λ outcome. HasNoText (option_map (λ n. n.now) named.entry) outcome) }
 {
-    match named {
-        Some(name) => text_named(rt, alloc, name, reader),
-        None => Ok(Vec::new(alloc)),
+    let Some(name) = named else {
+        return Ok(Vec::new(alloc));
+    };
+    match source_named(sources, alloc, name, reader) {
+        Ok(text) => Ok(text),
+        Err(fault) => Err(unread(name, fault)),
     }
 }
 
@@ -143,7 +118,7 @@ fn ask_with<RT: Net + Clock, C: Control, E: Write>(
 }
 
 /// What the arguments give at a control socket.
-fn outcome_of<RT: Files + Net + Clock, C: Control, R: Read, E: Write>(
+fn outcome_of<RT: Net + Clock + Sources, C: Control, R: Read, E: Write>(
     rt: &RT,
     alloc: Global,
     matches: &ArgMatches<'_>,
@@ -152,7 +127,7 @@ fn outcome_of<RT: Files + Net + Clock, C: Control, R: Read, E: Write>(
     errors: &mut E,
 ) -> Outcome
     ensures { Asks (C.exchanged control.old) (C.exchanged control.new) (rows_of (found_of matches.now))
-        (IsText RT.File.remaining (R.remaining reader.old)) result }
+        (IsText (RT.has rt.now) (R.remaining reader.old)) result }
 {
     if number_at(matches, "from").is_some() {
         return refused(40);
@@ -211,22 +186,22 @@ fn refusal_in(
 }
 
 /// The script that is asked, or why none is.
-fn script_in<F: Files, R: Read>(
-    rt: &F,
+fn script_in<T: Sources, R: Read>(
+    sources: &T,
     alloc: Global,
     matches: &ArgMatches<'_>,
     file: &str,
     reader: &mut R,
 ) -> Result<Vec<u8>, Outcome>
     ensures script { IfOk result (λ script. IsScript (rows_of (found_of matches.now)) file.now
-        (IsText F.File.remaining (R.remaining reader.old)) script.items) }
+        (IsText (T.has sources.now) (R.remaining reader.old)) script.items) }
     ensures none { IfErr result (λ outcome. IsNoScript (rows_of (found_of matches.now)) file.now
-        (IsText F.File.remaining (R.remaining reader.old)) outcome) }
+        (IsText (T.has sources.now) (R.remaining reader.old)) outcome) }
 {
     if has_others(matches) {
         return Err(refused(40));
     }
-    let script = match text_for(rt, alloc, Some(file), reader) {
+    let script = match text_for(sources, alloc, Some(file), reader) {
         Ok(script) => script,
         Err(outcome) => return Err(outcome),
     };
@@ -238,7 +213,7 @@ fn script_in<F: Files, R: Read>(
 }
 
 /// Asks the changes of a script.
-fn run_script<RT: Files + Net + Clock, C: Control, R: Read, W: Write, E: Write>(
+fn run_script<RT: Net + Clock + Sources, C: Control, R: Read, W: Write, E: Write>(
     rt: &RT,
     alloc: Global,
     matches: &ArgMatches<'_>,
@@ -250,7 +225,7 @@ fn run_script<RT: Files + Net + Clock, C: Control, R: Read, W: Write, E: Write>(
     is_terminal: bool,
 ) -> Status
     ensures { RunsScript (C.exchanged control.old) (C.exchanged control.new) (rows_of (found_of matches.now)) file.now
-        (IsText RT.File.remaining (R.remaining reader.old)) result (W.contents writer.old) (W.contents writer.new) }
+        (IsText (RT.has rt.now) (R.remaining reader.old)) result (W.contents writer.old) (W.contents writer.new) }
 {
     match script_in(rt, alloc, matches, file, reader) {
         Ok(script) => {
@@ -267,7 +242,7 @@ fn run_script<RT: Files + Net + Clock, C: Control, R: Read, W: Write, E: Write>(
 }
 
 /// Asks at a control socket what the arguments say, and writes what that gives.
-fn run_at<RT: Files + Net + Clock, C: Control, R: Read, W: Write, E: Write>(
+fn run_at<RT: Net + Clock + Sources, C: Control, R: Read, W: Write, E: Write>(
     rt: &RT,
     alloc: Global,
     matches: &ArgMatches<'_>,
@@ -278,7 +253,7 @@ fn run_at<RT: Files + Net + Clock, C: Control, R: Read, W: Write, E: Write>(
     is_terminal: bool,
 ) -> Status
     ensures { Runs (C.exchanged control.old) (C.exchanged control.new) (rows_of (found_of matches.now))
-        (IsText RT.File.remaining (R.remaining reader.old)) result (W.contents writer.old) (W.contents writer.new) }
+        (IsText (RT.has rt.now) (R.remaining reader.old)) result (W.contents writer.old) (W.contents writer.new) }
 {
     match value_of(matches, "script") {
         Some(file) => run_script(
@@ -308,7 +283,7 @@ fn run_at<RT: Files + Net + Clock, C: Control, R: Read, W: Write, E: Write>(
 /// The status is 1 where a change was refused or its outcome isn't known in time, where not all addresses of `-T test`
 /// match, and of every refusal. For people stands on `errors` how many positions are left once few are, and, where that
 /// is a terminal, at which line a script is.
-pub fn run_control_ask<RT: Files + Net + Clock, S: AsStr, R: Read, W: Write, E: Write>(
+pub fn run_control_ask<RT: Net + Clock + Sources, S: AsStr, R: Read, W: Write, E: Write>(
     rt: &RT,
     alloc: Global,
     words: &[S],

@@ -13,7 +13,7 @@ abbrev pub IsClusterKey : (text : List ℕ) → (cluster : ℕ) → (members : L
 IsClusterKey text cluster members key =
     (secret : List ℕ) × IsKey text secret × (key ≡ group_key secret cluster members)
 
--- the same of all that is to be read of a file
+-- the same of what is left to read of some file
 abbrev pub IsKeyOfFile : {F : Type 0} → (remaining : F → Option (List ℕ)) → (cluster : ℕ) →
     (members : List (List ℕ)) → (key : List ℕ) → Type 0
 IsKeyOfFile {F} remaining cluster members key =

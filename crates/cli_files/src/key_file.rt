@@ -25,7 +25,7 @@ pub trait SecretFile: Read {
 }
 
 impl<T: OpenFile + Read> SecretFile for T {
-    // all of it, of what the system says of a file; no contract says of which
+    // some file's whole mode; no contract ties it to this file
     ghost has_mode = { λ _ mode. (about : Metadata) × (mode ≡ metadata_mode about) };
 
     fn mode(&self) -> Option<u32> {

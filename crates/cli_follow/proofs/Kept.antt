@@ -1,29 +1,53 @@
--- What is taken for written was written.
-use Rattle.std.proofs.Common.{◌≡◌, ◌++◌, ℕ, true, List, [], ◌∷◌, Option, subst, inl, inr}
-use Rattle.std.specs.Prelude.{◌&&◌, bytes_eq, string_bytes}
+-- What is recorded as written was put into its place.
+use Rattle.std.proofs.Common.{◌≡◌, ◌++◌, ◌∙◌, ℕ, true, List, [], ◌∷◌, map, refl, sym, ap, append_assoc, subst, inl, inr}
+use Rattle.std.specs.Prelude.{◌&&◌, ◌||◌, Bool, bytes_eq, string_bytes}
 use Rattle.std.specs.List.{list_any}
 use Rattle.std.proofs.lemmas.Bool.{and_parts, or_cases}
+use Rattle.std.proofs.lemmas.List.{map-append}
 use Rattle.std.proofs.lemmas.Slice.Eq.{bytes_eq-Decides}
 use Rattle.cli_follow.specs.declared.files.TextFile.{TextFile}
-use Rattle.cli_follow.specs.inner.Files.{IsWritten, AreWritten, is_put, is_there}
+use Rattle.cli_follow.specs.inner.Files.{AreWritten, is_put, is_there, FileValue, file_value, is_named}
 
-this_written : {F : Type 0} (contents : F → Option (List ℕ)) (name text : List ℕ) (f : TextFile) →
-    (is_put f ≡ true → IsWritten contents (string_bytes f.text)) → is_there name text f ≡ true → IsWritten contents text
-this_written contents name text f written e =
+this_written : (put : List ℕ → List ℕ → Type 0) (name text : List ℕ) (f : TextFile) →
+    (is_put f ≡ true → put (string_bytes f.name) (string_bytes f.text)) → is_there name text f ≡ true → put name text
+this_written put name text f written e =
     let both = and_parts (f.is_put && bytes_eq (string_bytes f.name) name) (bytes_eq (string_bytes f.text) text) e in
-    let put = and_parts f.is_put (bytes_eq (string_bytes f.name) name) both.0 in
-    subst (λ (bytes : List ℕ). IsWritten contents bytes) ((bytes_eq-Decides (string_bytes f.text) text).0 both.1) (written put.0)
+    let here = and_parts f.is_put (bytes_eq (string_bytes f.name) name) both.0 in
+    subst (λ (bytes : List ℕ). put name bytes) ((bytes_eq-Decides (string_bytes f.text) text).0 both.1)
+    (subst (λ (bytes : List ℕ). put bytes (string_bytes f.text)) ((bytes_eq-Decides (string_bytes f.name) name).0 here.1) (written here.0))
 
-pub there_written : {F : Type 0} (contents : F → Option (List ℕ)) (name text : List ℕ) (fs : List TextFile) →
-    AreWritten contents fs → list_any (is_there name text) fs ≡ true → IsWritten contents text
-there_written contents name text [] written e = cc
-there_written contents name text (f ∷ fs) written e =
+pub there_written : (put : List ℕ → List ℕ → Type 0) (name text : List ℕ) (fs : List TextFile) →
+    AreWritten put fs → list_any (is_there name text) fs ≡ true → put name text
+there_written put name text [] written e = cc
+there_written put name text (f ∷ fs) written e =
     elim (or_cases (is_there name text f) (list_any (is_there name text) fs) e) [
-      | inl h ↦ this_written contents name text f written.0 h
-      | inr h ↦ there_written contents name text fs written.1 h
+      | inl h ↦ this_written put name text f written.0 h
+      | inr h ↦ there_written put name text fs written.1 h
     ]
 
-pub written_with : {F : Type 0} (contents : F → Option (List ℕ)) (fs : List TextFile) (f : TextFile) →
-    AreWritten contents fs → (is_put f ≡ true → IsWritten contents (string_bytes f.text)) → AreWritten contents (fs ++ f ∷ [])
-written_with contents [] f before this = (this, tt)
-written_with contents (x ∷ fs) f before this = (before.0, written_with contents fs f before.1 this)
+written_with : (put : List ℕ → List ℕ → Type 0) (fs : List TextFile) (f : TextFile) →
+    AreWritten put fs → (is_put f ≡ true → put (string_bytes f.name) (string_bytes f.text)) → AreWritten put (fs ++ f ∷ [])
+written_with put [] f before this = (this, tt)
+written_with put (x ∷ fs) f before this = (before.0, written_with put fs f before.1 this)
+
+pub written_after : (put : List ℕ → List ℕ → Type 0) (fs after : List TextFile) (f : TextFile) → AreWritten put fs →
+    (is_put f ≡ true → put (string_bytes f.name) (string_bytes f.text)) → after ≡ fs ++ f ∷ [] → AreWritten put after
+written_after put fs after f before this pushed =
+    subst (λ (all : List TextFile). AreWritten put all) (sym pushed) (written_with put fs f before this)
+
+-- a name is asked for of the files as of their values
+pub any_named : (name : List ℕ) (fs : List TextFile) →
+    list_any (λ (f : TextFile). bytes_eq (string_bytes f.name) name) fs ≡ list_any (is_named name) (map file_value fs)
+any_named name [] = refl
+any_named name (f ∷ fs) = ap (λ (b : Bool). bytes_eq (string_bytes f.name) name || b) (any_named name fs)
+
+-- a loop makes a file of each element: one more file, and one element fewer that is left
+pub one_more : {X : Type 0} (of : X → FileValue) (fs after : List TextFile) (f : TextFile) (x : X) (left rest : List X)
+    (all : List FileValue) → map file_value fs ++ map of left ≡ all → after ≡ fs ++ f ∷ [] → left ≡ x ∷ rest →
+    file_value f ≡ of x → map file_value after ++ map of rest ≡ all
+one_more {X = X} of fs after f x left rest all before pushed is value =
+    ap (λ (ys : List TextFile). map file_value ys ++ map of rest) pushed
+    ∙ ap (λ (vs : List FileValue). vs ++ map of rest) (map-append file_value fs (f ∷ []))
+    ∙ append_assoc (map file_value fs) (file_value f ∷ []) (map of rest)
+    ∙ ap (λ (v : FileValue). map file_value fs ++ (v ∷ map of rest)) value
+    ∙ ap (λ (xs : List X). map file_value fs ++ map of xs) (sym is) ∙ before

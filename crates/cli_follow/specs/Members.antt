@@ -1,4 +1,4 @@
--- Where a node's status says that its members listen.
+-- Where a node's status shows that its members listen.
 use Rattle.std.specs.Prelude.{◌≡◌, ◌≤◌, ℕ, List, [], ◌∷◌, ◌++◌, Option, Some, None, codes, bytes_eq, option_and_then}
 use Rattle.std.specs.Prelude.{map}
 use Rattle.std.specs.Prelude.{length, if◌then◌else◌}

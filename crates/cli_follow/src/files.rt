@@ -1,8 +1,13 @@
-//! rulesets for pfctl(8) in files, one for each path.
+//! Rulesets for pfctl(8) in files, one for each path.
 
-ghost use Rattle.std.specs.Prelude.{◌≡◌, ◌⊎◌, [], true, not, IfOk, OnOk, string_bytes};
+ghost use Rattle.std.specs.Prelude.{◌≡◌, ◌⊎◌, ⊤, ℕ, List, [], true, not, IfOk, IfSome, IfNone, OnOk, map, string_bytes};
 ghost use Rattle.std.specs.List.{list_all, list_any};
-ghost use Rattle.cli_follow.specs.inner.Files.{AreWritten, IsWritten, is_put, is_there};
+ghost use Rattle.pf_dump.specs.Done.{AreDoneTo};
+ghost use Rattle.pf_dump.specs.Seen.{text_of};
+ghost use Rattle.pf_dump.specs.Written.{texts_of};
+ghost use Rattle.cli_follow.specs.inner.Files.{AreWritten, IsWritten, IsPut, is_put, is_there};
+ghost use Rattle.cli_follow.specs.inner.Files.{file_value, file_name, file_at, files_of, is_named};
+ghost use Rattle.cli_follow.specs.inner.Files.{is_gone, with_gone};
 
 use crate::followed_configuration::FollowedConfiguration;
 use crate::follower::say;
@@ -32,7 +37,9 @@ pub struct TextFiles {
 }
 
 /// The name of a path's file: `main.conf`, or `anchor` and the names behind a `+` each, which no name has, and `.conf`.
-fn file_name(alloc: Global, path: &[Name]) -> Result<String, AllocError> {
+fn file_name(alloc: Global, path: &[Name]) -> Result<String, AllocError>
+    ensures { IfOk result (λ name. string_bytes name ≡ file_name path.now) }
+{
     if path.is_empty() {
         return String::from_str(alloc, "main.conf");
     }
@@ -45,23 +52,40 @@ fn file_name(alloc: Global, path: &[Name]) -> Result<String, AllocError> {
     Ok(name)
 }
 
-/// The files of a configuration: those of all paths that a command may load, and main's in any case. None where
-/// rulesets don't give it.
-fn files_of(alloc: Global, config: &Config) -> Result<Option<Vec<TextFile>>, AllocError> {
-    let Some(texts) = texts(alloc, config)? else {
-        return Ok(None);
-    };
+/// Whether one of the files has this name.
+fn has_name(files: &[TextFile], name: &str) -> bool
+    ensures { result ≡ list_any (is_named name.now) (map file_value files.now) }
+{
+    files.iter().any(|file| file.name.as_str() == name)
+}
+
+/// The files of rulesets.
+fn files_in(alloc: Global, texts: Vec<PathText<'_>>) -> Result<Vec<TextFile>, AllocError>
+    ensures { IfOk result (λ files. map file_value files.items ≡ map file_at (map text_of texts.entry.items)) }
+{
     let mut files = Vec::new(alloc);
-    let mut has_main = false;
-    for PathText { path, text } in texts {
-        has_main = has_main || path.is_empty();
+    for it in texts {
+        let PathText { path, text } = it;
         files.push(TextFile {
             name: file_name(alloc, path)?,
             text,
             is_put: false,
         })?;
     }
-    if !has_main {
+    Ok(files)
+}
+
+/// The files of a configuration: those of all paths that a command may load, and main's in any case. None where
+/// rulesets don't give it.
+fn files_of(alloc: Global, config: &Config) -> Result<Option<Vec<TextFile>>, AllocError>
+    ensures files { IfOk result (λ o. IfSome o (λ files. map file_value files.items ≡ files_of config.now)) }
+    ensures none { IfOk result (λ o. IfNone o (AreDoneTo (texts_of config.now) config.now → ⊥)) }
+{
+    let Some(texts) = texts(alloc, config)? else {
+        return Ok(None);
+    };
+    let mut files = files_in(alloc, texts)?;
+    if !has_name(files.as_slice(), "main.conf") {
         files.push(TextFile {
             name: String::from_str(alloc, "main.conf")?,
             text: String::new(alloc),
@@ -71,9 +95,11 @@ fn files_of(alloc: Global, config: &Config) -> Result<Option<Vec<TextFile>>, All
     Ok(Some(files))
 }
 
-/// Whether one of the files has this name.
-fn has_name(files: &[TextFile], name: &str) -> bool {
-    files.iter().any(|file| file.name.as_str() == name)
+/// Whether a file has to be emptied, where these are to be written.
+fn is_gone(files: &[TextFile], old: &TextFile) -> bool
+    ensures { result ≡ is_gone (map file_value files.now) old.now }
+{
+    !has_name(files, old.name.as_str()) && !(old.text.as_str().is_empty() && old.is_put)
 }
 
 /// Whether this is there.
@@ -103,6 +129,38 @@ fn write_new<F: Files>(rt: &F, path: &str, text: &str) -> io::Result<()>
     file.write_all(text.as_bytes())
 }
 
+/// Where files are written and renamed.
+pub(crate) trait Folders {
+    // these bytes were written into a new file at this path
+    ghost is_written: { Self → (path bytes : List ℕ) → Type 0 };
+
+    // a file was renamed from one path to another
+    ghost is_renamed: { Self → (from to : List ℕ) → Type 0 };
+
+    /// Writes a new file, as [`write_new`] does.
+    fn write_file(&self, path: &str, text: &str) -> io::Result<()>
+        ensures { OnOk result (is_written self.now path.now text.now) };
+
+    /// Renames a file.
+    fn rename(&self, from: &str, to: &str) -> io::Result<()>
+        ensures { OnOk result (is_renamed self.now from.now to.now) };
+}
+
+impl<R: Files> Folders for R {
+    // no contract states which file is at a path
+    ghost is_written = { λ _ _ bytes. IsWritten R.File.contents bytes };
+
+    ghost is_renamed = { λ _ _ _. ⊤ };
+
+    fn write_file(&self, path: &str, text: &str) -> io::Result<()> {
+        write_new(self, path, text)
+    }
+
+    fn rename(&self, from: &str, to: &str) -> io::Result<()> {
+        fs::rename(self, from, to)
+    }
+}
+
 impl TextFiles {
     /// Before anything is written.
     pub fn new(alloc: Global, folder: &str) -> Result<TextFiles, AllocError>
@@ -117,34 +175,37 @@ impl TextFiles {
     }
 
     /// Writes a file beside its place and renames it, and answers whether that was possible.
-    fn put<F: Files>(
+    fn put<F: Folders>(
         &self,
         rt: &F,
         alloc: Global,
         name: &str,
         text: &str,
     ) -> Result<bool, AllocError>
-        ensures { IfOk result (λ is_put. is_put ≡ true → IsWritten F.File.contents text.now) }
+        ensures { IfOk result (λ is_put. is_put ≡ true →
+            IsPut (F.is_written rt.now) (F.is_renamed rt.now) (string_bytes self.now.folder) name.now text.now) }
     {
         let folder = self.folder.as_str();
         let place = format!(in alloc; "{folder}/{name}")?;
         let beside = format!(in alloc; "{folder}/.{name}.new")?;
         Ok(
-            write_new(rt, beside.as_str(), text).is_ok()
-                && fs::rename(rt, beside.as_str(), place.as_str()).is_ok(),
+            rt.write_file(beside.as_str(), text).is_ok()
+                && rt.rename(beside.as_str(), place.as_str()).is_ok(),
         )
     }
 
     /// Writes a file unless it is there, and answers whether it does now.
-    fn stands<F: Files>(
+    fn stands<F: Folders>(
         &self,
         rt: &F,
         alloc: Global,
         name: &str,
         text: &str,
     ) -> Result<bool, AllocError>
-        ensures { IfOk result (λ is_put. AreWritten F.File.contents self.now.written.items → is_put ≡ true →
-            IsWritten F.File.contents text.now) }
+        ensures { IfOk result (λ is_put.
+            AreWritten (IsPut (F.is_written rt.now) (F.is_renamed rt.now) (string_bytes self.now.folder))
+            self.now.written.items → is_put ≡ true →
+            IsPut (F.is_written rt.now) (F.is_renamed rt.now) (string_bytes self.now.folder) name.now text.now) }
     {
         if is_written(self.written.as_slice(), name, text) {
             return Ok(true);
@@ -157,11 +218,13 @@ impl TextFiles {
         &self,
         alloc: Global,
         mut files: Vec<TextFile>,
-    ) -> Result<Vec<TextFile>, AllocError> {
-        for old in self.written.as_slice() {
-            if !has_name(files.as_slice(), old.name.as_str())
-                && !(old.text.is_empty() && old.is_put)
-            {
+    ) -> Result<Vec<TextFile>, AllocError>
+        ensures { IfOk result (λ all.
+            map file_value all.items ≡ with_gone (map file_value files.items) self.now.written.items) }
+    {
+        let written = self.written.as_slice();
+        for old in written {
+            if is_gone(files.as_slice(), old) {
                 files.push(TextFile {
                     name: String::from_str(alloc, old.name.as_str())?,
                     text: String::new(alloc),
@@ -173,14 +236,17 @@ impl TextFiles {
     }
 
     /// Writes those files that aren't written so yet, and answers which are there.
-    fn put_each<F: Files>(
+    fn put_each<F: Folders>(
         &self,
         rt: &F,
         alloc: Global,
         files: Vec<TextFile>,
     ) -> Result<Vec<TextFile>, AllocError>
-        ensures { IfOk result (λ put. AreWritten F.File.contents self.now.written.items →
-            AreWritten F.File.contents put.items) }
+        ensures written { IfOk result (λ put.
+            AreWritten (IsPut (F.is_written rt.now) (F.is_renamed rt.now) (string_bytes self.now.folder))
+            self.now.written.items →
+            AreWritten (IsPut (F.is_written rt.now) (F.is_renamed rt.now) (string_bytes self.now.folder)) put.items) }
+        ensures files { IfOk result (λ put. map file_value put.items ≡ map file_value files.items) }
     {
         let mut put = Vec::new(alloc);
         for file in files {
@@ -197,14 +263,19 @@ impl TextFiles {
 
     /// Writes those files that aren't written so yet, empty ones for paths that are gone, and answers whether all could
     /// be.
-    fn put_all<F: Files>(
+    fn put_all<F: Folders>(
         &mut self,
         rt: &F,
         alloc: Global,
         files: Vec<TextFile>,
     ) -> Result<bool, AllocError>
-        ensures written { AreWritten F.File.contents self.old.written.items →
-            AreWritten F.File.contents self.new.written.items }
+        ensures place { self.new.folder ≡ self.old.folder }
+        ensures written { AreWritten (IsPut (F.is_written rt.now) (F.is_renamed rt.now) (string_bytes self.old.folder))
+            self.old.written.items →
+            AreWritten (IsPut (F.is_written rt.now) (F.is_renamed rt.now) (string_bytes self.old.folder))
+            self.new.written.items }
+        ensures files { OnOk result (map file_value self.new.written.items
+            ≡ with_gone (map file_value files.items) self.old.written.items) }
         ensures whole { IfOk result (λ is_whole. is_whole ≡ list_all is_put self.new.written.items) }
     {
         let files = self.with_gone(alloc, files)?;
@@ -212,19 +283,25 @@ impl TextFiles {
         Ok(are_put(self.written.as_slice()))
     }
 
-    /// Writes the files of what was followed. That one couldn't be written is said once until it could be. Where
+    /// Writes the files of what was followed. That one couldn't be written is logged once until it could be. Where
     /// rulesets don't give the configuration that is said, and the files stay as they are.
-    pub(crate) fn write<F: Files, E: Write>(
+    pub(crate) fn write<F: Folders, E: Write>(
         &mut self,
         rt: &F,
         alloc: Global,
         followed: &FollowedConfiguration,
         errors: &mut E,
     ) -> Result<(), AllocError>
-        ensures written { AreWritten F.File.contents self.old.written.items →
-            AreWritten F.File.contents self.new.written.items }
-        ensures behind { OnOk result ((self.new ≡ self.old)
-            ⊎ (self.new.is_behind ≡ not (list_all is_put self.new.written.items))) }
+        ensures place { self.new.folder ≡ self.old.folder }
+        ensures written { AreWritten (IsPut (F.is_written rt.now) (F.is_renamed rt.now) (string_bytes self.old.folder))
+            self.old.written.items →
+            AreWritten (IsPut (F.is_written rt.now) (F.is_renamed rt.now) (string_bytes self.old.folder))
+            self.new.written.items }
+        ensures behind { OnOk result (
+            ((self.new ≡ self.old) × (AreDoneTo (texts_of followed.now.config) followed.now.config → ⊥))
+            ⊎ ((self.new.is_behind ≡ not (list_all is_put self.new.written.items))
+            × (map file_value self.new.written.items
+            ≡ with_gone (files_of followed.now.config) self.old.written.items))) }
     {
         let Some(files) = files_of(alloc, &followed.config)? else {
             return say(errors, alloc, followed.position, "refused 91\n");

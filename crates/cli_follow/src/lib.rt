@@ -24,7 +24,7 @@
 //!   command that is done and changes nothing for the kernel writes nothing. It costs a second rendering for each
 //!   change.
 //! - Lines go to standard output as nft takes them; all refusals go to standard error, 40 and 89 too, and so does
-//!   `memory`, since what reads the output is nft. What `clap` says of words stands on standard output, as of every
+//!   `memory`, since what reads the output is nft. What `clap` writes of arguments goes to standard output, as of every
 //!   word.
 //! - The loop ends with its output, at `--turns`, or for lack of memory, and at nothing else: a control socket where
 //!   nobody answers is asked again, since nodes are restarted.

@@ -1,4 +1,4 @@
-//! Where a node says that its members listen.
+//! Where a node reports that its members listen.
 
 ghost use Rattle.std.specs.Prelude.{◌≡◌, IfOk, map, option_map};
 ghost use Rattle.cli_follow.specs.Members.{some_texts, texts_on, members_reported};

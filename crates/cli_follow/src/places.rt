@@ -55,8 +55,8 @@ fn interfaces_in<RT: Files>(
     }
 }
 
-/// Why a file can't be opened, as the system says it; none where it can. What isn't a regular file isn't opened, since
-/// a pipe would be waited for.
+/// Why a file can't be opened, as the system reports it; none where it can. What isn't a regular file isn't opened,
+/// since a pipe would be waited for.
 fn why_unread<RT: Files>(rt: &RT, file: &str) -> io::Result<()> {
     if fs::metadata(rt, file)?.is_file() {
         let _opened = fs::open(rt, file)?;
@@ -91,7 +91,7 @@ fn files_in(alloc: Global, folder: Option<&str>) -> Result<Option<TextFiles>, Al
 }
 
 /// Where the arguments want it written. 40 where they want it nowhere, `--nft` and `--interfaces` aren't both there, or
-/// `--no-member-guard` is without them; 89 where the file lists no interfaces, which is said on standard error.
+/// `--no-member-guard` is without them; 89 where the file lists no interfaces, which is logged on standard error.
 pub(crate) fn places_for<RT: Files, E: Write>(
     rt: &RT,
     alloc: Global,

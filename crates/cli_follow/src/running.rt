@@ -29,7 +29,7 @@ const PAUSE: u64 = 50;
 const NO_GUARD: &[u8] =
     b"pfx: no member guard: rules that drop the members' own datagrams cut this node off, and no command mends them\n";
 
-/// Says that there is no answer, and why nobody answers, unless that was said last.
+/// Logs that there is no answer, and why nobody answers, unless that was logged last.
 fn say_nothing<C: Control, E: Write>(
     control: &C,
     errors: &mut E,
@@ -214,7 +214,7 @@ pub fn follow<RT: Files + Net, C: Control, W: Write, E: Write>(
     Ok(())
 }
 
-/// A refusal by its number, said on standard error, since what is written goes to nft(8).
+/// A refusal by its number, logged on standard error, since what is written goes to nft(8).
 fn refused<E: Write>(alloc: Global, code: u8, errors: &mut E) -> Status
     ensures { IsNoEnding result }
 {
@@ -227,7 +227,7 @@ fn refused<E: Write>(alloc: Global, code: u8, errors: &mut E) -> Status
     }
 }
 
-/// That the log at the control socket is another than the one that was followed, said on standard error.
+/// That the log at the control socket is another than the one that was followed, logged on standard error.
 fn another<E: Write>(errors: &mut E) -> Status
     ensures { IsEnding (Err WriteFault.Another) result }
 {
@@ -239,7 +239,7 @@ fn another<E: Write>(errors: &mut E) -> Status
     }
 }
 
-/// Out of memory, said on standard error.
+/// Out of memory, logged on standard error.
 fn memory<E: Write>(errors: &mut E) -> Status
     ensures { IsEnding (Err WriteFault.Memory) result }
 {
@@ -249,7 +249,7 @@ fn memory<E: Write>(errors: &mut E) -> Status
     }
 }
 
-/// That the output can't be written, said on standard error.
+/// That the output can't be written, logged on standard error.
 fn closed<E: Write>(errors: &mut E) -> Status
     ensures { IsEnding (Err WriteFault.Closed) result }
 {
@@ -257,7 +257,7 @@ fn closed<E: Write>(errors: &mut E) -> Status
     Status::Failed
 }
 
-/// Follows the log to these places, and says how that ended on standard error.
+/// Follows the log to these places, and logs on standard error how that ended.
 fn follow_to<RT: Files + Net, C: Control, W: Write, E: Write>(
     rt: &RT,
     alloc: Global,
@@ -284,7 +284,7 @@ fn follow_to<RT: Files + Net, C: Control, W: Write, E: Write>(
     status_of(ended, errors)
 }
 
-/// How a run ends, said on standard error.
+/// How a run ends, logged on standard error.
 fn status_of<E: Write>(ended: Result<(), WriteFault>, errors: &mut E) -> Status
     ensures { IsEnding ended result }
 {

@@ -49,7 +49,7 @@ fn follow_command<'a>(alloc: Global) -> Result<Command<'a>, AllocError>
     )
 }
 
-/// The program's words with `follow`.
+/// The program's arguments with `follow`.
 pub(crate) fn command<'a>(alloc: Global) -> Result<Command<'a>, AllocError> {
     let follow = follow_command(alloc)?;
     let command = Command::new(alloc, "pfx").subcommand(follow)?;

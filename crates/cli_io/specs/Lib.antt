@@ -3,3 +3,4 @@ pub mod Status
 pub mod Written
 pub mod Shown
 pub mod Explained
+pub mod Sources

@@ -3,7 +3,8 @@
 //! # Organization
 //!
 //! - [`Status`]: how a run ends, and the exit status.
-//! - [`read_all`]: the whole input, up to a limit.
+//! - [`read_all`]: the whole input, up to a limit; [`source_named`]: the text that an option names, of the input or of
+//!   [`Sources`].
 //! - [`open_regular`], [`make_private`]: a file that isn't waited for, and one that its owner alone may read;
 //!   [`knock`]: why nobody answers at a socket.
 //! - [`Shown`]: a foreign string for people.
@@ -31,6 +32,7 @@ mod options;
 mod paragraph;
 mod remark;
 mod shown;
+mod sources;
 mod status;
 mod table;
 mod writing;
@@ -43,6 +45,7 @@ pub use options::{flag, valued, values_in, with_option};
 pub use paragraph::Explanation;
 pub use remark::Remark;
 pub use shown::Shown;
+pub use sources::{Sources, source_named};
 pub use status::Status;
 pub use table::REFUSALS;
 pub use writing::{misused, out_of_memory, write_bytes};

@@ -4,3 +4,4 @@ pub mod Stores
 pub mod Endings
 pub mod Sealed
 mod Given
+pub mod Settled

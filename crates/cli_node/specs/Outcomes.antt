@@ -9,7 +9,7 @@ use Rattle.cli_node.specs.declared.outcome.Outcome.{Outcome}
 use Rattle.cli_node.specs.declared.outcome.Outcome.TheVariants.{Front, Stopped, Asked, Key, Refused, RefusedLine}
 use Rattle.cli_node.specs.declared.outcome.Outcome.TheVariants.{NoAnswer, Sound, Made, Memory, Unread}
 
--- what a run writes of its outcome, a line; nothing of a key that is in a file, and where the words were not read
+-- what a run writes of its outcome, a line; nothing of a key that is in a file, and where the arguments were not read
 abbrev pub line_of : Outcome → List ℕ
 line_of (Front front applied) = line (codes "front " ++ decimal front ++ codes " applied " ++ decimal applied)
 line_of (Stopped front applied) = line (codes "front " ++ decimal front ++ codes " applied " ++ decimal applied)
@@ -44,7 +44,7 @@ Wrote status.Failed outcome old new =
     AppendsFront old new (line (codes "memory")) ⊎ AppendsFront old new (line_of outcome)
 Wrote ending outcome old new = (ending ≡ status_of outcome) × Appends old new (line_of outcome)
 
--- a run that came to an outcome wrote it; without one the words weren't understood, or memory ran out
+-- a run with an outcome wrote it; without one the arguments weren't understood, or it was out of memory
 abbrev pub Ran : Status → Option Outcome → Option (List ℕ) → Option (List ℕ) → Type 0
 Ran ending (Some outcome) old new = Wrote ending outcome old new
 Ran status.Done None old new = ⊥

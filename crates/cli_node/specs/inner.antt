@@ -7,3 +7,4 @@ pub mod Secrets
 pub mod Asked
 pub mod Keeping
 pub mod Given
+pub mod Settled

@@ -1,6 +1,6 @@
 //! The subcommand `ask`: a command asked of a node.
 
-ghost use Rattle.std.specs.Prelude.{◌≡◌, ◌<◌, ◌⊎◌, ◌↔◌, ℕ, List, [], ◌∷◌, Ok, Some, false, IfSome, IfOk, IfErr};
+ghost use Rattle.std.specs.Prelude.{◌≡◌, ◌<◌, ◌⊎◌, ◌↔◌, ℕ, List, [], ◌∷◌, Ok, false, IfSome, IfOk, IfErr};
 ghost use Rattle.std.specs.Prelude.{IsSome, IsTrue};
 ghost use Rattle.std.specs.Prelude.{codes, option_map};
 ghost use Rattle.pf_entry.specs.declared.command.Command.{Command};
@@ -12,17 +12,17 @@ ghost use Rattle.node_udp.specs.Addresses.{AreFound};
 ghost use Rattle.node_udp.specs.Members.{me_of, peers_of};
 ghost use Rattle.cli_node.specs.declared.outcome.Outcome.TheVariants.{Refused};
 ghost use Rattle.cli_node.specs.inner.Places.{has_place, waits_of};
-ghost use Rattle.cli_node.specs.inner.Asked.{IsAsked, IsOfFile, IsText, IsUnasked};
+ghost use Rattle.cli_io.specs.Sources.{IsNamed, IsText};
+ghost use Rattle.cli_node.specs.inner.Asked.{IsAsked, IsUnasked};
 ghost use Rattle.cli_node.specs.declared.ask.TheConstants.{CLIENT};
 
 use crate::outcome::{Outcome, answer_outcome, fault_outcome};
 use clap::ArgMatches;
-use cli_io::{InputFault, read_all};
+use cli_io::{InputFault, Sources, source_named};
 use node_udp::{BindFault, Membership, UdpWire, ask_once};
 use pf_arguments::{Action, Command, from_matches};
 use px_transport::Wire;
 use std::alloc::Global;
-use std::fs::{self, Files};
 use std::io::Read;
 use std::net::UdpSocket;
 
@@ -32,7 +32,7 @@ const CLIENT: u8 = 255;
 /// How long each wait for an answer is, in milliseconds.
 const WAIT_MS: u32 = 200;
 
-/// What the own words of `ask` say.
+/// The arguments of `ask` of its own.
 #[derive(Clone, Copy)]
 pub(crate) struct AskWords<'a> {
     /// Where the node listens.
@@ -57,7 +57,7 @@ fn waits_of(seconds: Option<u16>) -> u32
 }
 
 impl<'a> AskWords<'a> {
-    /// What the matches of the words say. `clap` has refused numbers out of range and words that are missing.
+    /// What the matches give. `clap` has refused numbers out of range and arguments that are missing.
     pub(crate) fn of(matches: &ArgMatches<'a>) -> Option<AskWords<'a>> {
         let Some(to) = matches.get_str("to") else {
             return None;
@@ -81,68 +81,41 @@ impl<'a> AskWords<'a> {
     }
 }
 
-/// The text of a file.
-fn read_file<F: Files>(files: &F, alloc: Global, path: &str) -> Result<Vec<u8>, Outcome>
-    ensures whole { IfOk result (λ text. IsOfFile F.File.remaining text.items) }
-    ensures why { IfErr result IsUnasked }
+/// What a source that can't be read gives: of a file 40.
+fn unread(name: &str, fault: InputFault) -> Outcome
+    ensures { IsUnasked result }
 {
-    let Ok(mut file) = fs::open(files, path) else {
-        return Err(Outcome::Refused(40));
-    };
-    match read_all(alloc, &mut file) {
-        Ok(text) => Ok(text),
-        Err(InputFault::Memory) => Err(Outcome::Memory),
-        Err(InputFault::Failed | InputFault::TooLong) => Err(Outcome::Refused(40)),
+    match fault {
+        InputFault::Memory => Outcome::Memory,
+        InputFault::Failed | InputFault::TooLong => if name == "-" {
+            Outcome::Unread
+        } else {
+            Outcome::Refused(40)
+        },
     }
-}
-
-/// The input.
-fn read_input<R: Read>(alloc: Global, reader: &mut R) -> Result<Vec<u8>, Outcome>
-    ensures whole { IfOk result (λ text. IfSome (R.remaining reader.old) (λ input. text.items ≡ input)) }
-    ensures why { IfErr result IsUnasked }
-{
-    match read_all(alloc, reader) {
-        Ok(text) => Ok(text),
-        Err(InputFault::Memory) => Err(Outcome::Memory),
-        Err(InputFault::Failed | InputFault::TooLong) => Err(Outcome::Unread),
-    }
-}
-
-/// The text that a name stands for: of the input for `-`, else of a file.
-fn text_named<F: Files, R: Read>(
-    files: &F,
-    alloc: Global,
-    name: &str,
-    reader: &mut R,
-) -> Result<Vec<u8>, Outcome>
-    ensures text { IfOk result (λ text. IsText (IsOfFile F.File.remaining) (Some name.now) (R.remaining reader.old)
-        text.items) }
-    ensures why { IfErr result IsUnasked }
-{
-    if name == "-" {
-        return read_input(alloc, reader);
-    }
-    read_file(files, alloc, name)
 }
 
 /// The text that `-f` names; none without it.
-fn text_for<F: Files, R: Read>(
-    files: &F,
+fn text_for<T: Sources, R: Read>(
+    sources: &T,
     alloc: Global,
     named: Option<&str>,
     reader: &mut R,
 ) -> Result<Vec<u8>, Outcome>
-    ensures text { IfOk result (λ text. IsText (IsOfFile F.File.remaining) (option_map (λ n. n.now) named.entry)
-        (R.remaining reader.old) text.items) }
+    ensures text { IfOk result (λ text. IsNamed (option_map (λ n. n.now) named.entry)
+        (IsText (T.has sources.now) (R.remaining reader.old)) text.items) }
     ensures why { IfErr result IsUnasked }
 {
-    match named {
-        Some(name) => text_named(files, alloc, name, reader),
-        None => Ok(Vec::new(alloc)),
+    let Some(name) = named else {
+        return Ok(Vec::new(alloc));
+    };
+    match source_named(sources, alloc, name, reader) {
+        Ok(text) => Ok(text),
+        Err(fault) => Err(unread(name, fault)),
     }
 }
 
-/// The change that the words ask for.
+/// The change that the arguments ask for.
 fn change_in(alloc: Global, matches: &ArgMatches<'_>, text: &[u8]) -> Result<Command, Outcome>
     ensures change { IfOk result (λ command. asked (given_in (rows_of (found_of matches.now))) text.now ≡
         Ok (Change (command_value command))) }
@@ -215,9 +188,9 @@ fn membership(words: AskWords<'_>) -> Option<Membership>
     Membership::new(words.cluster, words.members, CLIENT)
 }
 
-/// What `ask` comes to: 40 of its numbers, the faults of the action, and 82, in this order; then the answer.
-pub(crate) fn ask_outcome<F: Files, C: Client + Drop, R: Read>(
-    files: &F,
+/// What `ask` gives: 40 of its numbers, the faults of the action, and 82, in this order; then the answer.
+pub(crate) fn ask_outcome<T: Sources, C: Client + Drop, R: Read>(
+    sources: &T,
     client: C,
     alloc: Global,
     words: AskWords<'_>,
@@ -227,8 +200,8 @@ pub(crate) fn ask_outcome<F: Files, C: Client + Drop, R: Read>(
     ensures place { has_place words.entry.node words.entry.members ≡ false → result ≡ Refused 40 }
     ensures asked { IsUnasked result ⊎ ((m : Membership) × (text : List ℕ) × (command : Command) × (w : C.Wire) ×
         (back : C.Wire) × (m.cluster ≡ words.entry.cluster) × (m.members ≡ words.entry.members) ×
-        IsText (IsOfFile F.File.remaining) (first_value (found_of matches.now) (codes "file"))
-        (R.remaining reader.old) text ×
+        IsNamed (first_value (found_of matches.now) (codes "file"))
+        (IsText (T.has sources.now) (R.remaining reader.old)) text ×
         (asked (given_in (rows_of (found_of matches.now))) text ≡ Ok (Change (command_value command))) ×
         C.reaches client words.entry.to.now w ×
         IsAsked C.Wire.traffic w back m words.entry.node words.entry.waits command result) }
@@ -236,7 +209,7 @@ pub(crate) fn ask_outcome<F: Files, C: Client + Drop, R: Read>(
     let Some(m) = membership(words) else {
         return Outcome::Refused(40);
     };
-    let text = match text_for(files, alloc, matches.get_str("file"), reader) {
+    let text = match text_for(sources, alloc, matches.get_str("file"), reader) {
         Ok(text) => text,
         Err(outcome) => return outcome,
     };

@@ -28,8 +28,8 @@ use node_loop::Membership;
 use px_store::{AdoptFault, examine};
 use sqlite::{Alter, Connection, Error, ErrorCode};
 use std::alloc::Global;
-use std::fs;
-use std::io::Read;
+use std::fs::{self, Files, OpenFile};
+use std::io::{Eprint, Read};
 
 /// How a database begins.
 const HEAD: &[u8] = b"SQLite format 3\0";
@@ -67,8 +67,8 @@ fn checked(
 
 /// What is refused of a store that is open; nothing is changed.
 #[tactic(auto, using(crate::proofs::Stores::by_fault, crate::proofs::Stores::sound))]
-fn judged<S: Alter>(
-    rt: &HostRuntime,
+fn judged<RT: Eprint, S: Alter>(
+    rt: &RT,
     words: NodeWords<'_, '_, '_>,
     m: Membership,
     conn: &mut Connection<S>,
@@ -87,8 +87,8 @@ fn judged<S: Alter>(
 }
 
 /// Whether a file begins as a database does, or has no byte, as a store has whose writes are all beside it.
-fn is_database(rt: &HostRuntime, path: &str) -> bool {
-    let Ok(mut file) = open_regular(rt, path) else {
+fn is_database<F: Files>(files: &F, path: &str) -> bool {
+    let Ok(mut file) = open_regular(files, path) else {
         return false;
     };
     let mut head = [0u8; 16];
@@ -102,8 +102,8 @@ fn is_database(rt: &HostRuntime, path: &str) -> bool {
 /// What is refused of a store that is there; nothing of one that a node has open, nor of one without its log of
 /// writes, which an opening makes.
 #[tactic(auto, using(crate::proofs::Stores::by_read, crate::proofs::Stores::by_memory, crate::proofs::Stores::refused_70, crate::proofs::Stores::sound))]
-fn looked_at<I: Inspection>(
-    rt: &HostRuntime,
+fn looked_at<RT: Files + Eprint, I: Inspection>(
+    rt: &RT,
     inspection: &mut I,
     alloc: Global,
     words: NodeWords<'_, '_, '_>,
@@ -144,10 +144,10 @@ fn looked_at<I: Inspection>(
     }
 }
 
-/// What is refused of what stands where the words name a store.
+/// What is refused of what is found where the arguments name a store.
 #[tactic(auto, using(crate::proofs::Stores::by_opening, crate::proofs::Stores::sound))]
-fn of_found<I: Inspection>(
-    rt: &HostRuntime,
+fn of_found<RT: Files + Eprint, I: Inspection>(
+    rt: &RT,
     inspection: &mut I,
     alloc: Global,
     words: NodeWords<'_, '_, '_>,
@@ -170,44 +170,46 @@ fn of_found<I: Inspection>(
     }
 }
 
-/// What is refused of the store that the words name.
+/// What is refused of the store that the arguments name, where this was found; none: memory ran out.
 #[tactic(auto, using(crate::proofs::Stores::by_memory))]
-fn of_store<I: Inspection>(
-    rt: &HostRuntime,
+fn of_store<RT: Files + Eprint, I: Inspection>(
+    rt: &RT,
     inspection: &mut I,
     alloc: Global,
     words: NodeWords<'_, '_, '_>,
     m: Option<Membership>,
+    found: Option<Found>,
 ) -> Outcome
     ensures store { IsStoreless words.entry.is_from_file words.entry.is_new result }
     ensures over { I.is_over inspection.old → I.is_over inspection.new }
 {
-    match found_at(rt, alloc, words.store) {
-        Ok(found) => of_found(rt, inspection, alloc, words, m, found),
-        Err(_) => Outcome::Memory,
+    match found {
+        Some(found) => of_found(rt, inspection, alloc, words, m, found),
+        None => Outcome::Memory,
     }
 }
 
-/// What is refused of the file of starts beside a store that is there; where none is, a start makes both or is refused
-/// for the store.
+/// What is refused of the file of starts beside a store, where this was found; where none is, a start makes both or is
+/// refused for the store.
 fn starts_of(
     rt: &HostRuntime,
     alloc: Global,
     words: NodeWords<'_, '_, '_>,
     m: Option<Membership>,
+    found: Option<Found>,
 ) -> Outcome
     ensures { (result ≡ Sound) ⊎ ((result ≡ Memory) ⊎ (result ≡ Refused 95)) }
 {
-    match found_at(rt, alloc, words.store) {
-        Ok(found) => {
+    match found {
+        Some(found) => {
             let is_absent = matches!(found, Found::Nothing | Found::Empty);
             of_starts(rt, alloc, words, m, is_absent)
         }
-        Err(_) => Outcome::Memory,
+        None => Outcome::Memory,
     }
 }
 
-/// What is refused of the numbers that the words name.
+/// What is refused of the numbers that the arguments name.
 fn of_place(rt: &HostRuntime, words: NodeWords<'_, '_, '_>, m: Option<Membership>) -> Outcome
     ensures none { m ≡ None → result ≡ Refused 40 }
     ensures some { (result ≡ Sound) ⊎ (result ≡ Refused 40) }
@@ -243,7 +245,7 @@ fn of_key<F: NodeFiles>(
     }
 }
 
-/// What is refused of the addresses that the words name.
+/// What is refused of the addresses that the arguments name.
 fn of_addresses(rt: &HostRuntime, words: NodeWords<'_, '_, '_>) -> Outcome
     ensures { (result ≡ Sound) ⊎ (result ≡ Refused 82) }
 {
@@ -259,9 +261,9 @@ fn of_addresses(rt: &HostRuntime, words: NodeWords<'_, '_, '_>) -> Outcome
     }
 }
 
-/// What a start with these words would be refused for, as far as settings, keys, addresses, sockets and store tell: all
-/// is said on standard error, and the first answered, in the order of a start: 40, 83, 93, 94, the store's refusals,
-/// 95, 82, 84.
+/// What a start with these arguments would be refused for, as far as settings, keys, addresses, sockets and store show:
+/// all is logged on standard error, and the first answered, in the order of a start: 40, 83, 93, 94, the store's
+/// refusals, 95, 82, 84.
 pub(crate) fn check_outcome<F: NodeFiles, I: Inspection>(
     rt: &HostRuntime,
     files: &F,
@@ -283,8 +285,9 @@ pub(crate) fn check_outcome<F: NodeFiles, I: Inspection>(
     let place = of_place(rt, words, m);
     let key = of_key(rt, files, alloc, words, words.key);
     let other = of_key(rt, files, alloc, words, words.other_key);
-    let store = of_store(rt, inspection, alloc, words, m);
-    let starts = starts_of(rt, alloc, words, m);
+    let found = found_at(rt, alloc, words.store).ok();
+    let store = of_store(rt, inspection, alloc, words, m, found);
+    let starts = starts_of(rt, alloc, words, m, found);
     let addresses = of_addresses(rt, words);
     let control = of_control(rt, alloc, words);
     checked(

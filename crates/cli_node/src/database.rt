@@ -181,7 +181,7 @@ pub(crate) fn open_database(
     open_files(rt.alloc(), files, Options::new(keys.hash_one(&0u8)))
 }
 
-/// What the system says of a path.
+/// What the system reports of a path.
 #[derive(Clone, Copy)]
 pub(crate) enum Seen {
     /// A regular file of this size.
@@ -190,8 +190,8 @@ pub(crate) enum Seen {
     Another(u64),
     /// Nothing is there.
     Nothing,
-    /// It doesn't say.
-    Unsaid,
+    /// It isn't known.
+    Unknown,
 }
 
 /// Where a node's store is found, opened and closed.
@@ -209,9 +209,10 @@ pub(crate) trait Databases {
     fn see(&self, path: &str) -> Seen
         ensures { is_seen self.now path.now result };
 
-    /// Opens the database in a file, or makes one there.
+    /// Opens the database in a file, or makes one there. Nothing was changed over the connection.
     fn open(&self, path: &str) -> Result<Connection<FileStore<File>>, Error>
-        ensures { IfOk result (λ c. holds self.now path.now (file_state c).now (file_state c).in_transaction) };
+        ensures held { IfOk result (λ c. holds self.now path.now (file_state c).now (file_state c).in_transaction) }
+        ensures new { IfOk result IsNew };
 
     /// Closes a database.
     fn close(&self, conn: Connection<FileStore<File>>)
@@ -219,7 +220,7 @@ pub(crate) trait Databases {
 }
 
 impl Databases for HostRuntime {
-    // no contract says what is in the file at a path
+    // no contract states what is in the file at a path
     ghost is_seen = { λ _ _ _. ⊤ };
 
     ghost holds = { λ _ _ _ _. ⊤ };
@@ -236,7 +237,7 @@ impl Databases for HostRuntime {
             Err(error) => if error.kind() == ErrorKind::NotFound {
                 Seen::Nothing
             } else {
-                Seen::Unsaid
+                Seen::Unknown
             },
         }
     }
@@ -254,15 +255,16 @@ impl Databases for HostRuntime {
 
 /// Where a database is opened to be looked at, and left as it is.
 pub(crate) trait Inspection {
-    // none is open, and the last one was left as it was found
+    // none is open, and the last one was left as it was found, unless the disk failed
     ghost is_over: { Self → Type 0 };
 
     // what an open after a stop could find in the one that is open, when it was opened
     ghost could_leave: { Self → Trees → Type 0 };
 
-    /// Opens the database in a file.
+    /// Opens the database in a file. Nothing was changed over the connection.
     fn inspect(&mut self, path: &str) -> Result<Connection<FileStore<File>>, Error>
         ensures found { IfOk result (λ c. (db : Trees) → (file_state c).may_leave db → could_leave self.new db) }
+        ensures new { IfOk result IsNew }
         ensures none { IfErr result (λ e. is_over self.old → is_over self.new) };
 
     /// Closes it without copying its log of writes.
@@ -272,7 +274,7 @@ pub(crate) trait Inspection {
 }
 
 impl Inspection for HostRuntime {
-    // no contract says what is in the file at a path
+    // no contract states what is in the file at a path
     ghost is_over = { λ _. ⊤ };
 
     ghost could_leave = { λ _ _. ⊤ };

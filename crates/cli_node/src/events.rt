@@ -1,4 +1,4 @@
-//! What a node says on standard error of how it begins and ends.
+//! What a node logs on standard error of how it begins and ends.
 
 use crate::faults::say_why;
 use crate::node::NodeWords;

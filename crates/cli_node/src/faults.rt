@@ -1,4 +1,4 @@
-//! What a node says on standard error of why it isn't started, or ends: which file or address, and what the system
+//! What a node logs on standard error of why it isn't started, or ends: which file or address, and what the system
 //! said.
 
 ghost use Rattle.std.specs.Prelude.{◌≡◌, ◌↔◌, IsTrue};
@@ -16,21 +16,21 @@ use px_store::{AdoptFault, owner_in};
 use sqlite::{Alter, Connection};
 use std::alloc::Global;
 use std::fmt::Display;
-use std::fs::{self, OpenOptions};
-use std::io::{self, Error, ErrorKind};
+use std::fs::{self, Files, OpenOptions};
+use std::io::{self, Eprint, Error, ErrorKind};
 use std::net::{TcpListener, ToSocketAddrs, UdpSocket};
 
-/// Why a node can't read and write a file, as the system says it; none where it can.
-pub(crate) fn why_closed(rt: &HostRuntime, path: &str) -> io::Result<()> {
-    if !fs::metadata(rt, path)?.is_file() {
+/// Why a node can't read and write a file, as the system reports it; none where it can.
+pub(crate) fn why_closed<F: Files>(files: &F, path: &str) -> io::Result<()> {
+    if !fs::metadata(files, path)?.is_file() {
         return Err(Error::new(ErrorKind::InvalidInput, "it isn't a regular file"));
     }
-    let _opened = OpenOptions::new().read(true).write(true).open(rt, path)?;
+    let _opened = OpenOptions::new().read(true).write(true).open(files, path)?;
     Ok(())
 }
 
-/// Says why a store isn't opened: what the system says of its file, else what the database says.
-pub(crate) fn say_closed<E: Display>(rt: &HostRuntime, path: &str, why: &E) {
+/// Says why a store isn't opened: what the system reports of its file, else what the database reports.
+pub(crate) fn say_closed<RT: Files + Eprint, E: Display>(rt: &RT, path: &str, why: &E) {
     let path = Shown(path);
     match why_closed(rt, path.0) {
         Ok(()) => {
@@ -43,7 +43,7 @@ pub(crate) fn say_closed<E: Display>(rt: &HostRuntime, path: &str, why: &E) {
 }
 
 /// Says of a store why nothing is opened or made.
-pub(crate) fn say_storeless(rt: &HostRuntime, path: &str, code: u8) {
+pub(crate) fn say_storeless<RT: Files + Eprint>(rt: &RT, path: &str, code: u8) {
     let path = Shown(path);
     match code {
         93 => {
@@ -69,8 +69,8 @@ fn is_bare<S: Alter>(conn: &Connection<S>) -> bool
 }
 
 /// Says why a store isn't taken.
-pub(crate) fn say_judged<S: Alter>(
-    rt: &HostRuntime,
+pub(crate) fn say_judged<RT: Eprint, S: Alter>(
+    rt: &RT,
     path: &str,
     m: Membership,
     fault: AdoptFault,
@@ -184,7 +184,7 @@ pub(crate) fn say_uncontrolled(rt: &HostRuntime, alloc: Global, path: &str) {
     }
 }
 
-/// Why a file of starts can't be read, or written beside its place, as the system says it; none where it can.
+/// Why a file of starts can't be read, or written beside its place, as the system reports it; none where it can.
 fn why_unusable(rt: &HostRuntime, alloc: Global, path: &str, fault: RaiseFault) -> io::Result<()> {
     match fault {
         RaiseFault::Unread => {

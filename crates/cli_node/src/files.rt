@@ -44,11 +44,11 @@ pub(crate) trait NodeFiles {
 }
 
 impl<R: Files + Clock + RandomSource> NodeFiles for R {
-    // a file does; no contract says what is in the one at a path
+    // some file's secret makes it; no contract ties a file to its path
     ghost makes = { λ _ cluster members _ key. ((text : List ℕ) × IsClusterKey text cluster members key)
         × IsKeyOfFile R.File.remaining cluster members key };
 
-    // nor what the system's clock and random source give
+    // no contract states what the system's clock and random source give
     ghost raises = { λ _ _ _ _ _ _. ⊤ };
 
     fn cluster_key(

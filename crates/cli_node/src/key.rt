@@ -31,7 +31,7 @@ pub(crate) struct Keys {
     pub(crate) other: Option<[u8; 32]>,
 }
 
-/// What a file is refused for, said on standard error too.
+/// What a file is refused for, logged on standard error too.
 fn key_refused(rt: &HostRuntime, path: &str, fault: KeyFault) -> Outcome
     ensures { (result ≡ Memory) ⊎ (result ≡ Refused 83) }
 {
@@ -80,7 +80,7 @@ pub(crate) fn key_in<F: NodeFiles>(
     key_of(rt, path, read)
 }
 
-/// The keys with this one, and another that the words name, if they do.
+/// The keys with this one, and another that the arguments name, if they do.
 fn keys_with<F: NodeFiles>(
     rt: &HostRuntime,
     files: &F,
@@ -106,7 +106,8 @@ fn keys_with<F: NodeFiles>(
     }
 }
 
-/// The keys that the words name, if they do: 83 where a file can't be read or has none, or where others may read it.
+/// The keys that the arguments name, if they do: 83 where a file can't be read or has none, or where others may read
+/// it.
 pub(crate) fn keys_for<F: NodeFiles>(
     rt: &HostRuntime,
     files: &F,
@@ -179,7 +180,7 @@ fn write_key<F: Files>(rt: &F, path: &str, text: &str) -> io::Result<()>
     written
 }
 
-/// What a new key comes to that is to be in a file: 94 where one is there, 83 where the system refuses it.
+/// What is given for a new key that is to be in a file: 94 where one is there, 83 where the system refuses it.
 fn kept<RT: Files + Eprint>(rt: &RT, alloc: Global, path: &str, key: &[u8; 32]) -> Outcome
     ensures hidden { (key : List ℕ) → result ≢ Key key }
     ensures made { result ≡ Made → IsWritten RT.File.contents (key_text key.now) }

@@ -2,10 +2,10 @@
 //!
 //! # Organization
 //!
-//! - [`run_net`]: the words, over any reader and writer.
+//! - [`run_net`]: the subcommands, over any reader and writer.
 //!
-//! Within: `words` has the words as `clap` reads them, `settings` those of a node's file, `node`, `ask` and `key` what
-//! each comes to, and `check` what `node` with `--check`; `store` opens or makes a node's store, and `database` the
+//! Within: `words` has the arguments as `clap` reads them, `settings` those of a node's file, `node`, `ask` and `key`
+//! what each gives, and `check` what `node` with `--check`; `store` opens or makes a node's store, and `database` the
 //! database in it; `sockets` tries a node's sockets; `outcome` has what is written, `events` and `faults` what a node
 //! says.
 //!
@@ -13,7 +13,7 @@
 //!
 //! - **A start makes no store** where settings come from a file: a store that is gone, as behind a folder that isn't
 //!   mounted, would come back empty, and its node vote twice. `--new` makes it. With arguments alone one is made where
-//!   there is none: whoever types them says which node it is. An empty file counts as none, in both.
+//!   there is none: those who type them name the node. An empty file counts as none, in both.
 //! - **A store is made once its node's sockets were tried**: a `--new` that is refused for an address or a control
 //!   socket can be typed again. The store's file comes before, without a byte, since 70 is answered before 82 and 84;
 //!   it is left there, since by then it could be another node's. The sockets are closed again, and opened by the run.
@@ -28,8 +28,8 @@
 //!   where the record counts a failure, as `px_replica` has it of the call that failed.
 //! - **The control socket is made in a folder of its own**, 0700, and linked to its place once its mode is set, since
 //!   std has no umask and a socket listens from `bind` on. A link, not a rename: a link replaces nothing.
-//! - **Why a store isn't opened** is what the system says of reading and writing its file, asked again, else what the
-//!   database says; `px_store` keeps no cause of a statement that failed.
+//! - **Why a store isn't opened** is what the system reports of reading and writing its file, asked again, else what
+//!   the database says; `px_store` keeps no cause of a statement that failed.
 //! - **`node` without an address is refused with 40**, as are more than 15, and a number that is none of theirs.
 //! - **`node` closes its store at its end**; out of memory in a turn ends it with `memory`.
 //! - **`--other-key` alone is refused**: in the first step of a change the other key is the new one, in the second the

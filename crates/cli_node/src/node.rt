@@ -1,9 +1,9 @@
 //! The subcommand `node`: a node over UDP.
 
 ghost use Rattle.std.specs.Prelude.{◌≡◌, ◌≢◌, ◌<◌, ◌≤◌, ◌⊎◌, ◌↔◌, Err, false, length, IfSome, OnErr, IsSome, IsTrue};
-ghost use Rattle.std.specs.Prelude.{ℕ, Bool, List, [], None, Ok, IfOk, map, option_map, option_and_then, is_some};
+ghost use Rattle.std.specs.Prelude.{ℕ, Bool, [], None, Ok, IfOk, map, option_map, option_and_then, is_some};
 ghost use Rattle.std.specs.Prelude.{◌||◌, ◌++◌, codes, string_bytes};
-ghost use Rattle.clap.specs.Words.{first_value, found_of, one_text};
+ghost use Rattle.clap.specs.Words.{found_of, one_text};
 ghost use Rattle.sqlite.specs.Held.{state};
 ghost use Rattle.px_store.specs.Formats.{record_at};
 ghost use Rattle.px_store.specs.View.{connection_of, IsOpened};
@@ -14,16 +14,16 @@ ghost use Rattle.node_loop.specs.Timing.{MakesTurns};
 ghost use Rattle.node_udp.specs.Addresses.{AreFound, shown_address};
 ghost use Rattle.node_udp.specs.Members.{hears_of, me_of, peers_of};
 ghost use Rattle.pf_scripts.specs.Lines.{spaced};
-ghost use Rattle.cli_files.specs.Clusters.{IsClusterKey};
 ghost use Rattle.cli_files.specs.Files.{settings_of};
 ghost use Rattle.cli_files.specs.Settings.{number_of};
 ghost use Rattle.cli_node.specs.declared.outcome.Outcome.TheVariants.{Memory, Refused};
-ghost use Rattle.cli_node.specs.inner.Running.{Anything, EndsAs, EndsNew, EndsNode, EndsWith, IsAlone, IsUnrun};
+ghost use Rattle.cli_node.specs.inner.Running.{EndsAs, EndsNew, EndsNode, EndsWith, IsAlone, IsUnrun};
 ghost use Rattle.cli_node.specs.inner.Running.{RunsHere};
 ghost use Rattle.cli_node.specs.inner.Running.{hears_asks, keys_with, sealer_with};
 ghost use Rattle.cli_node.specs.inner.Outcomes.{ComesTo, ComesOpen, ComesOpenOr, IsWireless};
-ghost use Rattle.cli_node.specs.inner.Given.{AreFigures, AreTurns, IsFlag, IsFlagIn, IsNumberIn, IsPlaced, text_in};
+ghost use Rattle.cli_node.specs.inner.Given.{AreFigures, AreTurns, IsFlag, IsFlagIn, IsNumberIn, IsPlaced};
 ghost use Rattle.cli_node.specs.inner.Secrets.{AreNamed};
+ghost use Rattle.cli_node.specs.inner.Settled.{AreWords, is_whole};
 ghost use Rattle.cli_node.specs.inner.Stores.{HasNone, IsFoundAt, IsKept, IsNone, IsStoreless, is_made};
 ghost use Rattle.cli_node.specs.declared.store.Found.{Found};
 ghost use Rattle.cli_node.specs.declared.store.TheConstants.{NO_STORE};
@@ -40,7 +40,7 @@ use crate::store::{Found, found_at, is_made, record_at};
 use clap::ArgMatches;
 use cli_files::NodeFile;
 use node_control::{ControlPlace, Observer, run_at_socket, run_sealed_at_socket};
-use node_loop::{Membership, TickTimer, Timer, open_member};
+use node_loop::{Membership, Timer, open_member};
 use node_udp::{Address, BindFault, UdpWire};
 use px_packet::PacketKeys;
 use px_records::Records;
@@ -138,7 +138,7 @@ fn turns_in(matches: &ArgMatches<'_>) -> u64
 }
 
 /// Whether an option without a value is given.
-fn is_given(matches: &ArgMatches<'_>, name: &str) -> bool
+pub(crate) fn is_given(matches: &ArgMatches<'_>, name: &str) -> bool
     ensures { IsFlag (one_text (found_of matches.now) name.now) result }
 {
     matches.get_flag(name)
@@ -152,32 +152,14 @@ fn is_set(matches: &ArgMatches<'_>, file: &NodeFile, name: &str) -> bool
 }
 
 impl<'m, 'w, 'a> NodeWords<'m, 'w, 'a> {
-    /// What the matches of the words and a file of settings say, with these members; none where one of them is wanting.
+    /// What the matches and a file of settings give, with these members; none where one of them is missing.
     /// `clap` has refused numbers out of range.
     pub(crate) fn of<'g: 'a>(
         matches: &ArgMatches<'g>,
         file: &'a NodeFile,
         members: &'m [&'w str],
     ) -> Option<NodeWords<'m, 'w, 'a>>
-        ensures me { IfSome result (λ w. IsNumberIn matches.now file.now (codes "me") w.me) }
-        ensures cluster { IfSome result (λ w. IsNumberIn matches.now file.now (codes "cluster") w.cluster) }
-        ensures is_from_file { IfSome result (λ w. w.is_from_file ≡
-            is_some (first_value (found_of matches.now) (codes "config"))) }
-        ensures is_new { IfSome result (λ w. IsFlag (one_text (found_of matches.now) (codes "new")) w.is_new) }
-        ensures turns { IfSome result (λ w. AreTurns (one_text (found_of matches.now) (codes "turns")) w.turns) }
-        ensures makes_starts { IfSome result (λ w.
-            IsFlag (one_text (found_of matches.now) (codes "new-starts")) w.makes_starts) }
-        ensures is_unsealed { IfSome result (λ w. IsFlagIn matches.now file.now (codes "unsealed") w.is_unsealed) }
-        ensures is_quiet { IfSome result (λ w. IsFlagIn matches.now file.now (codes "quiet") w.is_quiet) }
-        ensures store { IfSome result (λ w. text_in matches.now file.now (codes "store") ≡ Some w.store.now) }
-        ensures key { IfSome result (λ w. option_map (λ t. t.now) w.key ≡ text_in matches.now file.now (codes "key")) }
-        ensures other_key { IfSome result (λ w. option_map (λ t. t.now) w.other_key ≡
-            text_in matches.now file.now (codes "other-key")) }
-        ensures control { IfSome result (λ w. option_map (λ t. t.now) w.control ≡
-            text_in matches.now file.now (codes "control")) }
-        ensures metrics { IfSome result (λ w. option_map (λ t. t.now) w.metrics ≡
-            text_in matches.now file.now (codes "metrics")) }
-        ensures members { IfSome result (λ w. w.members ≡ members.entry) }
+        ensures { IfSome result (AreWords matches.now file.now (map (λ t. t.now) members.now)) }
     {
         let Some(me) = number_in(matches, file, "me") else {
             return None;
@@ -216,8 +198,10 @@ impl<'m, 'w, 'a> NodeWords<'m, 'w, 'a> {
         self.key.is_none() && self.control.is_none()
     }
 
-    /// Whether each setting has the one that it wants: a second key and new starts a key, figures a control socket.
-    pub(crate) fn is_whole(self) -> bool {
+    /// Whether each setting has the one that it needs: a second key and new starts a key, figures a control socket.
+    pub(crate) fn is_whole(self) -> bool
+        ensures { result ≡ is_whole self.entry }
+    {
         (self.other_key.is_none() && !self.makes_starts || self.key.is_some())
             && (self.metrics.is_none() || self.control.is_some())
     }
@@ -360,7 +344,7 @@ fn run_at<R: Records, T: Timer>(
         Ok(wire) => wire,
         Err(outcome) => return open_alone(alloc, m, records, outcome),
     };
-    let Ok(mut observer) = Observer::new(alloc, m, words.key.is_some(), words.is_quiet) else {
+    let Ok(mut observer) = Observer::new(alloc, m, sealing.is_some(), words.is_quiet) else {
         return open_alone(alloc, m, records, Outcome::Memory);
     };
     let hears = words.hears_asks();
@@ -586,7 +570,7 @@ fn run_sealed<F: NodeFiles, D: Databases, T: Timer>(
     }
 }
 
-/// What a node over a new store comes to: its file of starts is made before its store, so that no store is without one,
+/// What a node over a new store gives: its file of starts is made before its store, so that no store is without one,
 /// and no store is made where its sockets are refused. 95, the store's refusals, 82, 84, and the first refusal of a
 /// turn, in this order.
 fn run_new<F: NodeFiles, D: Databases, T: Timer>(
@@ -625,8 +609,9 @@ fn run_new<F: NodeFiles, D: Databases, T: Timer>(
     }
 }
 
-/// The outcome of `node` with this timer, as [`node_outcome`] has it.
-fn run_node<F: NodeFiles, D: Databases, T: Timer>(
+/// What `node` evaluates to with this timer: 40 of its numbers, 83, 93, 94, the store's refusals, 95, 82, 84, and the
+/// first refusal of a turn, in this order.
+pub(crate) fn run_node<F: NodeFiles, D: Databases, T: Timer>(
     rt: &HostRuntime,
     files: &F,
     dbs: &D,
@@ -671,23 +656,4 @@ fn run_node<F: NodeFiles, D: Databases, T: Timer>(
         Ok(records) => run_sealed(rt, files, dbs, alloc, words, m, found, records, keys, timer),
         Err(outcome) => outcome,
     }
-}
-
-/// What `node` evaluates to: 40 of its numbers, 83, 93, 94, the store's refusals, 95, 82, 84, and the first refusal of
-/// a turn, in this order.
-pub(crate) fn node_outcome(rt: &HostRuntime, alloc: Global, words: NodeWords<'_, '_, '_>) -> Outcome
-    ensures place { has_place words.entry.me (length words.entry.members.now) ≡ false → result ≡ Refused 40 }
-    ensures ran { EndsNode ⟦<SqlRecords<FileStore<File>> as Records>⟧
-        (λ m. (m.cluster ≡ words.entry.cluster) × (m.me ≡ words.entry.me) ×
-        (m.members ≡ length words.entry.members.now))
-        (AreNamed (λ path key. (text : List ℕ) ×
-        IsClusterKey text words.entry.cluster (map (λ t. t.now) words.entry.members.now) key)
-        (option_map (λ t. t.now) words.entry.key) (option_map (λ t. t.now) words.entry.other_key))
-        (λ m. Anything) (hears_asks words.entry.key words.entry.control)
-        (map (λ t. t.now) words.entry.members.now) Anything Anything Anything result }
-    ensures ending { result ≢ Refused 80 }
-    ensures store { IsStoreless words.entry.is_from_file words.entry.is_new result }
-{
-    let mut timer = TickTimer::new(words.me);
-    run_node(rt, rt, rt, alloc, words, &mut timer)
 }

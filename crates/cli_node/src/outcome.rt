@@ -1,4 +1,4 @@
-//! What a run of `node`, `ask` or `key` comes to.
+//! What a run of `node`, `ask` or `key` gives.
 
 ghost use Rattle.std.specs.Prelude.{◌≡◌, ◌≢◌, IfOk, string_bytes};
 ghost use Rattle.cli_node.specs.declared.outcome.Outcome.TheVariants.{Front, Asked, Refused, RefusedLine};
@@ -164,7 +164,7 @@ pub(crate) fn ending_of(outcome: Outcome, failures: u64) -> Outcome
     }
 }
 
-/// What a member's run comes to; `without` where there was no wire.
+/// What a member's run gives; `without` where there was no wire.
 pub(crate) fn ended_outcome(ended: Ended, without: Outcome) -> Outcome
     ensures { result ≡ ended_outcome without ended }
 {
@@ -178,7 +178,7 @@ pub(crate) fn ended_outcome(ended: Ended, without: Outcome) -> Outcome
     }
 }
 
-/// What the answer of a node comes to.
+/// What the answer of a node gives.
 pub(crate) fn answer_outcome(node: u8, answer: AskAnswer) -> Outcome
     ensures { result ≡ answer_outcome node answer }
 {

@@ -15,7 +15,7 @@ use std::alloc::Global;
 use std::convert::AsStr;
 use std::io::{Read, Write};
 
-/// What the matches come to; none where no word is named.
+/// What the matches give; none where no subcommand is named.
 fn outcome_of<R: Read>(
     rt: &HostRuntime,
     alloc: Global,
@@ -23,7 +23,7 @@ fn outcome_of<R: Read>(
     reader: &mut R,
 ) -> Option<Outcome> {
     if let Some(inner) = matches.subcommand_matches("node") {
-        return Some(settled_outcome(rt, alloc, inner));
+        return Some(settled_outcome(rt, *rt, alloc, inner));
     }
     if let Some(inner) = matches.subcommand_matches("key") {
         return Some(key_outcome(rt, alloc, inner.get_str("file")));
@@ -41,9 +41,9 @@ fn outcome_of<R: Read>(
 /// are lent.
 ///
 /// `node` makes turns of a node over UDP, and writes `front F applied A`, or `refused CODE`; with `--check` it makes
-/// none, and writes `ok` where nothing is to be refused. `ask` asks a node to take a command of pfctl's words in, and
-/// writes `asked N.NUMBER`, `refused CODE` or `no answer`. `key` writes a new key's 64 digits, into a file where one is
-/// named. Other words are refused. What is said to people beside that goes to standard error.
+/// none, and writes `ok` where nothing is to be refused. `ask` asks a node to accept a command of pfctl's arguments,
+/// and writes `asked N.NUMBER`, `refused CODE` or `no answer`. `key` writes a new key's 64 digits, into a file where
+/// one is named. Other arguments are refused. What is printed for people beside that goes to standard error.
 pub fn run_net<S: AsStr, R: Read, W: Write>(
     rt: &HostRuntime,
     alloc: Global,

@@ -1,12 +1,33 @@
 //! The subcommand `node` with its file of settings.
 
+ghost use Rattle.std.specs.Prelude.{◌≡◌, ◌≢◌, ◌⊎◌, ℕ, List, Some, false, length, map, option_map, IfOk, IfErr};
+ghost use Rattle.toml.specs.Parse.{parse_document};
+ghost use Rattle.cli_io.specs.Sources.{IsOfFile};
+ghost use Rattle.cli_files.specs.Clusters.{IsClusterKey};
+ghost use Rattle.cli_files.specs.Files.{settings_of};
+ghost use Rattle.cli_node.specs.declared.node.NodeWords.{NodeWords};
+ghost use Rattle.cli_node.specs.declared.outcome.Outcome.{Outcome};
+ghost use Rattle.cli_node.specs.declared.outcome.Outcome.TheVariants.{Memory, Refused};
+ghost use Rattle.cli_node.specs.declared.settings.TheConstants.{BAD_SETTINGS};
+ghost use Rattle.cli_node.specs.inner.Places.{has_place};
+ghost use Rattle.cli_node.specs.inner.Running.{Anything, EndsNode, hears_asks};
+ghost use Rattle.cli_node.specs.inner.Secrets.{AreNamed};
+ghost use Rattle.cli_node.specs.inner.Settled.{AreSettings, IsNode, IsSettled, IsUnread, IsUnsettled, members_in};
+ghost use Rattle.cli_node.specs.inner.Stores.{IsStoreless};
+
 use crate::check::check_outcome;
-use crate::node::{NodeWords, node_outcome};
+use crate::node::{NodeWords, is_given, run_node};
 use crate::outcome::Outcome;
 use clap::ArgMatches;
 use cli_files::{FileFault, NodeFile};
 use cli_io::{InputFault, Shown, open_regular, read_all};
+use node_loop::TickTimer;
+use px_records::Records;
+use px_store::SqlRecords;
+use sqlite::{File, FileStore};
 use std::alloc::Global;
+use std::fs::Files;
+use std::io::Eprint;
 
 /// A file that can't be read.
 const UNREADABLE: u8 = 90;
@@ -15,7 +36,10 @@ const UNREADABLE: u8 = 90;
 const BAD_SETTINGS: u8 = 92;
 
 /// The bytes of a file.
-fn bytes_of(rt: &HostRuntime, alloc: Global, path: &str) -> Result<Vec<u8>, Outcome> {
+fn bytes_of<RT: Files + Eprint>(rt: &RT, alloc: Global, path: &str) -> Result<Vec<u8>, Outcome>
+    ensures read { IfOk result (λ bytes. IsOfFile RT.File.remaining bytes.items) }
+    ensures refused { IfErr result IsUnread }
+{
     let mut file = match open_regular(rt, path) {
         Ok(file) => file,
         Err(error) => {
@@ -33,8 +57,10 @@ fn bytes_of(rt: &HostRuntime, alloc: Global, path: &str) -> Result<Vec<u8>, Outc
     }
 }
 
-/// What a wrong file is refused for, said on standard error too.
-fn file_refused(rt: &HostRuntime, path: &str, fault: FileFault) -> Outcome {
+/// What a wrong file is refused for, logged on standard error too.
+fn file_refused<RT: Eprint>(rt: &RT, path: &str, fault: FileFault) -> Outcome
+    ensures { IsUnread result }
+{
     if fault == FileFault::Memory {
         return Outcome::Memory;
     }
@@ -55,7 +81,11 @@ fn file_refused(rt: &HostRuntime, path: &str, fault: FileFault) -> Outcome {
 }
 
 /// The settings in a file.
-fn settings_in(rt: &HostRuntime, alloc: Global, path: &str) -> Result<NodeFile, Outcome> {
+fn settings_in<RT: Files + Eprint>(rt: &RT, alloc: Global, path: &str) -> Result<NodeFile, Outcome>
+    ensures settings { IfOk result (λ f. (text : List ℕ) × IsOfFile RT.File.remaining text ×
+        (parse_document text ≡ Some (settings_of f))) }
+    ensures refused { IfErr result IsUnread }
+{
     let bytes = match bytes_of(rt, alloc, path) {
         Ok(bytes) => bytes,
         Err(outcome) => return Err(outcome),
@@ -66,13 +96,31 @@ fn settings_in(rt: &HostRuntime, alloc: Global, path: &str) -> Result<NodeFile, 
     }
 }
 
-/// Says what a setting is wanting.
-fn say_lack(rt: &HostRuntime, name: &str) {
+/// The settings in the file that is named; none without one.
+fn settings_for<RT: Files + Eprint>(
+    rt: &RT,
+    alloc: Global,
+    named: Option<&str>,
+) -> Result<NodeFile, Outcome>
+    ensures settings { IfOk result (λ f. AreSettings (λ text. IsOfFile RT.File.remaining text)
+        (option_map (λ n. n.now) named.entry) f) }
+    ensures refused { IfErr result (IsUnsettled (option_map (λ n. n.now) named.entry)) }
+{
+    match named {
+        Some(path) => settings_in(rt, alloc, path),
+        None => Ok(NodeFile::empty(alloc)),
+    }
+}
+
+/// Logs which setting is missing.
+fn say_lack<RT: Eprint>(rt: &RT, name: &str) {
     let _said = eprintln!(rt; "pfx: error: {name} ({BAD_SETTINGS})");
 }
 
-/// What is refused where a setting is wanting that no option gives.
-fn lacking(rt: &HostRuntime, matches: &ArgMatches<'_>, file: &NodeFile) -> Outcome {
+/// What is refused where a setting is missing that no option gives.
+fn lacking<RT: Eprint>(rt: &RT, matches: &ArgMatches<'_>, file: &NodeFile) -> Outcome
+    ensures { result ≡ Refused BAD_SETTINGS }
+{
     if matches.get_one::<u32>("me").is_none() && file.number("me").is_none() {
         say_lack(rt, "me is neither in the words nor in their file");
     }
@@ -85,8 +133,10 @@ fn lacking(rt: &HostRuntime, matches: &ArgMatches<'_>, file: &NodeFile) -> Outco
     Outcome::Refused(BAD_SETTINGS)
 }
 
-/// What is refused where a setting has not the one that it wants.
-fn halved(rt: &HostRuntime) -> Outcome {
+/// What is refused where a setting lacks the one that it needs.
+fn halved<RT: Eprint>(rt: &RT) -> Outcome
+    ensures { result ≡ Refused BAD_SETTINGS }
+{
     say_lack(
         rt,
         "other-key or new-starts has no key, or metrics no control socket",
@@ -94,57 +144,103 @@ fn halved(rt: &HostRuntime) -> Outcome {
     Outcome::Refused(BAD_SETTINGS)
 }
 
-/// What `node` comes to with these settings and members; an option goes before the file's.
-fn outcome_for<'g: 'f, 'f>(
-    rt: &HostRuntime,
+/// Who runs a node, or checks whether it could be started, once.
+pub(crate) trait Nodes {
+    // a node with these arguments was run, and gave this
+    ghost ran: { Self → NodeWords → Outcome → Type 0 };
+
+    // whether a node with these arguments could be started was checked, and gave this
+    ghost checked: { Self → NodeWords → Outcome → Type 0 };
+
+    /// Runs a node.
+    fn run(self, alloc: Global, words: NodeWords<'_, '_, '_>) -> Outcome
+        ensures { ran self words.entry result };
+
+    /// Checks whether a node could be started.
+    fn check(self, alloc: Global, words: NodeWords<'_, '_, '_>) -> Outcome
+        ensures { checked self words.entry result };
+}
+
+impl Nodes for HostRuntime {
+    // no contract states what is in a file, or which turns are made by the system's clock
+    ghost ran = { λ _ w outcome. (has_place w.me (length w.members.now) ≡ false → outcome ≡ Refused 40) ×
+        EndsNode ⟦<SqlRecords<FileStore<File>> as Records>⟧
+        (λ m. (m.cluster ≡ w.cluster) × (m.me ≡ w.me) × (m.members ≡ length w.members.now))
+        (AreNamed (λ path key. (text : List ℕ) × IsClusterKey text w.cluster (map (λ t. t.now) w.members.now) key)
+        (option_map (λ t. t.now) w.key) (option_map (λ t. t.now) w.other_key))
+        (λ m. Anything) (hears_asks w.key w.control) (map (λ t. t.now) w.members.now) Anything Anything Anything
+        outcome × (outcome ≢ Refused 80) × IsStoreless w.is_from_file w.is_new outcome };
+
+    ghost checked = { λ _ w outcome. (has_place w.me (length w.members.now) ≡ false → outcome ≡ Refused 40) ×
+        IsStoreless w.is_from_file w.is_new outcome };
+
+    fn run(self, alloc: Global, words: NodeWords<'_, '_, '_>) -> Outcome {
+        let mut timer = TickTimer::new(words.me);
+        run_node(&self, &self, &self, alloc, words, &mut timer)
+    }
+
+    fn check(self, alloc: Global, words: NodeWords<'_, '_, '_>) -> Outcome {
+        let mut inspection = self;
+        check_outcome(&self, &self, &mut inspection, alloc, words)
+    }
+}
+
+/// What `node` gives with these settings and members; an option goes before the file's.
+fn outcome_for<'g: 'f, 'f, RT: Eprint, N: Nodes + Drop>(
+    rt: &RT,
+    nodes: N,
     alloc: Global,
     matches: &ArgMatches<'g>,
     file: &'f NodeFile,
     members: &[&str],
-) -> Outcome {
+) -> Outcome
+    ensures { IsSettled (N.ran nodes) (N.checked nodes) matches.now file.now (map (λ t. t.now) members.now) result }
+{
     let Some(words) = NodeWords::of(matches, file, members) else {
         return lacking(rt, matches, file);
     };
     if !words.is_whole() {
         return halved(rt);
     }
-    if matches.get_flag("check") {
-        let mut inspection = *rt;
-        check_outcome(rt, rt, &mut inspection, alloc, words)
+    if is_given(matches, "check") {
+        nodes.check(alloc, words)
     } else {
-        node_outcome(rt, alloc, words)
+        nodes.run(alloc, words)
     }
 }
 
-/// What `node` comes to with these settings; the words' members go before the file's.
-fn outcome_with<'g: 'f, 'f>(
-    rt: &HostRuntime,
+/// What `node` gives with these settings; the members among the arguments go before the file's.
+fn outcome_with<'g: 'f, 'f, RT: Eprint, N: Nodes + Drop>(
+    rt: &RT,
+    nodes: N,
     alloc: Global,
     matches: &ArgMatches<'g>,
     file: &'f NodeFile,
-) -> Outcome {
-    if let Some(members) = matches.get_strs("member") {
-        return outcome_for(rt, alloc, matches, file, members);
-    }
-    match file.texts(alloc, "members") {
-        Ok(listed) => outcome_for(rt, alloc, matches, file, listed.as_slice()),
-        Err(_) => Outcome::Memory,
+) -> Outcome
+    ensures { (result ≡ Memory) ⊎ IsSettled (N.ran nodes) (N.checked nodes) matches.now file.now
+        (members_in matches.now file.now) result }
+{
+    match matches.get_strs("member") {
+        Some(members) => outcome_for(rt, nodes, alloc, matches, file, members),
+        None => match file.texts(alloc, "members") {
+            Ok(listed) => outcome_for(rt, nodes, alloc, matches, file, listed.as_slice()),
+            Err(_) => Outcome::Memory,
+        },
     }
 }
 
-/// What `node` comes to: 90 of a file of settings that can't be read, 92 of one that is wrong or where a setting is
-/// wanting; then what a node with these settings comes to.
-pub(crate) fn settled_outcome(
-    rt: &HostRuntime,
+/// What `node` gives: 90 for a file of settings that can't be read, 92 for one that is wrong or where a setting is
+/// missing; then what a node with these settings gives.
+pub(crate) fn settled_outcome<RT: Files + Eprint, N: Nodes + Drop>(
+    rt: &RT,
+    nodes: N,
     alloc: Global,
     matches: &ArgMatches<'_>,
-) -> Outcome {
-    let Some(path) = matches.get_str("config") else {
-        let file = NodeFile::empty(alloc);
-        return outcome_with(rt, alloc, matches, &file);
-    };
-    match settings_in(rt, alloc, path) {
-        Ok(file) => outcome_with(rt, alloc, matches, &file),
+) -> Outcome
+    ensures { IsNode (N.ran nodes) (N.checked nodes) (λ text. IsOfFile RT.File.remaining text) matches.now result }
+{
+    match settings_for(rt, alloc, matches.get_str("config")) {
+        Ok(file) => outcome_with(rt, nodes, alloc, matches, &file),
         Err(outcome) => outcome,
     }
 }

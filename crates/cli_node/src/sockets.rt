@@ -73,7 +73,7 @@ fn try_all(rt: &HostRuntime, alloc: Global, words: NodeWords<'_, '_, '_>) -> Res
     }
 }
 
-/// Tries the sockets that a node opens: 82, 84, in this order; why is said on standard error.
+/// Tries the sockets that a node opens: 82, 84, in this order; why is logged on standard error.
 pub(crate) fn try_sockets(
     rt: &HostRuntime,
     alloc: Global,

@@ -26,6 +26,8 @@ use px_store::{AdoptFault, Format, Identity, SqlRecords};
 use sqlite::{Alter, Connection, Error, ErrorCode, File, FileStore};
 use sqlite_trees::store::Store;
 use std::alloc::{AllocError, Global};
+use std::fs::Files;
+use std::io::Eprint;
 
 /// A store that isn't there.
 const NO_STORE: u8 = 93;
@@ -42,7 +44,7 @@ pub(crate) enum Found {
     Empty,
     /// A file with bytes.
     Store,
-    /// What is no file, or the system doesn't say.
+    /// What is no file, or isn't known.
     Other,
 }
 
@@ -85,7 +87,7 @@ fn has_no_byte(seen: Seen) -> bool
     match seen {
         Seen::File(size) => size == 0,
         Seen::Another(size) => size == 0,
-        Seen::Nothing | Seen::Unsaid => true,
+        Seen::Nothing | Seen::Unknown => true,
     }
 }
 
@@ -100,7 +102,7 @@ fn found_by(file: Seen, log: Seen) -> Found
             Found::Store
         },
         Seen::Nothing => Found::Nothing,
-        Seen::Another(_) | Seen::Unsaid => Found::Other,
+        Seen::Another(_) | Seen::Unknown => Found::Other,
     }
 }
 
@@ -124,9 +126,9 @@ fn adopt_outcome(fault: AdoptFault) -> Outcome
     numbered(fault.code())
 }
 
-/// What a store comes to that isn't taken; why is said on standard error.
-pub(crate) fn untaken<S: Alter>(
-    rt: &HostRuntime,
+/// What a store that isn't accepted gives; why is logged on standard error.
+pub(crate) fn untaken<RT: Eprint, S: Alter>(
+    rt: &RT,
     path: &str,
     m: Membership,
     fault: AdoptFault,
@@ -152,8 +154,8 @@ pub(crate) fn identity_of(m: Membership) -> Identity
     }
 }
 
-/// The outcome of a database that the system or its own code doesn't open or read; why is said on standard error.
-pub(crate) fn failed_outcome(rt: &HostRuntime, path: &str, error: Error) -> Outcome
+/// The outcome of a database that the system or its own code doesn't open or read; why is logged on standard error.
+pub(crate) fn failed_outcome<RT: Files + Eprint>(rt: &RT, path: &str, error: Error) -> Outcome
     ensures { (result ≡ Memory) ⊎ (result ≡ Refused 70) }
 {
     match error {
@@ -289,8 +291,8 @@ fn record_in<S: Alter>(
     }
 }
 
-/// The record of a member in the store that its words name, where that was found: 93, 94, 70, 73, 72 and 71, in this
-/// order; where it is made 70, 82 and 84.
+/// The record of a member in the store that its arguments name, where that was found: 93, 94, 70, 73, 72 and 71, in
+/// this order; where it is made 70, 82 and 84.
 pub(crate) fn record_at<D: Databases>(
     rt: &HostRuntime,
     dbs: &D,

@@ -1,4 +1,4 @@
-//! The words `node`, `ask` and `key`, as `clap` reads them.
+//! The arguments of `node`, `ask` and `key`, as `clap` reads them.
 
 ghost use Rattle.std.specs.Prelude.{◌≡◌, IfOk, false};
 ghost use Rattle.clap.specs.declared.builder.command.Command.TheViews.{out-Command};
@@ -9,7 +9,7 @@ use cli_io::{flag, valued, with_option};
 use pf_arguments::pfctl_args;
 use std::alloc::{AllocError, Global};
 
-/// What help says of each option, and below them.
+/// The help of each option, and what is below them.
 const CONFIG: &str =
     "A file of settings in TOML, by these options' names, and members for the addresses; options override it";
 
@@ -121,7 +121,7 @@ fn with_made<'a>(
     }
 }
 
-/// Adds an option that has to be in the words where no file of settings does.
+/// Adds an option that has to be given where no file of settings has it.
 fn with_required<'a>(command: Command<'a>, arg: Arg<'a>) -> Result<Command<'a>, AllocError>
     requires command { (out-Command command).has_globals ≡ false }
     requires arg { arg.global ≡ false }
@@ -289,7 +289,7 @@ fn with_wait<'a>(alloc: Global, command: Command<'a>) -> Result<Command<'a>, All
     with_option(command, wait)
 }
 
-/// `ask --to ADDR --cluster C --members N --node N [--wait S]`, and pfctl's words.
+/// `ask --to ADDR --cluster C --members N --node N [--wait S]`, and pfctl's arguments.
 fn ask_command<'a>(alloc: Global) -> Result<Command<'a>, AllocError>
     ensures local { IfOk result (λ c. (out-Command c).has_globals ≡ false) }
 {
@@ -329,7 +329,7 @@ fn with_word<'a>(
     }
 }
 
-/// The words.
+/// The command of the arguments.
 pub(crate) fn command<'a>(alloc: Global) -> Result<Command<'a>, AllocError> {
     let command = with_word(Command::new(alloc, "pfx"), node_command(alloc))?;
     let command = with_word(command, ask_command(alloc))?;

@@ -1,5 +1,6 @@
 pub mod Opened
 mod Reading
+mod Naming
 mod Writing
 pub mod TextsShown
 pub mod LogScripts

@@ -23,7 +23,7 @@ use Rattle.cli_show.specs.declared.shown.Shown.{Shown}
 use Rattle.cli_show.specs.declared.shown.Wanted.{Wanted}
 use Rattle.cli_show.specs.Stores.{ShowsStore, LeavesRecord}
 
-owner_plain : IsPlain (understood schema_3 get_owner)
+pub owner_plain : IsPlain (understood schema_3 get_owner)
 unfolding understood everything
 owner_plain = (refl, refl)
 
@@ -40,7 +40,7 @@ owner_stays params old new rows began h =
     record { now = u.0.now_is; auto = u.0.mode ∙ began.auto }
 
 -- a store that is the same has begun too
-begins_again : (old new : State) → Began Three old → IsSame old new → Began Three new
+pub begins_again : (old new : State) → Began Three old → IsSame old new → Began Three new
 begins_again old new began same = record {
   schema = ap (λ (d : Database). d.schema) same.now ∙ began.schema;
   auto = same.auto;

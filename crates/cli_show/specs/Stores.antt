@@ -1,5 +1,5 @@
 -- What is shown of a store.
-use Rattle.std.specs.Prelude.{◌≡◌, ◌⊎◌, ℕ, Bool, Option, Some, None, Ok}
+use Rattle.std.specs.Prelude.{◌≡◌, ◌≢◌, ◌⊎◌, ℕ, Bool, false, Option, Some, None, Ok}
 use Rattle.sqlite.specs.Effect.{Database}
 use Rattle.sqlite.specs.Held.{Held, state}
 use Rattle.sqlite.specs.State.{State, HasCleanDisk}
@@ -9,17 +9,20 @@ use Rattle.px_model.specs.Spelling.{Bytes}
 use Rattle.px_records.specs.declared.records.Records.{Ghosts}
 use Rattle.px_replica.specs.Codes.{node_fault_code}
 use Rattle.px_replica.specs.declared.fault.NodeFault.{NodeFault}
-use Rattle.px_store.specs.Adopting.{Began, IsVerdict, code_of}
+use Rattle.px_store.specs.Adopting.{Began, IsKnown, IsVerdict, code_of}
 use Rattle.px_store.specs.Formats.{record_at}
 use Rattle.px_store.specs.Judging.{reopen_refusal}
 use Rattle.px_store.specs.declared.calls.Identity.{Identity}
+use Rattle.px_store.specs.declared.formats.Format.{Format}
 use Rattle.px_store.specs.declared.formats.Format.TheVariants.{Three}
 use Rattle.px_store.specs.Ready.{MayLeave}
 use Rattle.px_store.specs.Seen.{record_in}
+use Rattle.px_store.specs.Tables.{no_schema}
 use Rattle.px_store.specs.View.{connection_of}
 use Rattle.px_store.specs.declared.fault.AdoptFault.{AdoptFault}
+use Rattle.px_store.specs.declared.fault.AdoptFault.TheVariants.{StoreVersion, WrongNode}
 use Rattle.px_store.specs.declared.keeper.SqlRecords.{SqlRecords}
-use Rattle.cli_show.specs.Owners.{Says, IsUnowned}
+use Rattle.cli_show.specs.Owners.{AnswersOwner, IsUnowned}
 use Rattle.cli_show.specs.Showing.{ShowsLog, IsRefused}
 use Rattle.cli_show.specs.declared.shown.Shown.{Shown}
 use Rattle.cli_show.specs.declared.shown.Wanted.{Wanted}
@@ -38,7 +41,7 @@ abbrev pub closed_by : (code : Option ℕ) → Closed
 closed_by None = closed.Memory
 closed_by (Some code) = closed.Refused code
 
--- a store that isn't taken
+-- a store that is refused to its owner
 -- Example: 72 of a bad row.
 abbrev pub closed_of : AdoptFault → Closed
 closed_of fault = closed_by (code_of fault)
@@ -50,10 +53,17 @@ closed_for fault = closed_by (node_fault_code fault)
 
 -- ---- which store is refused
 
--- The rows of a store of format 3 are refused to this node, which is their owner: with 72 for a bad row.
-abbrev pub IsUntaken : Identity → State → Closed → Type 0
-IsUntaken owner s c = (fault : AdoptFault) × ((c ≡ closed_of fault)
-    × (Began Three s → IsVerdict fault → reopen_refusal Three owner s.now.trees ≡ Some fault))
+-- A store is refused to its owner: one of a format as its rows are, with 72 for a bad one; with 73 one of no format.
+pub record IsRefusedTo (owner : Identity) (s : State) (c : Closed) : Type 0 where
+  pub fault : AdoptFault
+  pub numbered : c ≡ closed_of fault
+  pub judged : (f : Format) → Began f s → IsVerdict fault → reopen_refusal f owner s.now.trees ≡ Some fault
+  pub lost : s.now.schema ≡ no_schema → s.in_transaction ≡ false → fault ≡ StoreVersion
+  pub unknown : (IsKnown s.now.schema → ⊥) → s.in_transaction ≡ false → fault ≡ StoreVersion
+
+-- and one of format 3 not as another node's
+abbrev pub IsRefusedToOwner : Identity → (given came : State) → Closed → Type 0
+IsRefusedToOwner owner given came c = (r : IsRefusedTo owner came c) × (Began Three given → r.fault ≢ WrongNode)
 
 -- a node of that many members doesn't open the record of these rows: with 72 for a bad entry
 abbrev pub IsUnopened : {R : Type 0} → (G : Ghosts R) → (members : ℕ) → State → Closed → Type 0
@@ -65,8 +75,8 @@ IsUnopened {R} G members s c = (fault : NodeFault) × ((given : R) × ((back : R
 pub record IsClosed {R S : Type 0} (G : Ghosts R) (g : store.Ghosts S) (given : Held S) (c : Closed) : Type 0 where
   pub came : Held S
   pub why : IsUnowned (state g given) (state g came) c
-      ⊎ ((owner : Identity) × (Says (state g given) (state g came) (Ok owner)
-      × (IsUntaken owner (state g came) c ⊎ IsUnopened G owner.members (state g came) c)))
+      ⊎ ((owner : Identity) × (AnswersOwner (state g given) (state g came) (Ok owner)
+      × (IsRefusedToOwner owner (state g given) (state g came) c ⊎ IsUnopened G owner.members (state g came) c)))
 
 -- ---- what is left of a store
 

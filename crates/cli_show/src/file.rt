@@ -3,6 +3,7 @@
 ghost use Rattle.std.specs.Prelude.{◌⊎◌, ⊤, ℕ, Bool, List, IfOk, IfErr};
 ghost use Rattle.sqlite.specs.Effect.{Database};
 ghost use Rattle.sqlite.specs.Files.{file_state};
+ghost use Rattle.sqlite.specs.Held.{IsNew};
 ghost use Rattle.sqlite.specs.State.{State};
 ghost use Rattle.cli_show.specs.Stores.{RefusesFile, ShowsFile};
 ghost use Rattle.cli_show.specs.declared.store.Closed.{Closed};
@@ -34,7 +35,9 @@ fn is_file(rt: &HostRuntime, path: &str) -> bool {
 
 /// The database in a file. Where there is no file 70 comes, and none is made; 73 where it has no byte and no log of
 /// writes.
-fn open_file(rt: &HostRuntime, path: &str) -> Result<Connection<FileStore<File>>, Closed> {
+fn open_file(rt: &HostRuntime, path: &str) -> Result<Connection<FileStore<File>>, Closed>
+    ensures fresh { IfOk result IsNew }
+{
     if !is_file(rt, path) {
         return Err(Closed::Refused(70));
     }
@@ -66,6 +69,7 @@ pub(crate) trait Databases {
     fn open(&self, path: &str) -> Result<Connection<FileStore<File>>, Closed>
         ensures opened { IfOk result (λ c.
             holds self.now path.now (file_state c).now (file_state c).in_transaction) }
+        ensures fresh { IfOk result IsNew }
         ensures refused { IfErr result (refuses self.now path.now) };
 
     /// Closes a database, without copying its log of writes.

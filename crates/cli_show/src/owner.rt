@@ -9,7 +9,7 @@ ghost use Rattle.px_store.specs.Judging.{is_member_of};
 ghost use Rattle.px_store.specs.Seen.{is_number, number_in};
 ghost use Rattle.px_store.specs.declared.formats.Format.TheVariants.{Three};
 ghost use Rattle.cli_show.specs.Owners.{code_for, get_owner, identity_of, is_three, member_in, owner_in, owner_of};
-ghost use Rattle.cli_show.specs.Owners.{IsOwner, IsUnanswered, IsUnowned, Says};
+ghost use Rattle.cli_show.specs.Owners.{IsOwner, IsUnanswered, IsUnowned, AnswersOwner};
 
 use crate::store::Closed;
 use px_replica::Membership;
@@ -66,7 +66,7 @@ fn member_of(cluster: u64, members: u64, node: u64) -> Option<Membership>
     }
 }
 
-/// Whom the row for the whole node says, 72 where it says nobody.
+/// The member that the row for the whole node names, 72 where it names none.
 fn member_in(row: &Row) -> Result<Membership, Closed>
     ensures value { IsOwner result (member_in row.now) }
     ensures within { IfOk result (λ m. m.me < m.members) }
@@ -80,7 +80,7 @@ fn member_in(row: &Row) -> Result<Membership, Closed>
     }
 }
 
-/// Whether the row says format 3.
+/// Whether the row is of format 3.
 fn is_three(row: &Row) -> Result<bool, Closed>
     ensures value { IfOk result (λ b. b ≡ is_three row.now) }
     ensures why { IfErr result (λ e. e ≡ Closed.Memory) }
@@ -92,7 +92,7 @@ fn is_three(row: &Row) -> Result<bool, Closed>
     }
 }
 
-/// Whom a row of format 3 says: 73 where it has another format, 72 where it says nobody.
+/// The member that a row of format 3 names: 73 where it has another format, 72 where it names none.
 fn owner_in(row: &Row) -> Result<Membership, Closed>
     ensures value { IsOwner result (owner_in row.now) }
     ensures within { IfOk result (λ m. m.me < m.members) }
@@ -103,7 +103,7 @@ fn owner_in(row: &Row) -> Result<Membership, Closed>
     member_in(row)
 }
 
-/// Whom the rows say, 72 where there isn't one.
+/// The member that the only row names, 72 where there isn't one row.
 fn owner_in_rows(rows: &[Row]) -> Result<Membership, Closed>
     ensures value { IsOwner result (owner_of rows.now) }
     ensures within { IfOk result (λ m. m.me < m.members) }
@@ -145,8 +145,8 @@ fn owner_rows<S: Alter>(conn: &mut Connection<S>) -> Result<Vec<Row>, Closed>
     }
 }
 
-/// Whose store it is: 73 where it hasn't the tables of format 3, 72 where the row for the whole node is missing or says
-/// nobody, 70 where the database doesn't answer. Nothing differs in the store.
+/// Whose store it is: 73 where it hasn't the tables of format 3, 72 where the row for the whole node is missing or
+/// names no member, 70 where the database doesn't answer. Nothing differs in the store.
 pub(crate) fn owner_of<S: Alter>(conn: &mut Connection<S>) -> Result<Membership, Closed>
     ensures stays { HasCleanDisk (state S.Store conn.new) → Began Three (state S.Store conn.old) →
         OnOk result (IsSame (state S.Store conn.old) (state S.Store conn.new)) }
@@ -154,8 +154,8 @@ pub(crate) fn owner_of<S: Alter>(conn: &mut Connection<S>) -> Result<Membership,
     ensures stop { HasCleanDisk (state S.Store conn.new) → Began Three (state S.Store conn.old) →
         LeavesOld (state S.Store conn.old) (state S.Store conn.new) }
     ensures member { IfOk result (λ m. m.me < m.members) }
-    ensures owner { HasCleanDisk (state S.Store conn.new) → IfOk result (λ m. Says (state S.Store conn.old)
-        (state S.Store conn.new) (Ok (identity_of m))) }
+    ensures owner { HasCleanDisk (state S.Store conn.new) → IfOk result (λ m.
+        AnswersOwner (state S.Store conn.old) (state S.Store conn.new) (Ok (identity_of m))) }
     ensures none { HasCleanDisk (state S.Store conn.new) → IfErr result (IsUnowned (state S.Store conn.old)
         (state S.Store conn.new)) }
 {

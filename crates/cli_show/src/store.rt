@@ -8,7 +8,7 @@ ghost use Rattle.px_store.specs.Formats.{record_at};
 ghost use Rattle.px_store.specs.View.{connection_of};
 ghost use Rattle.px_store.specs.declared.formats.Format.TheVariants.{Three};
 ghost use Rattle.cli_show.specs.Owners.{identity_of};
-ghost use Rattle.cli_show.specs.Stores.{ShowsStore, LeavesRecord, closed_by, closed_of, closed_for, IsUntaken};
+ghost use Rattle.cli_show.specs.Stores.{ShowsStore, LeavesRecord, closed_by, closed_of, closed_for, IsRefusedTo};
 ghost use Rattle.cli_show.specs.Stores.{IsClosed};
 
 use crate::owner::owner_of;
@@ -40,7 +40,7 @@ fn closed_by(code: Option<u8>) -> Closed
     }
 }
 
-/// What a refusal to take a store gives.
+/// What the refusal of a store gives.
 fn closed_of(refusal: AdoptFault) -> Closed
     ensures { result ≡ closed_of refusal }
 {
@@ -75,8 +75,8 @@ fn adopted<S: Alter + Drop>(
     ensures left { IfErr result (λ e. HasCleanDisk (state S.Store e.1) → Began Three (state S.Store conn) →
         LeavesOr (IsBrought Three identity (state S.Store conn).now.trees) (state S.Store conn)
         (state S.Store e.1)) }
-    ensures untaken { IfErr result (λ e. HasCleanDisk (state S.Store e.1) → HasCleanDisk (state S.Store conn)
-        × IsUntaken identity (state S.Store conn) e.0) }
+    ensures refused { IfErr result (λ e. HasCleanDisk (state S.Store e.1) → HasCleanDisk (state S.Store conn)
+        × IsRefusedTo identity (state S.Store conn) e.0) }
 {
     match SqlRecords::reopen(alloc, conn, identity) {
         Ok(records) => Ok(records),
@@ -92,7 +92,7 @@ fn closed_for(fault: NodeFault) -> Closed
 }
 
 /// What is shown of the record in a store of format 3, and the record, which is as it was: of the configuration after
-/// the first learned entries, up to the first gap. To take such a store writes nothing.
+/// the first learned entries, up to the first gap. Opening such a store writes nothing.
 ///
 /// 73 where it hasn't format 3, 72 for a bad row, 70 where the database refuses, and the connection; a script is shown
 /// as refused where there is none.

@@ -19,9 +19,13 @@ use Rattle.node_loop.proofs.Hosting.{hosted_then, hosted_served}
 use Rattle.node_loop.proofs.Looking.{makes_then}
 use Rattle.node_loop.specs.Lives.{Buffers, new_buffers, stands, Tells, HostTells, Serves, Hosts, OnFront}
 use Rattle.node_loop.specs.declared.ended.Ended.{Ended}
+use Rattle.node_loop.specs.declared.running.Progress.{Progress}
 use Rattle.node_control.specs.declared.control.ControlSocket.{ControlSocket}
+use Rattle.node_control.specs.declared.hearing.Hearing.{Hearing}
 use Rattle.node_control.specs.inner.Ending.{is_ending}
+use Rattle.node_control.specs.inner.Observing.{IsShown, Seen}
 use Rattle.node_control.specs.inner.Runs.{Finishes, IsSocketless, MakesRounds, ended_as}
+use Rattle.node_requests.specs.declared.counters.Counters.{Counters}
 use Rattle.node_requests.specs.declared.handler.RequestHandler.{RequestHandler}
 
 -- nothing was asked, and nothing went over the wire
@@ -171,3 +175,24 @@ pub socketless_front : (A : Type 0) (ended : Ended) → IsSocketless ended → O
 socketless_front A ended (inl is) = subst (λ (x : Ended). OnFront x A) (sym is) tt
 socketless_front A ended (inr (inl is)) = subst (λ (x : Ended). OnFront x A) (sym is) tt
 socketless_front A ended (inr (inr is)) = subst (λ (x : Ended). OnFront x A) (sym is) tt
+
+-- who is heard changes nothing that is shown
+pub shown_hearing : (h : Hearing) (s : Seen) (made : Progress) (old new : Counters) → IsShown s made old new →
+    IsShown (record s { hearing = h }) made old new
+shown_hearing h s made old new i = record {
+  up = i.up;
+  stood = i.stood;
+  outrun = i.outrun;
+  large = i.large;
+  unsent = i.unsent;
+  dropped = i.dropped;
+  ignored = i.ignored;
+  turns = i.turns;
+  ticks = i.ticks;
+  peers = i.peers;
+  members = i.members;
+  clients = i.clients;
+  served = i.served;
+  refused = i.refused;
+  unavailable = i.unavailable;
+}

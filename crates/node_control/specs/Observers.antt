@@ -21,7 +21,7 @@ abbrev pub first_rows : (me n : ℕ) → List Row
 first_rows me zero = []
 first_rows me (suc n) = first_rows me n ++ (if n == me then [] else first_row n ∷ [])
 
--- nobody was heard yet, and nothing was said
+-- nobody was heard yet, and nothing was logged
 abbrev pub unheard : Membership → (is_quiet : Bool) → Hearing
 unheard m is_quiet = record {
   m = m;
@@ -33,11 +33,17 @@ unheard m is_quiet = record {
   is_quiet = is_quiet;
 }
 
+-- whether datagrams go in packets, and whether only warnings are logged
+abbrev pub has_packets_of : Observer → Bool
+has_packets_of o = o.has_packets
+
+abbrev pub is_quiet_of : Observer → Bool
+is_quiet_of o = o.hearing.is_quiet
+
 -- it has seen nothing of this member
-pub record HasSeenNothing (m : Membership) (has_packets is_quiet : Bool) (o : Observer) : Type 0 where
+pub record HasSeenNothing (m : Membership) (o : Observer) : Type 0 where
   pub rows : o.rows.items ≡ first_rows m.me m.members
   pub counted : (o.unsent ≡ 0) × (o.dropped ≡ 0) × (o.ignored ≡ 0) × (o.outrun ≡ 0) × (o.large ≡ 0)
   pub round : (o.came ≡ 0) × (o.now ≡ 0) × (o.sampled ≡ 0)
   pub front : (o.front ≡ 0) × (o.since ≡ None) × (o.proposed ≡ None)
-  pub packets : o.has_packets ≡ has_packets
-  pub hearing : o.hearing ≡ unheard m is_quiet
+  pub hearing : o.hearing ≡ unheard m (is_quiet_of o)

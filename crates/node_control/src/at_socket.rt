@@ -1,12 +1,15 @@
 //! A member's run at its socket.
 
-ghost use Rattle.std.specs.Prelude.{◌≡◌, ◌<◌, [], List, None};
+ghost use Rattle.std.specs.Prelude.{◌≡◌, ◌<◌, [], List, None, IfSome, false, map, true};
+ghost use Rattle.pf_scripts.specs.Lines.{spaced};
 ghost use Rattle.px_transport.specs.Wires.{WireEvent};
 ghost use Rattle.px_transport.specs.Wiring.{WentSealed, inner_of, keys_of, sealer_of};
 ghost use Rattle.node_loop.specs.Lives.{HostedRuns, OnFront, Runs};
 ghost use Rattle.node_loop.specs.Timing.{MakesTurns};
+ghost use Rattle.node_udp.specs.Addresses.{shown_address};
 ghost use Rattle.node_udp.specs.Members.{me_of, peers_of, route_of, socket_of};
 ghost use Rattle.node_udp.specs.Sockets.{SocketEvent, WentOver};
+ghost use Rattle.node_control.specs.Observers.{HasSeenNothing, has_packets_of};
 ghost use Rattle.node_control.specs.Sockets.{RunsAtHearing, RunsSealedHearing};
 ghost use Rattle.node_control.specs.inner.Looping.{WentLooped};
 
@@ -42,6 +45,7 @@ where
     RT: Clock + Eprint + Files + Net<Listener = TcpListener, Stream = TcpStream> + RandomSource,
     requires members { R.members records ≡ m.members }
     requires here { m.me < m.members }
+    requires new { HasSeenNothing m observer.old }
     ensures hosted { W.traffic wire [] → WentLooped W.traffic m.me result.2
         (λ es. HostedRuns R.Records m hears_asks records [] es result.0 result.1) }
     ensures turns { place.entry ≡ None → W.traffic wire [] → WentLooped W.traffic m.me result.2
@@ -61,7 +65,8 @@ where
 /// to itself. The wire is given back.
 ///
 /// Where nothing went over the wire before, and the record is honest in the end, what went over the socket are the
-/// datagrams of the member's steps. Where asks from outside aren't heard, no step is for one.
+/// datagrams of the member's steps. Where asks from outside aren't heard, no step is for one. The observer is new, for
+/// datagrams without packets; what clients are shown as the members' addresses are those of the wire.
 pub fn run_at_socket<R: Records, S: Socket, C: Clock, T: Timer, RT>(
     rt: &RT,
     alloc: Global,
@@ -78,6 +83,9 @@ where
     RT: Clock + Eprint + Files + Net<Listener = TcpListener, Stream = TcpStream> + RandomSource,
     requires members { R.members records ≡ m.members }
     requires here { m.me < m.members }
+    requires new { HasSeenNothing m observer.old }
+    requires packets { has_packets_of observer.old ≡ false }
+    requires shown { IfSome place (λ p. p.members.now ≡ spaced (map shown_address (peers_of wire))) }
     ensures ran { WentOver (S.traffic (socket_of wire)) wire [] → R.is_honest result.1 → R.failed records ≡ 0 →
         (events : List SocketEvent) × S.traffic (socket_of result.2) events ×
         RunsAtHearing R.Records m hears_asks (route_of (peers_of wire) (me_of wire)) records result.1 events }
@@ -97,7 +105,7 @@ where
 ///
 /// Where nothing went over the wire before, and the record is honest in the end, what went over the socket are packets
 /// with the datagrams of the member's steps, opened with the wire's keys and sealed as it seals. Where asks from
-/// outside aren't heard, no step is for one.
+/// outside aren't heard, no step is for one. The observer is new, for packets.
 pub fn run_sealed_at_socket<R: Records, S: Socket, C: Clock, D: Clock, T: Timer, RT>(
     rt: &RT,
     alloc: Global,
@@ -114,6 +122,9 @@ where
     RT: Clock + Eprint + Files + Net<Listener = TcpListener, Stream = TcpStream> + RandomSource,
     requires members { R.members records ≡ m.members }
     requires here { m.me < m.members }
+    requires new { HasSeenNothing m observer.old }
+    requires packets { has_packets_of observer.old ≡ true }
+    requires shown { IfSome place (λ p. p.members.now ≡ spaced (map shown_address (peers_of (inner_of wire)))) }
     ensures ran { WentSealed (WentOver (S.traffic (socket_of (inner_of wire))) (inner_of wire)) wire [] →
         R.is_honest result.1 → R.failed records ≡ 0 →
         (events : List SocketEvent) × S.traffic (socket_of (inner_of result.2)) events ×

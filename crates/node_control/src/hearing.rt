@@ -3,7 +3,7 @@
 ghost use Rattle.std.specs.Prelude.{◌≡◌, ◌||◌};
 ghost use Rattle.node_control.specs.Observers.{unheard};
 ghost use Rattle.node_control.specs.inner.Hearing.{after_round, all_heard, count_heard, heard_by, is_within, judged};
-ghost use Rattle.node_control.specs.inner.Hearing.{lacking_since, said_at, says_caught_up, says_end, with_end};
+ghost use Rattle.node_control.specs.inner.Hearing.{said_at, says_caught_up, says_end, with_end, with_lack};
 
 use node_loop::RoundCounts;
 use px_wire::{Head, Membership};
@@ -212,7 +212,7 @@ impl Hearing {
     /// it lacks that is noted.
     fn catches_up(&mut self, is_lacking: bool, now: u64) -> bool
         ensures said { result ≡ says_caught_up is_lacking now self.old.lacking self.old.is_quiet }
-        ensures noted { self.new ≡ record self.old { lacking = lacking_since is_lacking now self.old.lacking } }
+        ensures noted { self.new ≡ with_lack is_lacking now self.old }
     {
         let Some(since) = self.lacking else {
             if is_lacking {
@@ -229,7 +229,7 @@ impl Hearing {
 
     /// Writes that the node has caught up, if it lacked for long what others have.
     pub(crate) fn note_lack<RT: Eprint>(&mut self, rt: &RT, is_lacking: bool, now: u64)
-        ensures { self.new ≡ record self.old { lacking = lacking_since is_lacking now self.old.lacking } }
+        ensures { self.new ≡ with_lack is_lacking now self.old }
     {
         if self.catches_up(is_lacking, now) {
             let _said = eprintln!(rt; "pfx: info: node {} has caught up", self.m.me());

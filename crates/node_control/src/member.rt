@@ -2,10 +2,11 @@
 
 ghost use Rattle.std.specs.Prelude.{◌≡◌, ◌<◌, [], None, Ok, IfErr, option_map, unwrap_or};
 ghost use Rattle.px_model.specs.Step.{front};
-ghost use Rattle.pf_node.specs.Nodes.{learned_by, applied_of};
+ghost use Rattle.pf_node.specs.Nodes.{learned_by, applied_of, membership_of};
 ghost use Rattle.px_transport.specs.Wires.{Moves};
 ghost use Rattle.node_loop.specs.Lives.{HostedRuns, Hosts, OnFront, Runs, Serves};
 ghost use Rattle.node_loop.specs.Timing.{MakesTurns};
+ghost use Rattle.node_control.specs.Observers.{HasSeenNothing};
 ghost use Rattle.node_control.specs.inner.Runs.{IsSocketless, ended_as};
 
 use crate::control::{ControlFault, ControlSocket};
@@ -113,6 +114,7 @@ fn run_node<R: Records, W: Wire, T: Timer, RT: Clock + Eprint>(
     control: &mut Option<ControlSocket>,
     turns: u64,
 ) -> (Ended, Node<R>)
+    requires new { HasSeenNothing (membership_of node) observer.old }
     ensures hosted { Moves (W.traffic wire.old) (W.traffic wire.new)
         (λ es es'. Hosts node result.1 es es' hears_asks result.0) }
     ensures turns { control.old ≡ None →
@@ -157,6 +159,7 @@ fn run_at<R: Records, W: Wire, T: Timer, RT>(
 ) -> (Ended, Node<R>)
 where
     RT: Clock + Eprint + Files + Net<Listener = TcpListener, Stream = TcpStream> + RandomSource,
+    requires new { HasSeenNothing (membership_of node) observer.old }
     ensures hosted { Moves (W.traffic wire.old) (W.traffic wire.new)
         (λ es es'. Hosts node result.1 es es' hears_asks result.0) }
     ensures turns { place.entry ≡ None →
@@ -192,7 +195,7 @@ where
 /// ends after the given number of turns, where each datagram counts for one, and so do each tick and each wait, of a
 /// tenth of a second at most; with the first fault of the node's calls; or once an operator asked for that and has the
 /// answer, which is `Stopped`. Before it ends, what waits to be proposed is worked off ([`node_loop::finish`]). When
-/// the clock ticks the timer says, which is asked in each round.
+/// the clock ticks the timer says, which is asked in each round. The observer is new ([`Observer::new`]).
 pub fn run_member<R: Records, W: Wire, T: Timer, RT>(
     rt: &RT,
     alloc: Global,
@@ -209,6 +212,7 @@ where
     RT: Clock + Eprint + Files + Net<Listener = TcpListener, Stream = TcpStream> + RandomSource,
     requires members { R.members records ≡ m.members }
     requires here { m.me < m.members }
+    requires new { HasSeenNothing m observer.old }
     ensures hosted { Moves (W.traffic wire.old) (W.traffic wire.new)
         (λ es es'. HostedRuns R.Records m hears_asks records es es' result.0 result.1) }
     ensures turns { place.entry ≡ None → Moves (W.traffic wire.old) (W.traffic wire.new)

@@ -1,11 +1,11 @@
 //! What is seen of a node as it runs.
 
 ghost use Rattle.std.specs.Prelude.{◌≡◌, ◌==◌, ◌||◌, not, if◌then◌else◌, map, length, IfOk, string_bytes};
-ghost use Rattle.node_control.specs.Observers.{HasSeenNothing, first_rows};
+ghost use Rattle.node_control.specs.Observers.{HasSeenNothing, first_rows, has_packets_of, is_quiet_of};
 ghost use Rattle.node_control.specs.inner.Watching.{proposed_by, proposed_after, proposed_then};
 ghost use Rattle.node_control.specs.inner.Watching.{is_proposed, stood_since, seconds_since};
 ghost use Rattle.node_control.specs.inner.Observing.{IsShown, begun, counted, in_all, is_nack, noted, seen_of};
-ghost use Rattle.node_control.specs.inner.Observing.{stood_at};
+ghost use Rattle.node_control.specs.inner.Observing.{listened, stood_at};
 ghost use Rattle.node_control.specs.inner.Rows.{is_due, sampled, reported, sent_more, heard_from, rows_after};
 
 use crate::hearing::Hearing;
@@ -256,7 +256,9 @@ impl Observer {
         has_packets: bool,
         is_quiet: bool,
     ) -> Result<Observer, AllocError>
-        ensures { IfOk result (HasSeenNothing m has_packets is_quiet) }
+        ensures new { IfOk result (HasSeenNothing m) }
+        ensures packets { IfOk result (λ o. has_packets_of o ≡ has_packets) }
+        ensures quiet { IfOk result (λ o. is_quiet_of o ≡ is_quiet) }
     {
         let rows = first_rows(alloc, m)?;
         Ok(Observer {
@@ -460,7 +462,7 @@ impl Observer {
         counts: &RoundCounts,
         is_lacking: bool,
     )
-        ensures { seen_of self.new ≡ seen_of self.old }
+        ensures { seen_of self.new ≡ listened is_lacking heads.now counts.now (seen_of self.old) }
     {
         self.hearing.look(rt, heads, counts, self.now);
         self.hearing.note_lack(rt, is_lacking, self.now);

@@ -14,7 +14,7 @@ ghost use Rattle.node_loop.specs.declared.running.Progress.{Progress};
 ghost use Rattle.node_requests.specs.declared.counters.Counters.{Counters};
 ghost use Rattle.node_control.specs.inner.Ending.{is_ending};
 ghost use Rattle.node_control.specs.inner.Handling.{IsKept};
-ghost use Rattle.node_control.specs.inner.Observing.{AreKept, IsShown, begun, counted, seen_of};
+ghost use Rattle.node_control.specs.inner.Observing.{AreKept, IsShown, begun, counted, listened, seen_of};
 ghost use Rattle.node_control.specs.inner.Runs.{AsksAfterTurns, Finishes, MakesRounds};
 
 use crate::control::ControlSocket;
@@ -81,9 +81,10 @@ fn pass<R: Records, W: Wire, T: Timer, RT: Clock + Eprint>(
     ensures few { IfOk result (λ turns. turns ≤ 65) }
     ensures looks { OnOk result (LooksTimes 1 (T.timer_events timer.old) (T.timer_events timer.new)) }
     ensures at { OnOk result (LooksAt (now ∷ []) (T.timer_events timer.old) (T.timer_events timer.new)) }
-    ensures seen { OnOk result (seen_of observer.new ≡ counted (heads_in room.new) (counts_in room.new)
+    ensures seen { OnOk result (seen_of observer.new ≡ listened (T.listens timer.new now) (heads_in room.new)
+        (counts_in room.new) (counted (heads_in room.new) (counts_in room.new)
         (begun now (front (learned_by service.old.handler.node))
-        (nat_lt 0 (length (state_in service.old.handler.node).volatile.waiting)) (seen_of observer.old))) }
+        (nat_lt 0 (length (state_in service.old.handler.node).volatile.waiting)) (seen_of observer.old)))) }
     ensures shown { IfOk result (λ turns. (made : Progress) × (made.turns ≡ turns) × (counters : Counters)
         × IsShown (seen_of observer.new) made service.old.counters counters × AreKept counters service.new.counters) }
     ensures listening { OnOk result (service.new.is_listening ≡ T.listens timer.new now) }

@@ -3,8 +3,7 @@
 ghost use Rattle.std.specs.Prelude.{◌≡◌, if◌then◌else◌};
 ghost use Rattle.node_loop.specs.Counts.{nothing_of, one_in, one_more, one_out};
 
-/// The most members.
-const MEMBERS: usize = 15;
+use crate::packet::MEMBERS;
 
 /// What went over the wire in a round, for whoever counts it. What is sent again isn't among it.
 #[derive(Clone, Copy, PartialEq, Eq)]
@@ -20,7 +19,7 @@ pub struct RoundCounts {
     /// How many datagrams were not sent.
     pub unsent: u32,
     /// How many were handed to the wire for each member.
-    pub sent: [u32; 15],
+    pub sent: [u32; MEMBERS],
     /// The most bytes of one for another member.
     pub longest: usize,
 }
@@ -47,7 +46,7 @@ impl RoundCounts {
             dropped: 0,
             answered: 0,
             unsent: 0,
-            sent: [0; 15],
+            sent: [0; MEMBERS],
             longest: 0,
         }
     }

@@ -6,7 +6,7 @@ ghost use Rattle.px_transport.specs.Wires.{Adds, Moves, WireEvent};
 ghost use Rattle.node_loop.specs.Again.{HandsAgain};
 ghost use Rattle.node_loop.specs.Resends.{kept_of, requests_of};
 ghost use Rattle.pf_node.specs.Nodes.{applied_of, replica_of, state_in};
-ghost use Rattle.node_loop.specs.Counting.{CountsRound, CountsSent};
+ghost use Rattle.node_loop.specs.Counting.{CountsRound, CountsTickedIf};
 ghost use Rattle.node_loop.specs.Counts.{nothing_of};
 ghost use Rattle.node_loop.specs.Progress.{counts_in, looked, seen_in};
 ghost use Rattle.node_loop.specs.Timing.{IsShort, LooksTimes, SawThenLooked, WorksOff, looks, view_of};
@@ -72,8 +72,9 @@ fn tick_if<R: Records, W: Wire>(
         TickedIf is_due (standing node.old es room.old) (standing node.new es' room.new))) }
     ensures few { IfOk result (λ made. made.turns ≤ handled + 1) }
     ensures unseen { seen_in room.new ≡ seen_in room.old }
-    ensures counts { Moves (W.traffic wire.old) (W.traffic wire.new)
-        (λ es es'. CountsSent es es' (counts_in room.old) (counts_in room.new)) }
+    ensures counts { OnOk result (Moves (W.traffic wire.old) (W.traffic wire.new) (λ es es'. (is_due : Bool) ×
+        CountsTickedIf is_due (standing node.old es room.old) (standing node.new es' room.new)
+        (counts_in room.old) (counts_in room.new))) }
     ensures wait { IsShort action → IfOk result (λ p. p.wait ≤ 100) }
     ensures grows { applied_of node.old ≤ applied_of node.new }
     ensures same { W.identity wire.new ≡ W.identity wire.old }
@@ -216,7 +217,8 @@ pub fn round<R: Records, W: Wire, T: Timer>(
         (standing node.old es room.old) (seen_in room.old) (seen_in room.new) (T.timer_events timer.old)
         (T.timer_events timer.new)) }
     ensures counts { OnOk result (Moves (W.traffic wire.old) (W.traffic wire.new)
-        (λ es es'. CountsRound (counts_in room.old).me es es' (counts_in room.new))) }
+        (λ es es'. CountsRound (counts_in room.old).me (standing node.old es room.old) (standing node.new es' room.new)
+        (counts_in room.new))) }
     ensures few { IfOk result (λ made. made.turns ≤ 65) }
     ensures looks { OnOk result (LooksTimes 1 (T.timer_events timer.old) (T.timer_events timer.new)) }
     ensures at { OnOk result (LooksAt (now ∷ []) (T.timer_events timer.old) (T.timer_events timer.new)) }

@@ -9,13 +9,13 @@ ghost use Rattle.px_wire.specs.Heads.{head_of};
 ghost use Rattle.pf_node.specs.Nodes.{replica_of, applied_of, membership_of};
 ghost use Rattle.px_transport.specs.Wires.{Adds, IsQuiet, Moves, gives};
 ghost use Rattle.node_loop.specs.Again.{AreAmong, HandsAgain};
-ghost use Rattle.node_loop.specs.Counting.{CountsAll, CountsIf, CountsSent};
+ghost use Rattle.node_loop.specs.Counting.{CountsAll, CountsTicked};
 ghost use Rattle.node_loop.specs.Counts.{PassedOver};
 ghost use Rattle.node_loop.specs.Resends.{kept_of, requests_of};
 ghost use Rattle.node_loop.specs.Progress.{IsFrom, counts_in, heads_in, IsNobodys, SawAll, seen_in, shown_by};
 ghost use Rattle.node_loop.specs.Turns.{Acts, Ticked, Served, standing};
 ghost use Rattle.node_loop.specs.Resending.{IsKnown};
-ghost use Rattle.node_loop.specs.inner.Turns.{SawIf};
+ghost use Rattle.node_loop.specs.inner.Turns.{CountsIf, SawIf};
 
 use crate::counts::RoundCounts;
 use crate::peer_progress::PeerProgress;
@@ -68,7 +68,8 @@ pub fn tick_now<R: Records, W: Wire>(
         (λ es es'. Ticked (standing node.old es room.old) (standing node.new es' room.new) (fault_of result)) }
     ensures unseen { seen_in room.new ≡ seen_in room.old }
     ensures counts { Moves (W.traffic wire.old) (W.traffic wire.new)
-        (λ es es'. CountsSent es es' (counts_in room.old) (counts_in room.new)) }
+        (λ es es'. CountsTicked (standing node.old es room.old) (standing node.new es' room.new) (fault_of result)
+        (counts_in room.old) (counts_in room.new)) }
     ensures grows { applied_of node.old ≤ applied_of node.new }
     ensures same { W.identity wire.new ≡ W.identity wire.old }
 {
@@ -171,7 +172,8 @@ fn passes_over<W: Wire>(
     ensures others { result ≡ false → IsQuiet (W.traffic wire.old) (W.traffic wire.new) }
     ensures kept { kept_of resender.new ≡ kept_of resender.old }
     ensures requests { requests_of resender.new ≡ requests_of resender.old }
-    ensures counts { IsTrue result → PassedOver counts.old counts.new }
+    ensures counts { IsTrue result → (g : Group) (me : ℕ) →
+        PassedOver g me hears_asks (requests_of resender.old) bytes.now counts.old counts.new }
     ensures uncounted { result ≡ false → counts.new ≡ counts.old }
     ensures same { W.identity wire.new ≡ W.identity wire.old }
 {
@@ -196,8 +198,8 @@ fn take_one<R: Records, W: Wire>(
         (λ es es'. Served (standing node.old es room.old) (standing node.new es' room.new) (fault_of result)) }
     ensures saw { IfOk result (λ had. Moves (W.traffic wire.old) (W.traffic wire.new) (λ es es'. SawIf had
         (standing node.old es room.old) (standing node.new es' room.new) (seen_in room.old) (seen_in room.new))) }
-    ensures counts { IfOk result (λ had. Moves (W.traffic wire.old) (W.traffic wire.new)
-        (λ es es'. CountsIf had es es' (counts_in room.old) (counts_in room.new))) }
+    ensures counts { IfOk result (λ had. Moves (W.traffic wire.old) (W.traffic wire.new) (λ es es'. CountsIf had
+        (standing node.old es room.old) (standing node.new es' room.new) (counts_in room.old) (counts_in room.new))) }
     ensures grows { applied_of node.old ≤ applied_of node.new }
     ensures same { W.identity wire.new ≡ W.identity wire.old }
 {
@@ -248,8 +250,8 @@ pub(crate) fn drain<R: Records, W: Wire>(
         (λ es es'. Served (standing node.old es room.old) (standing node.new es' room.new) (fault_of result)) }
     ensures saw { IfOk result (λ n. Moves (W.traffic wire.old) (W.traffic wire.new) (λ es es'. SawAll n
         (standing node.old es room.old) (standing node.new es' room.new) (seen_in room.old) (seen_in room.new))) }
-    ensures counts { IfOk result (λ n. Moves (W.traffic wire.old) (W.traffic wire.new)
-        (λ es es'. CountsAll n es es' (counts_in room.old) (counts_in room.new))) }
+    ensures counts { IfOk result (λ n. Moves (W.traffic wire.old) (W.traffic wire.new) (λ es es'. CountsAll n
+        (standing node.old es room.old) (standing node.new es' room.new) (counts_in room.old) (counts_in room.new))) }
     ensures few { IfOk result (λ n. n ≤ most) }
     ensures grows { applied_of node.old ≤ applied_of node.new }
     ensures same { W.identity wire.new ≡ W.identity wire.old }

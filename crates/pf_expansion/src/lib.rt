@@ -1,4 +1,4 @@
-//! What written rules give (pf.conf(5), lists), and why one is refused.
+//! A written rule's lists are expanded: which rules it gives (pf.conf(5), lists), and why one is refused.
 //!
 //! # Organization
 //!

@@ -1,4 +1,5 @@
-//! What the program does with its words and its input.
+//! The subcommands `check`, `test`, `ctl`, `lab` and `explain`: what they write for their words and input, and how they
+//! end.
 //!
 //! # Organization
 //!

@@ -1,4 +1,5 @@
-//! A member of the replicated log in code: proposer, learner, and the acceptor's answers.
+//! A member of the replicated log in code, for each event what it records and sends: proposer, learner, and the
+//! acceptor's answers.
 //!
 //! # Organization
 //!

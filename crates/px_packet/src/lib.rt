@@ -1,4 +1,5 @@
-//! Packets: a header, a body and a tag of the cluster's key; which of them are accepted; datagrams cut into pieces.
+//! What members send one another under a key: packets of a header, a body and a tag; which of them are accepted;
+//! datagrams cut into pieces.
 //!
 //! # Organization
 //!

@@ -15,20 +15,27 @@ const ASK: [u8; 42] = [
 ];
 
 /// How a run of 30 turns ends over this wire.
-fn ended(
-    rt: &HostRuntime,
-    m: Membership,
-    wire: &mut LoopbackWire<MemoryWire>,
-    observer: &mut Observer,
-) -> Option<Ended> {
+fn ended(rt: &HostRuntime, m: Membership, wire: &mut LoopbackWire<MemoryWire>) -> Option<Ended> {
     if m.me() >= m.members() {
         return None;
     }
     let alloc = rt.alloc();
+    let Ok(mut observer) = Observer::new(alloc, m, false, true) else {
+        return None;
+    };
     let mut timer = TickTimer::new(0);
     let records = MemoryRecords::new(alloc, m.members());
     let (ended, records) = run_member(
-        rt, alloc, m, records, wire, &mut timer, observer, true, None, 30,
+        rt,
+        alloc,
+        m,
+        records,
+        wire,
+        &mut timer,
+        &mut observer,
+        true,
+        None,
+        30,
     );
     drop(records);
     Some(ended)
@@ -46,6 +53,5 @@ fn a_run_takes_what_comes(rt: HostRuntime) {
     let m = Membership::new(7, 1, 0).expect(&rt, "a member");
     let below = MemoryWire::new(alloc, coming(alloc, &ASK).expect(&rt, "memory"));
     let mut wire = LoopbackWire::new(alloc, below, 0);
-    let mut observer = Observer::new(alloc, m, false, true).expect(&rt, "memory");
-    assert!(rt; ended(&rt, m, &mut wire, &mut observer) == Some(APPLIED));
+    assert!(rt; ended(&rt, m, &mut wire) == Some(APPLIED));
 }

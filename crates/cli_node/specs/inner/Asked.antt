@@ -1,6 +1,5 @@
 -- A command asked of a node over a wire, and what is shown of it.
-use Rattle.std.specs.Prelude.{◌≡◌, ◌⊎◌, ⊤, ℕ, true, false, List, ◌∷◌, [], ◌++◌, Option, Some, None, IfSome}
-use Rattle.std.specs.Prelude.{bytes_eq, codes}
+use Rattle.std.specs.Prelude.{◌≡◌, ◌⊎◌, ⊤, ℕ, List, ◌∷◌, [], ◌++◌}
 use Rattle.pf_entry.specs.declared.command.Command.{Command}
 use Rattle.px_wire.specs.Message.{group}
 use Rattle.px_wire.specs.declared.membership.Membership.{Membership}
@@ -36,16 +35,3 @@ IsUnasked (RefusedLine code at) = ⊥
 IsUnasked NoAnswer = ⊥
 IsUnasked Sound = ⊥
 IsUnasked Made = ⊥
-
--- ---- the text of a command
-
--- this is all that is to be read of a file
-abbrev pub IsOfFile : {F : Type 0} → (remaining : F → Option (List ℕ)) → (text : List ℕ) → Type 0
-IsOfFile {F} remaining text = (file : F) × IfSome (remaining file) (λ bytes. text ≡ bytes)
-
--- the text that `-f` names: none without it, the input for `-`, else that of a file
-abbrev pub IsText : (is_of_file : (text : List ℕ) → Type 0) → (named : Option (List ℕ)) → (input : Option (List ℕ)) →
-    (text : List ℕ) → Type 0
-IsText is_of_file None input text = text ≡ []
-IsText is_of_file (Some name) input text = (bytes_eq name (codes "-") ≡ true → IfSome input (λ bytes. text ≡ bytes))
-    × (bytes_eq name (codes "-") ≡ false → is_of_file text)

@@ -1,4 +1,4 @@
--- What the words and a file of settings say.
+-- What the arguments and a file of settings give.
 use Rattle.std.specs.Prelude.{◌≡◌, ◌≢◌, ℕ, ◌<◌, ◌^◌, ⊤, Bool, true, false, ◌||◌, List, codes}
 use Rattle.std.specs.Prelude.{Option, Some, None, option_and_then}
 use Rattle.std.specs.Str.Parse.{IsNumeral, digits_value, without_leading_plus}
@@ -66,7 +66,7 @@ AreFigures (Some text) None = ⊥
 AreFigures (Some text) (Some at) =
     IsSocketText text at × MatchIp (socket_ip at) IsLoopbackV4 IsLoopbackV6 × (socket_port at ≢ 0)
 
--- a control socket is where the words name one, and this holds of its figures and of the members that it shows
+-- a control socket is where the arguments name one, and this holds of its figures and of the members that it shows
 abbrev pub IsPlaced : {P A : Type 0} → (path_of : P → List ℕ) → (figures_of : P → A) → (members_of : P → List ℕ) →
     (control : Option (List ℕ)) → (are_figures : A → Type 0) → (are_members : List ℕ → Type 0) → Option P → Type 0
 IsPlaced path_of figures_of members_of control are_figures are_members None = control ≡ None

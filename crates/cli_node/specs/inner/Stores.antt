@@ -27,14 +27,14 @@ abbrev pub has_no_byte : Seen → Bool
 has_no_byte (seen.File size) = size == 0
 has_no_byte (seen.Another size) = size == 0
 has_no_byte seen.Nothing = true
-has_no_byte seen.Unsaid = true
+has_no_byte seen.Unknown = true
 
 -- what is found of a store, by what is seen of its file and of its log of writes
 abbrev pub found_by : (file log : Seen) → Found
 found_by (seen.File size) log = if (size == 0) && has_no_byte log then found.Empty else found.Store
 found_by (seen.Another size) log = found.Other
 found_by seen.Nothing log = found.Nothing
-found_by seen.Unsaid log = found.Other
+found_by seen.Unknown log = found.Other
 
 -- what is found of the store at a path
 abbrev pub IsFoundAt : (is_seen : (path : List ℕ) → Seen → Type 0) → (path : List ℕ) → Found → Type 0

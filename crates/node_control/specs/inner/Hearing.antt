@@ -93,3 +93,11 @@ abbrev pub lacking_since : (lacks : Bool) → (now : ℕ) → (since : Option �
 lacking_since false now since = None
 lacking_since true now None = Some now
 lacking_since true now (Some since) = Some since
+
+-- that is noted
+abbrev pub with_lack : (lacks : Bool) → (now : ℕ) → Hearing → Hearing
+with_lack lacks now h = record h { lacking = lacking_since lacks now h.lacking }
+
+-- what is known after a round in which messages with these heads came, once it lacks what others have or doesn't
+abbrev pub after_look : (lacks : Bool) → (now : ℕ) → List Head → RoundCounts → Hearing → Hearing
+after_look lacks now heads c h = with_lack lacks now (judged now (after_round now heads c h))

@@ -9,16 +9,18 @@ use Rattle.px_wire.specs.declared.kind.Kind.TheVariants as kinds
 use Rattle.node_loop.specs.declared.counts.RoundCounts.{RoundCounts}
 use Rattle.node_loop.specs.declared.running.Progress.{Progress}
 use Rattle.node_requests.specs.declared.counters.Counters.{Counters}
+use Rattle.node_control.specs.declared.hearing.Hearing.{Hearing}
 use Rattle.node_control.specs.declared.observer.Observer.{Observer}
 use Rattle.node_control.specs.declared.observer.Row.{Row}
 use Rattle.node_control.specs.declared.observer.TheConstants.{LARGE}
+use Rattle.node_control.specs.inner.Hearing.{after_look}
 use Rattle.node_control.specs.inner.Rows.{up_to_max, sampled, reported, sent_more, heard_from, is_due}
 use Rattle.node_control.specs.inner.Watching.{is_proposed, proposed_then, stood_since, seconds_since}
 
 -- what was seen by now: the members' rows, what was counted in all, how many datagrams came in the round, the time,
 -- when what members show was kept last, the front and since when it has stood, the proposal of another member, how
--- often
--- a proposal was refused by a higher round, and the most bytes of a datagram that fits no packet, since the front moved
+-- often a proposal was refused by a higher round, and the most bytes of a datagram that fits no packet, since the front
+-- moved; and who is heard
 pub record Seen : Type 0 where
   pub rows : List Row
   pub unsent : ℕ
@@ -33,6 +35,7 @@ pub record Seen : Type 0 where
   pub outrun : ℕ
   pub large : ℕ
   pub has_packets : Bool
+  pub hearing : Hearing
 
 -- the code's
 abbrev pub seen_of : Observer → Seen
@@ -50,6 +53,7 @@ seen_of o = record {
   outrun = o.outrun;
   large = o.large;
   has_packets = o.has_packets;
+  hearing = o.hearing;
 }
 
 -- ---- as a round begins
@@ -131,6 +135,10 @@ sent_in c s = record s { rows = map (sent_more c.sent) s.rows }
 -- messages with these heads were taken, and this went over the wire
 abbrev pub counted : List Head → RoundCounts → Seen → Seen
 counted heads c s = all_noted heads (sent_in c (in_all (length heads) c s))
+
+-- who is heard is noted of them, and whether the node lacks what others have then
+abbrev pub listened : (lacks : Bool) → List Head → RoundCounts → Seen → Seen
+listened lacks heads c s = record s { hearing = after_look lacks s.now heads c s.hearing }
 
 -- ---- what is reported
 

@@ -1,4 +1,6 @@
--- what opened the store says so
+-- what opened the store has it
+use Rattle.std.proofs.Common.{refl}
+use Rattle.cli_show.proofs.Closing.{same_fault}
 use Rattle.px_store.specs.declared.formats.Format.TheVariants.{Three}
 use Rattle.cli_show.proofs.store.adopted.Goals as goal
 
@@ -8,10 +10,16 @@ returns-in-Ok-clause-clean g c = λ honest. c.in-Ok.ensures.clean honest
 pub returns-in-Ok-clause-rows : goal.returns-in-Ok-clause-rows
 returns-in-Ok-clause-rows g c = λ honest began. (c.in-Ok.ensures.rows honest Three began).1
 
-pub returns-in-Err-clause-untaken : goal.returns-in-Err-clause-untaken
-returns-in-Err-clause-untaken g c = λ clean. (
+pub returns-in-Err-clause-refused : goal.returns-in-Err-clause-refused
+returns-in-Err-clause-refused g c = λ clean. (
   c.in-Err.ensures.refused clean,
-  (c.in-Err.fault, (c.closed_of.ensures, λ began verdict. c.in-Err.ensures.judged clean Three began verdict)),
+  record {
+    fault = c.in-Err.fault;
+    numbered = c.closed_of.ensures;
+    judged = c.in-Err.ensures.judged clean;
+    lost = λ none auto. same_fault _ _ _ _ _ (c.in-Err.ensures.lost none auto) refl;
+    unknown = λ other auto. same_fault _ _ _ _ _ (c.in-Err.ensures.unknown other auto) refl;
+  },
 )
 
 pub returns-in-Ok-clause-stop : goal.returns-in-Ok-clause-stop

@@ -5,7 +5,7 @@ use Rattle.sqlite.specs.State.{HasCleanDisk}
 use Rattle.px_store.specs.View.{connection_of}
 use Rattle.cli_show.specs.Owners.{identity_of}
 use Rattle.cli_show.specs.Stores.{LeavesRecord}
-use Rattle.cli_show.proofs.Closing.{closed_unowned, closed_untaken, closed_unopened}
+use Rattle.cli_show.proofs.Closing.{closed_unowned, closed_refused, closed_unopened}
 use Rattle.cli_show.proofs.Reading.{shows_store, leaves_old, leaves_record, leaves_less}
 use Rattle.cli_show.proofs.store.show_store.Goals as goal
 
@@ -20,9 +20,9 @@ returns-in-Err-clause-closed g c = λ clean. closed_unowned c.args.conn c.owner_
 
 pub returns-in-Err-adopted-clause-closed : goal.returns-in-Err-adopted-clause-closed
 returns-in-Err-adopted-clause-closed g c = λ clean.
-    let untaken = c.in-Err-adopted.ensures.untaken clean in
-    closed_untaken c.args.conn c.owner_of.new.conn c.in-Err-adopted.refused.0 (identity_of c.in-Ok.m) c.identity_of.result
-    (c.in-Ok.ensures.owner untaken.0) c.identity_of.ensures untaken.1
+    let refused = c.in-Err-adopted.ensures.refused clean in
+    closed_refused c.args.conn c.owner_of.new.conn c.in-Err-adopted.refused.0 (identity_of c.in-Ok.m) c.identity_of.result
+    (c.in-Ok.ensures.owner refused.0) (c.in-Ok.ensures.stays refused.0) c.identity_of.ensures refused.1
 
 pub returns-in-Err-shown-clause-closed : goal.returns-in-Err-shown-clause-closed
 returns-in-Err-shown-clause-closed g c = λ clean.
@@ -48,7 +48,7 @@ returns-in-Err-clause-left g c = λ clean began. leaves_old (state g.S.Store c.a
 pub returns-in-Err-adopted-clause-left : goal.returns-in-Err-adopted-clause-left
 returns-in-Err-adopted-clause-left g c = λ clean began.
     leaves_record (state g.S.Store c.args.conn) (state g.S.Store c.owner_of.new.conn) (state g.S.Store c.in-Err-adopted.refused.1) c.identity_of.result
-    c.in-Ok.ensures.stays c.in-Ok.ensures.stop (c.in-Err-adopted.ensures.left clean) (c.in-Err-adopted.ensures.untaken clean).0 began
+    c.in-Ok.ensures.stays c.in-Ok.ensures.stop (c.in-Err-adopted.ensures.left clean) (c.in-Err-adopted.ensures.refused clean).0 began
 
 pub returns-in-Err-shown-clause-left : goal.returns-in-Err-shown-clause-left
 returns-in-Err-shown-clause-left g c = λ clean began.

@@ -3,7 +3,7 @@ use Rattle.std.proofs.Common.{None, refl, subst, sym}
 use Rattle.node_loop.specs.Turns.{standing}
 use Rattle.node_loop.proofs.Chains.{served_then}
 use Rattle.node_loop.proofs.Hosting.{hosted_served, hosted_on}
-use Rattle.node_control.proofs.Rounds.{still, served_over}
+use Rattle.node_control.proofs.Rounds.{shown_hearing, still, served_over}
 use Rattle.node_control.specs.inner.Observing.{IsShown}
 use Rattle.node_control.proofs.running.pass.Goals as goal
 
@@ -62,7 +62,8 @@ returns-else-not-serve-clause-shown g c = (
   c.in-Ok.made,
   refl,
   c.tell.new.counters,
-  subst (λ s. IsShown s c.in-Ok.made c.args.service.now.counters c.tell.new.counters) (sym c.hear.ensures) c.tell.ensures.shown,
+  subst (λ s. IsShown s c.in-Ok.made c.args.service.now.counters c.tell.new.counters) (sym c.hear.ensures)
+      (shown_hearing _ _ _ _ _ c.tell.ensures.shown),
   c.serve.ensures.kept.counted,
 )
 
@@ -71,6 +72,7 @@ returns-then-not-serve-clause-shown g c = (
   c.in-Ok.made,
   refl,
   c.tell.new.counters,
-  subst (λ s. IsShown s c.in-Ok.made c.args.service.now.counters c.tell.new.counters) (sym c.hear.ensures) c.tell.ensures.shown,
+  subst (λ s. IsShown s c.in-Ok.made c.args.service.now.counters c.tell.new.counters) (sym c.hear.ensures)
+      (shown_hearing _ _ _ _ _ c.tell.ensures.shown),
   c.serve.ensures.kept.counted,
 )

@@ -112,8 +112,25 @@ returns-clause-at g c =
 
 pub returns-clause-counts : goal.returns-clause-counts
 returns-clause-counts g c =
-    on_ok c.tick_if.result (λ _.
+    on_ok c.tick_if.result (λ counted es t.
+    let r = c.in-Ok.ensures.counts es t in
     let again = c.resend-has_own.ensures.again in
-    round_counts (g.W.Wire.traffic c.args.wire.now) (g.W.Wire.traffic c.drain.new.wire) (g.W.Wire.traffic c.resend-has_own.new.wire)
-    (g.W.Wire.traffic c.tick_if.new.wire) c.in-Ok.handled _ _ _ _ again.0 c.begin.ensures.counts c.in-Ok.ensures.counts again.2
-    c.tick_if.ensures.counts) c.tick_if.ensures.ticked
+    let s = counted _ (again.2 r.0 r.1) in (
+      s.0,
+      s.1,
+      round_counts c.in-Ok.handled s.2.0 _ _ _ _ _ _ _ _ _ c.begin.ensures.counts (record {
+        replica = refl;
+        traffic = refl;
+        kept = c.begin.ensures.kept;
+        requests = c.begin.ensures.requests;
+        hears = c.begin.ensures.hears;
+      }) r.2 (record {
+        replica = refl;
+        again = again.0;
+        among = again.1;
+        went = refl;
+        kept = c.resend-has_own.ensures.kept;
+        requests = c.resend-has_own.ensures.requests;
+        hears = refl;
+      }) s.2.1,
+    )) c.tick_if.ensures.counts

@@ -2,7 +2,6 @@
 use Rattle.std.proofs.Common.{refl, true, false}
 use Rattle.node_loop.specs.Turns.{standing}
 use Rattle.node_loop.proofs.Chains.{served_none, same_all, turned_by_clock}
-use Rattle.node_loop.proofs.Counting.{none_sent}
 use Rattle.node_loop.proofs.Given.{over_turn}
 use Rattle.node_loop.proofs.running.tick_if.Goals as goal
 
@@ -34,7 +33,10 @@ pub returns-else-handled-eq0-clause-ticked : goal.returns-else-handled-eq0-claus
 returns-else-handled-eq0-clause-ticked g c es t = (es, t, (false, same_all _))
 
 pub returns-then-not-has_own-clause-counts : goal.returns-then-not-has_own-clause-counts
-returns-then-not-has_own-clause-counts g c = none_sent (g.W.Wire.traffic c.args.wire.now) _
+returns-then-not-has_own-clause-counts g c es t = (es, t, (false, (same_all _, refl)))
 
 pub returns-else-handled-eq0-clause-counts : goal.returns-else-handled-eq0-clause-counts
-returns-else-handled-eq0-clause-counts g c = none_sent (g.W.Wire.traffic c.args.wire.now) _
+returns-else-handled-eq0-clause-counts g c es t = (es, t, (false, (same_all _, refl)))
+
+pub returns-in-Ok-clause-counts : goal.returns-in-Ok-clause-counts
+returns-in-Ok-clause-counts g c es t = let r = c.in-Ok.ensures.counts es t in (r.0, r.1, (true, r.2))

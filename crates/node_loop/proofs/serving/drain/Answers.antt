@@ -2,7 +2,7 @@
 use Rattle.std.proofs.Common.{◌∙◌, arith, refl}
 use Rattle.node_loop.specs.Turns.{standing}
 use Rattle.node_loop.proofs.Chains.{served_none, same_all, saw_more, saw_no_more}
-use Rattle.node_loop.proofs.Counting.{all_more, all_no_more}
+use Rattle.node_loop.proofs.Counting.{counts_more, counts_no_more}
 use Rattle.node_loop.proofs.Given.{over_then}
 use Rattle.node_loop.proofs.serving.drain.Goals as goal
 
@@ -10,7 +10,7 @@ pub loop-handled-init : goal.loop-handled-init
 loop-handled-init g c = record {
   served = λ es t. (es, t, served_none _ _ (same_all _));
   saw = λ es t. (es, t, (same_all _, refl));
-  counts = λ es t. (es, t, (refl, refl));
+  counts = λ es t. (es, t, (same_all _, refl));
   grows = omega arith;
   same = refl;
 }
@@ -24,8 +24,10 @@ loop-handled-preserved g c = record {
       let r = c.loop-handled.invariant.saw es t in
       let s = c.in-Ok.ensures.saw r.0 r.1 in
       (s.0, s.1, saw_more c.loop-handled.handled _ _ _ _ _ _ _ c.in-Ok.had c.if-not-had.false (omega arith) r.2 s.2);
-  counts = all_more (g.W.Wire.traffic c.args.wire.now) (g.W.Wire.traffic c.loop-handled.wire) (g.W.Wire.traffic c.take_one.new.wire)
-      c.loop-handled.handled _ _ _ _ c.in-Ok.had c.if-not-had.false (omega arith) c.loop-handled.invariant.counts c.in-Ok.ensures.counts;
+  counts = λ es t.
+      let r = c.loop-handled.invariant.counts es t in
+      let s = c.in-Ok.ensures.counts r.0 r.1 in
+      (s.0, s.1, counts_more c.loop-handled.handled _ _ _ _ _ _ _ c.in-Ok.had c.if-not-had.false (omega arith) r.2 s.2);
   grows = omega (arith, c.loop-handled.invariant.grows, c.take_one.ensures.grows);
   same = c.take_one.ensures.same ∙ c.loop-handled.invariant.same;
 }
@@ -49,6 +51,7 @@ returns-in-Err-clause-served g c =
     (λ es. standing c.take_one.new.node es c.take_one.new.room) _ c.loop-handled.invariant.served c.in-Err.ensures.served
 
 pub returns-then-not-had-clause-counts : goal.returns-then-not-had-clause-counts
-returns-then-not-had-clause-counts g c =
-    all_no_more (g.W.Wire.traffic c.args.wire.now) (g.W.Wire.traffic c.loop-handled.wire) (g.W.Wire.traffic c.take_one.new.wire)
-    c.loop-handled.handled _ _ _ c.in-Ok.had c.if-not-had.true c.loop-handled.invariant.counts c.in-Ok.ensures.counts
+returns-then-not-had-clause-counts g c es t =
+    let r = c.loop-handled.invariant.counts es t in
+    let s = c.in-Ok.ensures.counts r.0 r.1 in
+    (s.0, s.1, counts_no_more c.loop-handled.handled _ _ _ _ _ _ c.in-Ok.had c.if-not-had.true r.2 s.2)

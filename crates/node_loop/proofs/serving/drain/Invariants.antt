@@ -14,7 +14,8 @@ invariant-loop-handled g l = record {
   saw : Moves (g.W.Wire.traffic l.fn.wire) (g.W.Wire.traffic l.wire) (λ es es'. SawAll l.handled
       (standing l.fn.node es l.fn.room) (standing l.node es' l.room) (seen_in l.fn.room) (seen_in l.room));
   counts : Moves (g.W.Wire.traffic l.fn.wire) (g.W.Wire.traffic l.wire)
-      (λ es es'. CountsAll l.handled es es' (counts_in l.fn.room) (counts_in l.room));
+      (λ es es'. CountsAll l.handled (standing l.fn.node es l.fn.room) (standing l.node es' l.room)
+      (counts_in l.fn.room) (counts_in l.room));
   grows : applied_of l.fn.node ≤ applied_of l.node;
   same : g.W.Wire.identity l.wire ≡ g.W.Wire.identity l.fn.wire;
 }

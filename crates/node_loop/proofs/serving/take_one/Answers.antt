@@ -2,12 +2,14 @@
 use Rattle.std.proofs.Common.{◌≡◌, ◌∙◌, [], ◌∷◌, refl, ap, subst, inl, inr, Some, None, option_map, true, false}
 use Rattle.px_transport.specs.Wires.{Gave, hands}
 use Rattle.px_transport.proofs.Traffic.{adds_then, quiet_adds, quiet_by, moves_by, moves_still}
-use Rattle.node_loop.specs.Counting.{CountsIf}
+use Rattle.px_replica.specs.Replicas.{membership_of}
+use Rattle.px_wire.specs.Message.{group}
+use Rattle.pf_node.specs.Nodes.{replica_of}
 use Rattle.node_loop.specs.Counts.{PassedOver, all_out, but_unsent}
 use Rattle.node_loop.specs.Progress.{seen_in}
 use Rattle.node_loop.specs.Resends.{kept_of, requests_of}
 use Rattle.node_loop.specs.Turns.{HeardTurn, Served, handed_over, standing}
-use Rattle.node_loop.specs.inner.Turns.{SawIf}
+use Rattle.node_loop.specs.inner.Turns.{CountsIf, SawIf}
 use Rattle.node_loop.proofs.Counting.{out_on}
 use Rattle.node_loop.proofs.Given.{gave_some, handed_on, kept_on, requests_on, over_turn}
 use Rattle.node_loop.proofs.Chains.{served_none, served_between, between_passed, nobodys_still}
@@ -182,14 +184,7 @@ returns-in-Err-clause-served g c =
     )))
 
 pub returns-in_default-clause-counts : goal.returns-in_default-clause-counts
-returns-in_default-clause-counts g c =
-    let old = g.W.Wire.traffic c.args.wire.now in
-    let new = g.W.Wire.traffic c.poll-len.new.wire in
-    moves_still old new (λ es es'. CountsIf false es es' c.args.room.now.counts c.args.room.now.counts)
-    (quiet_by old new
-    (gave_some old new c.poll-len.new.bytes.items c.deref.result.now c.poll-len.result (option_map (λ b. b.now) c.came.result) None
-    c.poll-len.ensures.gave c.came.ensures c.deref.ensures.value (ap (option_map (λ b. b.now)) c.in_default.is)))
-    (λ es. (refl, refl))
+returns-in_default-clause-counts g c es t = let r = returns-in_default-clause-saw g c es t in (r.0, r.1, (r.2.0, refl))
 
 pub returns-then-passes_over-clause-counts : goal.returns-then-passes_over-clause-counts
 returns-then-passes_over-clause-counts g c =
@@ -198,16 +193,28 @@ returns-then-passes_over-clause-counts g c =
     let new = g.W.Wire.traffic c.passes_over.new.wire in
     let again = c.passes_over.ensures.again in
     moves_by old new (Gave c.in-Some.bytes.now ∷ hands again.0)
-    (λ es es'. CountsIf true es es' c.args.room.now.counts c.passes_over.new.counts)
+    (λ es es'. CountsIf true (standing c.args.node.now es c.args.room.now)
+    (record (standing c.args.node.now es' c.args.room.now) { kept = kept_of c.passes_over.new.resender; requests = requests_of c.passes_over.new.resender })
+    c.args.room.now.counts c.passes_over.new.counts)
     (adds_then old mid new (Gave c.in-Some.bytes.now ∷ []) (hands again.0)
     (gave_some old mid c.poll-len.new.bytes.items c.deref.result.now c.poll-len.result (option_map (λ b. b.now) c.came.result)
     (Some c.in-Some.bytes.now) c.poll-len.ensures.gave c.came.ensures c.deref.ensures.value (ap (option_map (λ b. b.now)) c.in-Some.is))
     again.2)
     (λ es. inr (record {
-      bytes = c.in-Some.bytes.now;
-      again = again.0;
-      went = refl;
-      counts = subst (λ x. PassedOver x c.passes_over.new.counts) c.count_in.ensures (c.passes_over.ensures.counts c.if-passes_over.true);
+      passed = record {
+        replica = refl;
+        bytes = c.in-Some.bytes.now;
+        known = c.passes_over.ensures.known c.if-passes_over.true _ _;
+        again = again.0;
+        among = again.1;
+        went = refl;
+        kept = c.passes_over.ensures.kept;
+        requests = c.passes_over.ensures.requests;
+        hears = refl;
+      };
+      counts = subst (λ x. PassedOver (group (membership_of (replica_of c.args.node.now))) (membership_of (replica_of c.args.node.now)).me
+          c.args.room.now.hears_asks (requests_of c.args.room.now.resender) c.in-Some.bytes.now x c.passes_over.new.counts)
+          c.count_in.ensures (c.passes_over.ensures.counts c.if-passes_over.true _ _);
     }))
 
 pub returns-in-Ok-clause-counts : goal.returns-in-Ok-clause-counts
@@ -217,16 +224,25 @@ returns-in-Ok-clause-counts g c =
     let wait = g.W.Wire.traffic c.passes_over.new.wire in
     let new = g.W.Wire.traffic c.send_all.new.wire in
     moves_by old new (Gave c.in-Some.bytes.now ∷ hands (handed_over c.receive-result.new.out.items))
-    (λ es es'. CountsIf true es es' c.args.room.now.counts c.send_all.new.counts)
+    (λ es es'. CountsIf true (standing c.args.node.now es c.args.room.now)
+    (record (standing c.receive-result.new.node es' c.args.room.now) { kept = kept_of c.send_all.new.resender; requests = requests_of c.send_all.new.resender })
+    c.args.room.now.counts c.send_all.new.counts)
     (adds_then old mid new (Gave c.in-Some.bytes.now ∷ []) (hands (handed_over c.receive-result.new.out.items))
     (gave_some old mid c.poll-len.new.bytes.items c.deref.result.now c.poll-len.result (option_map (λ b. b.now) c.came.result)
     (Some c.in-Some.bytes.now) c.poll-len.ensures.gave c.came.ensures c.deref.ensures.value (ap (option_map (λ b. b.now)) c.in-Some.is))
     (quiet_adds mid wait new (hands (handed_over c.receive-result.new.out.items)) (c.passes_over.ensures.others c.if-passes_over.false)
     (handed_on wait new c.receive-result.new.out.items c.as_slice.result.now c.as_slice.ensures.value c.send_all.ensures.handed)))
     (λ es. inl (record {
-      bytes = c.in-Some.bytes.now;
-      out = c.receive-result.new.out.items;
-      went = refl;
+      took = record {
+        bytes = c.in-Some.bytes.now;
+        out = c.receive-result.new.out.items;
+        acts = c.in-Ok.ensures.acts;
+        went = refl;
+        kept = kept_on _ _ _ c.receive-result.new.out.items c.as_slice.result.now (c.in-Ok.ensures.kept ∙ c.passes_over.ensures.kept)
+            c.as_slice.ensures.value c.send_all.ensures.kept;
+        requests = requests_on _ _ _ _ c.in-Some.bytes.now c.passes_over.ensures.requests c.send_all.ensures.requests c.in-Ok.ensures.requests;
+        hears = refl;
+      };
       counts = subst (λ x. but_unsent c.send_all.new.counts ≡ all_out c.receive-result.new.out.items (but_unsent x))
           (c.passes_over.ensures.uncounted c.if-passes_over.false ∙ c.count_in.ensures)
           (out_on c.receive-result.new.out.items c.as_slice.result.now c.passes_over.new.counts c.send_all.new.counts c.as_slice.ensures.value c.send_all.ensures.counts);

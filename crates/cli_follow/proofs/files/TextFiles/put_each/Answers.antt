@@ -1,13 +1,20 @@
-use Rattle.std.proofs.Common.{ℕ, List, sym, subst}
+use Rattle.std.proofs.Common.{ℕ, List, refl, subst}
+use Rattle.std.specs.Prelude.{string_bytes}
 use Rattle.cli_follow.specs.declared.files.TextFile.{TextFile}
-use Rattle.cli_follow.specs.inner.Files.{AreWritten, IsWritten}
-use Rattle.cli_follow.proofs.Kept.{written_with}
+use Rattle.cli_follow.specs.inner.Files.{IsPut, file_value}
+use Rattle.cli_follow.proofs.Kept.{written_after, one_more}
 use Rattle.cli_follow.proofs.files.TextFiles.put_each.Goals as goal
 
 pub loop-file-preserved : goal.loop-file-preserved
-loop-file-preserved g c = λ before.
-    let contents = g.F.File.Write.contents in
-    let file : TextFile = record { name = c.in-Some.file.name; text = c.in-Some.file.text; is_put = c.in_ok-is_put.is_put } in
-    let all = written_with contents c.loop-file.put.items file (c.loop-file.invariant before)
-    (λ put. subst (λ (b : List ℕ). IsWritten contents b) c.as_str-in-loop-file.ensures.value (c.in_ok-is_put.ensures before put)) in
-    subst (λ (fs : List TextFile). AreWritten contents fs) (sym c.in_ok-push.ensures.items) all
+loop-file-preserved g c = record {
+  written = λ before.
+      let put = IsPut (g.F.Folders.is_written c.args.rt.now) (g.F.Folders.is_renamed c.args.rt.now)
+      (string_bytes c.args.self.now.folder) in
+      let file : TextFile = record { name = c.in-Some.file.name; text = c.in-Some.file.text; is_put = c.in_ok-is_put.is_put } in
+      written_after put c.loop-file.put.items c.push.new.self.items file (c.loop-file.invariant.written before)
+      (λ is_put. subst (λ (b : List ℕ). put (string_bytes c.in-Some.file.name) b) c.as_str-in-loop-file.ensures.value
+      (subst (λ (b : List ℕ). put b c.as_str-in-loop-file.result.now) c.as_str.ensures.value (c.in_ok-is_put.ensures before is_put)))
+      c.in_ok-push.ensures.items;
+  files = one_more file_value c.loop-file.put.items c.push.new.self.items _ c.in-Some.file _ _ _ c.loop-file.invariant.files
+      c.in_ok-push.ensures.items c.in-Some.ensures.steps.0 refl;
+}

@@ -1,6 +1,7 @@
 use Rattle.std.proofs.Common.{◌≡◌, ◌∙◌, true, sym, rules}
 use Rattle.std.specs.List.{list_any}
-use Rattle.cli_follow.specs.inner.Files.{is_there}
+use Rattle.std.specs.Prelude.{string_bytes}
+use Rattle.cli_follow.specs.inner.Files.{is_there, IsPut}
 use Rattle.cli_follow.proofs.Kept.{there_written}
 use Rattle.cli_follow.proofs.files.TextFiles.stands.Goals as goal
 
@@ -9,4 +10,6 @@ returns-then-is_written g c = λ written put.
     let is : c.is_written.result ≡ true = search rules in
     let any : c.is_written.result ≡ list_any (is_there c.args.name.now c.args.text.now) c.args.self.now.written.items =
     rw c.as_slice.ensures.value at c.is_written.ensures in
-    there_written g.F.File.Write.contents c.args.name.now c.args.text.now c.args.self.now.written.items written (sym any ∙ is)
+    let in_place = IsPut (g.F.Folders.is_written c.args.rt.now) (g.F.Folders.is_renamed c.args.rt.now)
+    (string_bytes c.args.self.now.folder) in
+    there_written in_place c.args.name.now c.args.text.now c.args.self.now.written.items written (sym any ∙ is)

@@ -1,0 +1,46 @@
+//! The text that an option names.
+
+ghost use Rattle.std.specs.Prelude.{ℕ, List, IfOk};
+ghost use Rattle.cli_io.specs.Sources.{IsOfFile, IsText};
+
+use crate::input::{InputFault, read_all};
+use std::alloc::Global;
+use std::fs::{self, Files};
+use std::io::Read;
+
+/// Where the sources are that options name by their paths.
+pub trait Sources {
+    // this text is at this path
+    ghost has: { Self → (path text : List ℕ) → Type 0 };
+
+    /// The text at a path. `Failed` where it can't be opened too.
+    fn source_at(&self, alloc: Global, path: &str) -> Result<Vec<u8>, InputFault>
+        ensures { IfOk result (λ text. has self.now path.now text.items) };
+}
+
+impl<F: Files> Sources for F {
+    // some file has it; no contract ties a file to its path
+    ghost has = { λ _ _ text. IsOfFile F.File.remaining text };
+
+    fn source_at(&self, alloc: Global, path: &str) -> Result<Vec<u8>, InputFault> {
+        let Ok(mut file) = fs::open(self, path) else {
+            return Err(InputFault::Failed);
+        };
+        read_all(alloc, &mut file)
+    }
+}
+
+/// The text that a name stands for: of the input for `-`, else the one at that path.
+pub fn source_named<T: Sources, R: Read>(
+    sources: &T,
+    alloc: Global,
+    name: &str,
+    reader: &mut R,
+) -> Result<Vec<u8>, InputFault>
+    ensures { IfOk result (λ text. IsText (T.has sources.now) (R.remaining reader.old) name.now text.items) }
+{
+    if name == "-" {
+        return read_all(alloc, reader);
+    }
+    sources.source_at(alloc, name)
+}

@@ -1,0 +1,17 @@
+-- the members that the arguments name, else those of the file
+use Rattle.std.proofs.Common.{List, ℕ, inr, map}
+use Rattle.cli_node.specs.inner.Settled.{IsSettled}
+use Rattle.cli_node.proofs.Settled.{given_first, none_given}
+use Rattle.cli_node.proofs.settings.outcome_with.Goals as goal
+
+pub returns-in-Some : goal.returns-in-Some
+returns-in-Some g c = inr (given_first (λ s. map (λ v. v.now) s.now)
+    (λ (ms : List (List ℕ)). IsSettled (g.N.Nodes.ran c.args.nodes) (g.N.Nodes.checked c.args.nodes) c.args.matches.now
+    c.args.file.now ms c.outcome_for.result) c.get_strs.result c.in-Some.members _ _ c.in-Some.is c.get_strs.ensures
+    c.outcome_for.ensures)
+
+pub returns-in-Ok : goal.returns-in-Ok
+returns-in-Ok g c = inr (none_given (λ s. map (λ v. v.now) s.now)
+    (λ (ms : List (List ℕ)). IsSettled (g.N.Nodes.ran c.args.nodes) (g.N.Nodes.checked c.args.nodes) c.args.matches.now
+    c.args.file.now ms c.outcome_for-in-Ok.result) c.get_strs.result _ _ c.in-None.is c.get_strs.ensures
+    (rw (c.as_slice.ensures.value, c.in-Ok.ensures) at c.outcome_for-in-Ok.ensures))
