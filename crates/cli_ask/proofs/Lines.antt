@@ -48,7 +48,7 @@ each p f (b ∷ bs) e =
     let a = and_parts (is_graphic b) (list_all is_graphic bs) e in
     and_from (p b) (list_all p bs) (f b a.0) (each p f bs a.1)
 
--- ---- words
+-- ---- arguments
 
 graphic : (w : Word) → is_plain w ≡ true → list_all is_graphic w ≡ true
 graphic [] e = refl

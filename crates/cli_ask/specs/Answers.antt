@@ -1,4 +1,4 @@
--- What a node's answer says of what was asked for.
+-- The node's answers: whether what was asked for was done.
 use Rattle.std.specs.Prelude.{ℕ, ◌==◌, ◌&&◌, Bool, List, [], ◌∷◌, not, nat_lt, take, drop, codes, if◌then◌else◌}
 use Rattle.std.specs.List.{prefix_len, starts_with}
 use Rattle.cli_ask.specs.declared.call.Kind.{Kind}
@@ -8,7 +8,7 @@ use Rattle.cli_ask.specs.declared.call.Kind.TheVariants as kind
 abbrev pub begins : (text front : List ℕ) → Bool
 begins text front = starts_with (λ a b. a == b) text front
 
--- how long the first line is, and the first word
+-- how long the first line is, and the part before the first blank
 abbrev pub line_len : List ℕ → ℕ
 line_len text = prefix_len (λ b. not (b == 10)) text
 
@@ -25,14 +25,14 @@ behind_first (b ∷ bytes) = bytes
 abbrev pub outcome_behind : List ℕ → List ℕ
 outcome_behind body = if begins body (codes "asked ") then behind_first (drop (line_len body) body) else body
 
--- of addresses that were looked up all are in the table, as `3 of 3 match` says: a number, and behind " of " the same
+-- of addresses that were looked up all are in the table, as by `3 of 3 match`: a number, and behind " of " the same
 abbrev pub all_match : List ℕ → Bool
 all_match body =
     let n : ℕ = word_len body in
     begins (drop n body) (codes " of ") && (begins (drop 4 (drop n body)) (take n body)
     && begins (drop n (drop 4 (drop n body))) (codes " "))
 
--- an answer, by HTTP's status and its body, says that what was asked for was done
+-- an answer, by HTTP's status and its body, is that what was asked for was done
 abbrev pub is_done : Kind → (code : ℕ) → (body : List ℕ) → Bool
 is_done kind.Read code body = nat_lt code 300
 is_done kind.List code body = nat_lt code 300

@@ -80,16 +80,16 @@ in_time true (Err f) = Ok waiting
 in_time true (Ok a) = Ok a
 in_time false a = a
 
--- that, unless memory ran out
+-- that, unless out of memory
 abbrev pub OrMemory : Answered → Answered → Type 0
 OrMemory wanted got = (got ≡ wanted) ⊎ (got ≡ Err fault.Memory)
 
--- a request that is made again, since the clock says that time is left
+-- a request that is made again, since time is left by the clock
 abbrev pub asked_again : (limit : ℕ) → Request → Answered → List Event
 asked_again limit r a = Asked limit r a ∷ Looked limit false ∷ []
 
--- How it ends: as it was answered last. Or the clock said that the time is over: then, where it wasn't answered last,
--- as it was before. Or it was made 2^64 times.
+-- How it ends: as it was answered last. Or the time is over by the clock: then, where it wasn't answered last, as it
+-- was before. Or it was made 2^64 times.
 abbrev pub SeriesEnds : Request → (once : Bool) → (limit : ℕ) → (before : List Answered) → (last : Answered) →
     (looks : List Event) → (answer : Answered) → Type 0
 SeriesEnds r once limit before last looks answer =
@@ -98,8 +98,8 @@ SeriesEnds r once limit before last looks answer =
     × OrMemory (in_time (ends_answered before) last) answer))
     ⊎ ((looks ≡ []) × ((answer ≡ last) × (length before ≡ 2 ^ 64 - 1))))
 
--- A request is made, and again while its answer leaves it open and the clock says that time is left; once, it is made a
--- single time.
+-- A request is made, and again while its answer leaves it open and time is left by the clock; once, it is made a single
+-- time.
 pub record IsSeries (r : Request) (once : Bool) (limit : ℕ) (es : List Event) (answer : Answered) : Type 0 where
   pub before : List Answered
   pub last : Answered
@@ -229,8 +229,8 @@ pub record Part : Type 0 where
   pub events : List Event
   pub answer : Answered
 
--- What parts give behind which no other is asked for: the answers as one; or no memory was left; or as many parts were
--- asked for as the packets allow.
+-- What parts give behind which no other is asked for: the answers as one; or it was out of memory; or as many parts
+-- were asked for as the packets allow.
 abbrev pub PartsEnd : Option Answer → (packets : List ℕ) → (allowed : ℕ) → Option Answered → Type 0
 PartsEnd None packets allowed gives = ⊥
 PartsEnd (Some so_far) packets allowed gives = (gives ≡ Some (Err fault.Memory))

@@ -103,7 +103,7 @@ shown_path show =
 abbrev pub list_call : List Row → (at : ℕ) → (path : List ℕ) → Request
 list_call rows at path = get (target_in path rows at) kind.List
 
--- words are sent to a path, each in a line of its own
+-- arguments are sent to a path, each in a line of its own
 abbrev pub lines_call : List Row → (at : ℕ) → (path : List ℕ) → (words : List Text) → Kind → Request
 lines_call rows at path words k = post (target_in path rows at) (lines_of words) k
 

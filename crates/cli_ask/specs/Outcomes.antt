@@ -79,7 +79,7 @@ Replied k (Err fault.Memory) outcome = outcome ≡ Memory
 Replied k (Err fault.NoAnswer) outcome = outcome ≡ refusal 85
 Replied k (Err fault.BadAnswer) outcome = outcome ≡ refusal 86
 
--- the request that the arguments spell with this text; before positions that `--at` says
+-- the request that the arguments spell with this text; it waits for the positions of `--at`
 abbrev pub call_for : List Row → (text : List ℕ) → Option Request
 call_for rows text = call_of rows text (unwrap_or (number_at rows (codes "at")) 0)
 
@@ -135,7 +135,7 @@ abbrev pub has_others : List Row → Bool
 has_others rows = has_option rows || are_there (unwrap_or (all_of (codes "address") rows) [])
     || is_some (number_at rows (codes "at"))
 
--- what a script is refused for before a node is asked, unless `--unchecked` says that it isn't looked at
+-- what a script is refused for before a node is asked, unless `--unchecked` is given
 abbrev pub refusal_in : List Row → (script : List ℕ) → Option checking.Refused
 refusal_in rows script = if is_given (first_of (codes "unchecked") rows) then None
     else script_refusal (unwrap_or (number_at rows (codes "from")) 1) (items_in script)

@@ -59,7 +59,7 @@ abbrev pub is_number : ℕ → Option ℕ → Bool
 is_number n None = false
 is_number n (Some m) = m == n
 
--- the length that the fields say, if they say one
+-- the length that the header fields give, if they give one
 abbrev pub is_length : ℕ → Option (List ℕ) → Bool
 is_length n None = true
 is_length n (Some text) = is_number n (number text)
@@ -92,7 +92,7 @@ answer_of code fields body = record {
   applied = number_in (codes "pfx-applied") fields;
 }
 
--- the bytes are a head, and a body that is as long as the head says (RFC 9112, 6.3)
+-- the bytes are a head, and a body that is as long as its head gives (RFC 9112, 6.3)
 -- Example: with content-length: 3 and the body ab they are none.
 pub record IsAnswer (bytes : List ℕ) (a : Answer) : Type 0 where
   pub head : ResponseHead
@@ -108,7 +108,7 @@ IsAnswerTo {S} is_new contents remaining r a =
     (new : S) × (sent : S) × is_new new × AppendsFront (contents new) (contents sent) (request_bytes r)
     × IfSome (remaining sent) (λ bytes. IsAnswer bytes a)
 
--- they are none: no head, or one of more than 64 fields, or a body that isn't as long as the head says
+-- they are none: no head, or one of more than 64 fields, or a body that isn't as long as its head gives
 abbrev pub IsNoAnswer : List ℕ → Type 0
 IsNoAnswer bytes = (head : ResponseHead) → (body : List ℕ) → ReadsResponse bytes head body →
     length head.fields ≤ FIELDS → has_length (length body) (fields_of head) ≡ false

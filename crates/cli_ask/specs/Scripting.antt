@@ -32,7 +32,7 @@ abbrev pub went_value : Result Went AskFault → Result Printed AskFault
 went_value (Ok went) = Ok (printed went)
 went_value (Err f) = Err f
 
--- it was made where the outcome says ok: then that is printed, else the whole answer
+-- the change was made where the outcome is `ok`: then that is printed, else the whole answer
 abbrev pub went_by_outcome : (outcome body : List ℕ) → Printed
 went_by_outcome outcome body =
     if begins outcome (codes "ok") then record { is_made = true; bytes = outcome }
@@ -42,7 +42,7 @@ abbrev pub went_by : Answered → Result Printed AskFault
 went_by (Ok a) = Ok (went_by_outcome (outcome_behind a.body) a.body)
 went_by (Err f) = Err f
 
--- that, unless memory ran out
+-- that, unless out of memory
 abbrev pub GoesAs : (wanted got : Result Printed AskFault) → Type 0
 GoesAs wanted got = (got ≡ wanted) ⊎ (got ≡ Err fault.Memory)
 
@@ -50,7 +50,7 @@ GoesAs wanted got = (got ≡ wanted) ⊎ (got ≡ Err fault.Memory)
 abbrev pub unsent : Printed
 unsent = record { is_made = false; bytes = codes "refused 40\n" }
 
--- The change is asked, and goes as the answer says; one that can't be sent is refused.
+-- The change is asked, and goes by the answer; one that can't be sent is refused.
 abbrev pub IsMade : Option Request → (seconds : ℕ) → List Event → Result Printed AskFault → Type 0
 IsMade None seconds es went = (es ≡ []) × GoesAs (Ok unsent) went
 IsMade (Some call) seconds es went = ((es ≡ []) × (went ≡ Err fault.Memory))
@@ -62,7 +62,7 @@ Makes given now call seconds went = (es : List Event) × (Adds given now es × I
 
 -- ---- what is written
 
--- memory ran out, and that is written, or a front of it where a write failed
+-- out of memory, and that is written, or a front of it where a write failed
 abbrev pub RanOut : Status → (old new : Option (List ℕ)) → Type 0
 RanOut status.Done old new = ⊥
 RanOut status.Refused old new = ⊥

@@ -13,7 +13,7 @@ use Rattle.cli_ask.specs.declared.script.Left.{Left}
 use Rattle.cli_ask.specs.declared.script.ScriptFault.{ScriptFault}
 use Rattle.cli_ask.specs.declared.script.ScriptFault.TheVariants.{Memory, Line}
 
--- a change: the number of its line, its words, `pfctl` first, and the text behind them
+-- a change: the number of its line, its arguments, `pfctl` first, and the text behind them
 pub record ScriptChange : Type 0 where
   pub line : ℕ
   pub words : List Text
@@ -32,7 +32,7 @@ Behind = Option ScriptChange → List Item
 abbrev pub at_change : ScriptChange → Behind → List Item
 at_change c behind = if takes_text c.words then behind (Some c) else Found c ∷ behind None
 
--- the first word is pfctl
+-- the first argument is pfctl
 abbrev pub is_pfctl : List Text → Bool
 is_pfctl [] = false
 is_pfctl (w ∷ ws) = bytes_eq w (codes "pfctl")
@@ -40,7 +40,7 @@ is_pfctl (w ∷ ws) = bytes_eq w (codes "pfctl")
 abbrev pub at_words : ScriptChange → Behind → List Item
 at_words c behind = if is_pfctl c.words then at_change c behind else Bad c.line ∷ []
 
--- a line with words, or an empty one; one that isn't UTF-8 asks for no change
+-- a line with arguments, or an empty one; one that isn't UTF-8 asks for no change
 abbrev pub at_line : (number : ℕ) → Option (List Text) → Behind → List Item
 at_line number None behind = Bad number ∷ []
 at_line number (Some []) behind = behind None
@@ -72,7 +72,7 @@ items_in script = items_from 1 None (lines script)
 
 -- ---- what a script is refused for before a node is asked
 
--- the refusal of a change's lines, with the line of the script: they begin behind the words
+-- the refusal of a change's lines, with the line of the script: they begin after the line with its arguments
 abbrev pub behind_words : (at : ℕ) → Refused → Refused
 behind_words at r = record { code = r.code; line = min (at + r.line) (2 ^ 64 - 1) }
 
@@ -109,12 +109,12 @@ abbrev pub found : Option ScriptChange → List Item → List Item
 found None items = []
 found (Some c) items = Found c ∷ items
 
--- words were found, before what is behind them, or there are none
+-- arguments were found, and then what follows them, or there are none
 abbrev pub begun_at : Option ScriptChange → Behind → List Item
 begun_at None behind = []
 begun_at (Some c) behind = at_words c behind
 
--- why there is no next change: nothing is said of out of memory
+-- why there is no next change: out of memory isn't specified
 abbrev pub IsBadAt : ScriptFault → List Item → Type 0
 IsBadAt Memory items = Unit {0}
 IsBadAt (Line at) items = items ≡ Bad at ∷ []

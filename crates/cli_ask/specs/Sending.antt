@@ -15,13 +15,13 @@ has_control text = list_any is_control (chars text)
 abbrev pub is_graphic : ℕ → Bool
 is_graphic b = nat_lt 32 b && not (b == 127)
 
--- an argument that is one word of a line: it isn't empty, and has neither blanks nor control characters
+-- an argument that is one argument of a line: it isn't empty, and has neither blanks nor control characters
 -- Example: -t a b has none.
 abbrev pub is_plain : List ℕ → Bool
 is_plain [] = false
 is_plain (b ∷ bytes) = list_all is_graphic (b ∷ bytes) && not (has_control (b ∷ bytes))
 
--- the line of a change: its arguments with a blank between them, none where one isn't one word of a line
+-- the line of a change: its arguments with a blank between them, none where one of them can't be one argument of a line
 abbrev pub change_line : List (List ℕ) → Option (List ℕ)
 change_line args = if list_all is_plain args then Some (spaced args) else None
 
@@ -29,7 +29,7 @@ change_line args = if list_all is_plain args then Some (spaced args) else None
 abbrev pub change_body : (args : List (List ℕ)) → (text : List ℕ) → Option (List ℕ)
 change_body args text = option_map (λ line. line ++ 10 ∷ text) (change_line args)
 
--- each word in a line of its own
+-- each argument in a line of its own
 abbrev pub lines_of : List (List ℕ) → List ℕ
 lines_of [] = []
 lines_of (w ∷ ws) = w ++ 10 ∷ lines_of ws

@@ -1,4 +1,4 @@
--- What is printed for people beside an answer.
+-- The messages beside an answer.
 use Rattle.std.specs.Prelude.{ℕ, ◌-◌, List, [], ◌++◌, Option, Some, None, codes, decimal, nat_lt, if◌then◌else◌}
 use Rattle.cli_ask.specs.declared.telling.TheConstants.{NEAR_THE_END}
 use Rattle.cli_ask.specs.declared.words.TheConstants.{POSITIONS}

@@ -1,4 +1,4 @@
-//! What a node's answer says of what was asked for.
+//! The node's answers: whether what was asked for was done.
 
 ghost use Rattle.std.specs.Prelude.{◌≡◌, ◌≤◌, length};
 ghost use Rattle.cli_ask.specs.Answers.{all_match, behind_first, is_done, line_len, outcome_behind, word_len};
@@ -14,7 +14,7 @@ pub(crate) fn line_len(text: &[u8]) -> usize
     text.iter().take_while(|b| **b != b'\n').count()
 }
 
-/// How long the first word is.
+/// How long the part before the first blank is.
 #[tactic(auto, using(crate::proofs::Fronts::word_len_le))]
 fn word_len(text: &[u8]) -> usize
     ensures value { result ≡ word_len text.now }
@@ -44,7 +44,7 @@ pub(crate) fn outcome_behind(body: &[u8]) -> &[u8]
     behind_first(rest)
 }
 
-/// Whether all addresses that were looked up are in the table, as `3 of 3 match` says.
+/// Whether all addresses that were looked up are in the table, as by `3 of 3 match`.
 fn all_match(body: &[u8]) -> bool
     ensures { result ≡ all_match body.now }
 {
@@ -60,7 +60,7 @@ fn all_match(body: &[u8]) -> bool
     rest.starts_with(b" ")
 }
 
-/// Whether an answer, by HTTP's status and its body, says that what was asked for was done.
+/// Whether an answer, by HTTP's status and its body, is that what was asked for was done.
 pub(crate) fn is_done(kind: Kind, code: u16, body: &[u8]) -> bool
     ensures { result ≡ is_done kind code body.now }
 {

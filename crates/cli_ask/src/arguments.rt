@@ -54,7 +54,7 @@ fn push_given<'m>(
     }
 }
 
-/// Adds what stands for a file whose text is sent, if there is one.
+/// Adds `-f -` for a file whose text is sent, if there is one.
 fn push_text(args: &mut Vec<&str>, file: Option<&str>) -> Result<(), AllocError>
     ensures { OnOk result (map (λ a. a.now) args.new.items
         ≡ map (λ a. a.now) args.old.items ++ text_args (option_map (λ f. f.now) file.entry)) }
@@ -117,7 +117,7 @@ fn list_call(
     Ok(Call::get(alloc, target, Kind::List))
 }
 
-/// What posts words to a path, each in a line of its own.
+/// The request that posts arguments to a path, each in a line of its own.
 fn lines_call(
     alloc: Global,
     path: &str,
@@ -194,7 +194,7 @@ fn read(alloc: Global, target: String) -> Option<Call>
     Some(Call::get(alloc, target, Kind::Read))
 }
 
-/// What a subcommand of the node itself sends that stands alone.
+/// The request of one of the node's own subcommands without arguments.
 fn plain_call(
     alloc: Global,
     matches: &ArgMatches<'_>,

@@ -38,8 +38,8 @@ pub fn pause<RT: Net>(rt: &RT, milliseconds: u64) {
     }
 }
 
-/// Whether it is to be asked again: the node says that it is waiting; or there is no answer to what takes no command
-/// in, as while the node is started anew.
+/// Whether it is to be asked again: the node answers that the request is waiting; or there is no answer to a request
+/// that makes no change, as while the node is restarted.
 fn is_open(call: &Call, found: &Result<Reply, AskFault>) -> bool
     ensures { result ≡ is_open (call_value call.now) (answer_value found.now) }
 {
@@ -137,7 +137,7 @@ fn limit_of(seconds: u32) -> u32
 /// Asks, and waits for the given number of seconds in all: for a node that isn't so far yet, and for what comes of a
 /// command that was accepted, whose position is asked for again where no answer comes; it is `waiting` where none came
 /// in time. No command is asked twice that may have been accepted. With 0 seconds it is asked once, and the answer is
-/// waited for 10 seconds at most. Verdicts of many packets are asked for in as many requests as the node wants; they
+/// waited for 10 seconds at most. Verdicts of many packets are asked for in as many requests as the node needs; they
 /// are of one position, or there is no answer.
 pub(crate) fn ask_at<RT: Net + Clock, C: Control>(
     rt: &RT,

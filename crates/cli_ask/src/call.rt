@@ -15,7 +15,7 @@ pub(crate) enum Kind {
     List,
     /// To look addresses up in a table.
     TableTest,
-    /// To read verdicts, of which the node answers as many as it computes at once.
+    /// To read verdicts, of which the node returns those that it computes at once.
     Test,
     /// To learn the position of a command that changes nothing.
     Sync,

@@ -1,4 +1,4 @@
-//! What words of a change are refused for before a node is asked.
+//! What the arguments of a change are refused for before a node is asked.
 
 ghost use Rattle.std.specs.Prelude.{◌≡◌, IfOk};
 ghost use Rattle.clap.specs.Words.{found_of, rows_of};
@@ -13,7 +13,7 @@ use pf_arguments::{Action, Command, from_matches};
 use pf_grammar::{ParseFault, Place, Profile, parse};
 use std::alloc::{AllocError, Global};
 
-/// Why words aren't asked of a node.
+/// Why arguments are refused before a node is asked.
 #[derive(Clone, Copy, PartialEq, Eq)]
 pub(crate) struct Refused {
     /// The number of the refusal.
@@ -85,8 +85,7 @@ fn refused_args(
     }
 }
 
-/// Whether a request is checked: a node's own subcommands aren't, nor is a change where the arguments say that it isn't
-/// looked at.
+/// Whether a request is checked: a node's own subcommands aren't, nor is a change with `--unchecked`.
 fn is_checked(kind: Kind, is_unchecked: bool) -> bool
     ensures { result ≡ is_checked kind is_unchecked }
 {

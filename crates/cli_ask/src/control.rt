@@ -13,7 +13,7 @@ use crate::showing::shown;
 use std::alloc::Global;
 use std::time::Clock;
 
-/// Whoever answers as a node does at its control socket.
+/// A peer that answers as a node does at its control socket.
 pub(crate) trait Control {
     // these requests were made and answered, and the clock was read, so far, in order
     ghost exchanged: { Self → List Event → Type 0 };
@@ -45,7 +45,7 @@ fn printable(alloc: Global, reply: Reply) -> Result<Reply, AskFault>
     }
 }
 
-/// Whoever is reached over connections, by a clock.
+/// A peer that is reached over connections, by a clock.
 #[derive(Drop)]
 pub(crate) struct Reached<'a, D, RT> {
     pub(crate) dial: D,

@@ -81,7 +81,7 @@ impl Deadline {
     }
 }
 
-/// Whoever answers at a control socket, each request over a connection of its own.
+/// The peer that answers at a control socket, each request over a connection of its own.
 pub(crate) trait Dial {
     type Stream: Read + Write + Drop;
 

@@ -7,8 +7,9 @@ ghost use Rattle.std.specs.Str.Lines.{lines};
 ghost use Rattle.pf_eval.specs.PacketTexts.{words};
 ghost use Rattle.cli_ask.specs.Sending.{has_control, is_plain, change_line, lines_of};
 
-/// A node reads the line of a change, the body's first one, as the arguments that it was made of, and behind it the
-/// text: no argument carries another. It reads the lines of other requests as the words which make up each.
+/// A node reads the line of a change, the body's first one, as the arguments that it was made of, and what follows it
+/// as the text: no argument reaches into another. It reads the lines of other requests as the arguments that make up
+/// each.
 pub fn lines_are_read_so()
     ensures args { (args : List (List ℕ)) (line : List ℕ) → change_line args ≡ Some line → words line ≡ args }
     ensures text { (args : List (List ℕ)) (line text : List ℕ) → change_line args ≡ Some line →

@@ -7,11 +7,11 @@
 //! - [`change_line`]: the line of a change that is sent, and [`laws`]: it is read as the arguments that it was made of.
 //!
 //! Within: `words` has the arguments as `clap` reads them, `arguments` what is sent for them, a `call` with its
-//! `target`, `checking` what they are refused for before that. `control` is whoever answers, `exchange` one request
-//! over the socket, `reply` its bytes and those of the answer. `asking` has how often it is asked, `commands` what is
-//! answered of a command, `verdicts` verdicts in parts, `answers` whether an answer says that what was asked for was
-//! done, `outcome` what a run writes and how it ends, `showing` an answer for a terminal, `script` reads the changes of
-//! a script, `scripting` asks them, and `telling` has what is printed for people on standard error.
+//! `target`, `checking` what they are refused for before that. `control` is a trait for the peer that answers,
+//! `exchange` one request over the socket, `reply` its bytes and those of the answer. `asking` has how often it is
+//! asked, `commands` what is answered of a command, `verdicts` verdicts in parts, `answers` whether an answer is that
+//! the request succeeded, `outcome` what a run writes and how it ends, `showing` an answer for a terminal, `script`
+//! reads the changes of a script, `scripting` asks them, and `telling` has the messages on standard error.
 //!
 //! # Why
 //!
@@ -20,7 +20,7 @@
 //! - **The client reads a ruleset before it asks** (by `from_matches` and `parse`), not the node: the node accepts what
 //!   is asked, so the model's Ask stays what a change is, and `--unchecked` is the client's alone.
 //! - What is asked, and how often, is stated over a trait (`Control`), whose ghost has the requests and their answers,
-//!   since no contract can say what a socket gives.
+//!   since no contract can state what a socket gives.
 #![tactic(auto)]
 
 mod answers;

@@ -20,7 +20,7 @@ pub(crate) enum Outcome {
     Answered(Kind, Reply),
     /// A refusal, with the line of a refused text.
     Refused(Refused),
-    /// Memory ran out.
+    /// Out of memory.
     Memory,
     /// The input couldn't be read.
     Unread,

@@ -115,7 +115,7 @@ fn is_number(len: usize, number: Option<u32>) -> bool
     }
 }
 
-/// Whether the answer's fields say that its body has this length, or say nothing of it.
+/// Whether the answer's header fields give its body this length, or give none.
 fn has_length(bytes: &[u8], fields: &[HeaderSpan], len: usize) -> bool
     requires { All (IsHeaderWithin (length bytes.now)) fields.now }
     ensures { result ≡ has_length len (map (header_bytes bytes.now) fields.now) }

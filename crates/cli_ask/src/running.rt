@@ -72,7 +72,7 @@ fn text_for<T: Sources, R: Read>(
     }
 }
 
-/// What an answer gives. Of a command's it is said how many positions are left, once the log nears its end.
+/// The outcome of an answer. For a command the number of positions left is written, once the log nears its end.
 fn replied<E: Write>(kind: Kind, answer: Result<Reply, AskFault>, errors: &mut E) -> Outcome
     ensures { Replied kind (answer_value answer) result }
 {
@@ -167,7 +167,7 @@ fn seconds_by(wait: Option<u32>) -> u32
     }
 }
 
-/// What a script is refused for before a node is asked, unless the arguments say that it isn't looked at.
+/// What a script is refused for before a node is asked, unless `--unchecked` is given.
 fn refusal_in(
     alloc: Global,
     matches: &ArgMatches<'_>,
@@ -241,7 +241,7 @@ fn run_script<RT: Net + Clock + Sources, C: Control, R: Read, W: Write, E: Write
     }
 }
 
-/// Asks at a control socket what the arguments say, and writes what that gives.
+/// Asks at a control socket what the arguments spell, and writes what that gives.
 fn run_at<RT: Net + Clock + Sources, C: Control, R: Read, W: Write, E: Write>(
     rt: &RT,
     alloc: Global,
@@ -281,7 +281,7 @@ fn run_at<RT: Net + Clock + Sources, C: Control, R: Read, W: Write, E: Write>(
 /// case. 85 where nobody answers at the socket, 86 where the answer is cut short or none.
 ///
 /// The status is 1 where a change was refused or its outcome isn't known in time, where not all addresses of `-T test`
-/// match, and of every refusal. For people stands on `errors` how many positions are left once few are, and, where that
+/// match, and of every refusal. Messages on `errors` are how many positions are left once few are, and, where that
 /// is a terminal, at which line a script is.
 pub fn run_control_ask<RT: Net + Clock + Sources, S: AsStr, R: Read, W: Write, E: Write>(
     rt: &RT,

@@ -21,9 +21,9 @@ pub(crate) struct Left<'a> {
 /// A change of a script.
 #[derive(Drop)]
 pub(crate) struct Change<'a> {
-    /// The number of the line that has its words.
+    /// The number of the line that has its arguments.
     pub(crate) line: u64,
-    /// The words, `pfctl` first.
+    /// The arguments, `pfctl` first.
     pub(crate) words: Vec<&'a str>,
     /// The text behind them.
     pub(crate) text: Vec<u8>,
@@ -48,7 +48,7 @@ impl From<AllocError> for ScriptFault {
     }
 }
 
-/// The words of the next line that isn't empty, without its lines; none where no such line is left.
+/// The arguments of the next line that isn't empty, without its lines; none where no such line is left.
 fn next_words<'a>(alloc: Global, left: &mut Left<'a>) -> Result<Option<Change<'a>>, ScriptFault>
     ensures found { IfOk result (λ c. items_left left.old None
         ≡ begun_at (option_map change_value c) (items_left left.new)) }
@@ -87,7 +87,7 @@ fn read_text(left: &mut Left<'_>, change: &mut Change<'_>) -> Result<(), AllocEr
     Ok(())
 }
 
-/// Whether the first word is pfctl.
+/// Whether the first argument is pfctl.
 fn is_pfctl(words: &[&str]) -> bool
     ensures { result ≡ is_pfctl (map (λ w. w.now) words.now) }
 {

@@ -42,7 +42,7 @@ fn are_graphic(bytes: &[u8]) -> bool
     bytes.iter().all(|b| is_graphic(*b))
 }
 
-/// Whether an argument is one word of a line: it isn't empty, and has neither blanks nor control characters.
+/// Whether an argument is one argument of a line: it isn't empty, and has neither blanks nor control characters.
 fn is_plain(arg: &str) -> bool
     ensures { result ≡ is_plain arg.now }
 {
@@ -95,7 +95,7 @@ pub(crate) fn change_body(
     Ok(Some(body))
 }
 
-/// Each word in a line of its own. A node reads these lines as the words, since no word has a control character.
+/// Each argument in a line of its own. A node reads these lines as the arguments, since none has a control character.
 pub(crate) fn lines_of(alloc: Global, words: &[&str]) -> Result<Vec<u8>, AllocError>
     requires { list_any has_control (map (λ w. w.now) words.now) ≡ false }
     ensures { IfOk result (λ body. body.items ≡ lines_of (map (λ w. w.now) words.now)) }

@@ -1,4 +1,4 @@
-//! What is printed for people beside an answer, on standard error.
+//! The messages beside an answer, on standard error.
 
 ghost use Rattle.std.specs.Prelude.{OnOk};
 ghost use Rattle.std.specs.Io.KnownBytes.{Appends};
@@ -7,17 +7,17 @@ ghost use Rattle.cli_ask.specs.Telling.{count_text, left_text, line_text};
 use crate::words::POSITIONS;
 use std::io::{self, Write};
 
-/// From this front on each answer says how many are left.
+/// From this front on a message states after each answer how many positions are left.
 const NEAR_THE_END: u32 = 900_000;
 
-/// Says how many positions are left.
+/// Writes how many positions are left.
 fn tell_count<E: Write>(left: u64, errors: &mut E) -> io::Result<()>
     ensures { OnOk result (Appends (E.contents errors.old) (E.contents errors.new) (count_text left)) }
 {
     writeln!(errors, "pfx: {left} positions left in the log")
 }
 
-/// Says, once the log nears its end, how many positions are left.
+/// Writes, once the log nears its end, how many positions are left.
 pub(crate) fn tell_left<E: Write>(front: Option<u32>, errors: &mut E) -> io::Result<()>
     ensures { OnOk result (Appends (E.contents errors.old) (E.contents errors.new) (left_text front)) }
 {

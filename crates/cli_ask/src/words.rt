@@ -18,7 +18,7 @@ pub(crate) const POSITIONS: u64 = 1_000_000;
 /// The last line of a script that can be named.
 const LINES: u64 = 4_294_967_295;
 
-/// What help says of each option, and below them.
+/// The help of each option, and the text below the options.
 const CONTROL: &str = "The Unix socket at which the node answers operators";
 
 const WAIT: &str = "Seconds to wait for the outcome, 0 to 3600";
@@ -82,7 +82,8 @@ fn with_script<'a>(alloc: Global, command: Command<'a>) -> Result<Command<'a>, A
     )
 }
 
-/// `ask --control PATH [--wait S] [--at A] [--unchecked] WORDS`, or with `--script FILE [--from LINE]` in their place
+/// `ask --control PATH [--wait S] [--at A] [--unchecked] ARGUMENTS`, or with `--script FILE [--from LINE]` in their
+/// place
 fn ask_command<'a>(alloc: Global) -> Result<Command<'a>, AllocError>
     ensures local { IfOk result (λ c. (out-Command c).has_globals ≡ false) }
 {
@@ -97,7 +98,7 @@ fn ask_command<'a>(alloc: Global) -> Result<Command<'a>, AllocError>
     pfctl_args(alloc, command)
 }
 
-/// The program's words with a control socket.
+/// The program's arguments with a control socket.
 pub(crate) fn command<'a>(alloc: Global) -> Result<Command<'a>, AllocError> {
     let ask = ask_command(alloc)?;
     let command = Command::new(alloc, "pfx").subcommand(ask)?;

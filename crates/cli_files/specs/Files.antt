@@ -3,6 +3,6 @@ use Rattle.toml.specs.Data.{Members}
 use Rattle.toml.specs.View.{table_view}
 use Rattle.cli_files.specs.declared.settings.NodeFile.{NodeFile}
 
--- what the file says of each key
+-- the file's value at each key
 abbrev pub settings_of : NodeFile → Members
 settings_of f = table_view f.table

@@ -1,4 +1,4 @@
--- What a node's file of settings may say, of a TOML table as the data of its keys.
+-- What a node's file of settings may have, of a TOML table as the data of its keys.
 use Rattle.std.specs.Prelude.{◌≡◌, ℕ, ℤ, pos, negsuc, List, [], ◌∷◌, Bool, true, false}
 use Rattle.std.specs.Prelude.{if◌then◌else◌, Option, Some, None, is_some, option_and_then, IsUtf8, bytes_eq, codes}
 use Rattle.std.specs.Prelude.{nat_le}
@@ -126,7 +126,7 @@ abbrev pub is_unknown : Option Kind → Bool
 is_unknown None = true
 is_unknown (Some kind) = false
 
--- why a string is refused; nothing is said of out of memory
+-- why a string is refused; out of memory isn't specified
 abbrev pub IsRefused : FileFault → List ℕ → Type 0
 IsRefused fault.Memory text = Unit {0}
 IsRefused (fault.Syntax line) text = IsUtf8 text → parse_document text ≡ None

@@ -19,7 +19,7 @@ pub trait SecretFile: Read {
     // this may be its mode
     ghost has_mode: { Self → ℕ → Type 0 };
 
-    /// Its mode, none where the system doesn't tell it.
+    /// Its mode, none where the system doesn't report it.
     fn mode(&self) -> Option<u32>
         ensures { IfSome result (has_mode self.now) };
 }
@@ -37,7 +37,7 @@ impl<T: OpenFile + Read> SecretFile for T {
 }
 
 /// The key of a cluster that the secret in an opened file makes, by [`cluster_key_from`] with the file's own mode:
-/// `Unread` where that isn't told.
+/// `Unread` where that isn't reported.
 pub fn cluster_key_in<F: SecretFile>(
     alloc: Global,
     file: &mut F,

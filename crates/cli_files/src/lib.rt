@@ -2,7 +2,7 @@
 //!
 //! # Organization
 //!
-//! - [`NodeFile`]: a file of settings in TOML that was read, and what it says of each setting by its name.
+//! - [`NodeFile`]: a file of settings in TOML that was read, and its value of each setting by name.
 //!   [`FileFault`]: why a string is none, and in which line.
 //! - [`read_cluster_key`]: the key of a cluster that the secret in a file makes, which its owner alone may read;
 //!   [`cluster_key_in`]: the same of a [`SecretFile`]; [`cluster_key_from`]: over any reader and mode; [`key_from`]:
@@ -26,21 +26,21 @@
 //! # Why
 //!
 //! - Each of these files is read before a store is opened, and its refusals are the program's.
-//! - **TOML by the kit's port**, whose `table_from_slice` answers exactly what its grammar says of the text.
-//!   `NodeFile` keeps that table, and what it says of a setting is what the table has at that key: the port's
+//! - **TOML by the kit's port**, whose `table_from_slice` answers exactly what its grammar gives for the text.
+//!   `NodeFile` keeps that table, and its value of a setting is what the table has at that key: the port's
 //!   contract carries the equation.
 //! - **A setting has its option's name**, and its value the option's range. `members` is the list of addresses.
 //!   `turns` is none, since a node that ends by itself is nothing that a machine is set up with; `config` and
 //!   `help` are none.
-//! - **An unknown key is refused**, as nothing else would tell a misspelt one. Of several wrong keys the first by
+//! - **An unknown key is refused**, since nothing else would report a misspelt one. Of several wrong keys the first by
 //!   its bytes is reported, since that is the table's order.
-//! - **The line** of what isn't TOML is the port's. The port's table doesn't keep where a key stands, so the line
-//!   of a wrong key is the first that begins with it; a key that is written with escapes has none. No clause says
+//! - **The line** of what isn't TOML is the port's. The port's table doesn't keep where a key is, so the line
+//!   of a wrong key is the first that begins with it; a key that is written with escapes has none. No clause states
 //!   which line it is.
 //! - **An option goes before the file**, flags only towards true: `unsealed = true` has no option against it.
 //! - **What clap asks for** (`--me`, `--cluster`, `--store`, a control socket for `--metrics`, a key for `--other-key`)
-//!   it asks for where no file is named. With a file these are asked of what both say: 92, without a line.
-//! - **90 before 92**, and both before the refusals of a node's words.
+//!   it asks for where no file is named. With a file these are required of both together: 92, without a line.
+//! - **90 before 92**, and both before the refusals of a node's arguments.
 //! - **A start's number is above the last one's**: the other members drop what is of a start below the one that they
 //!   know. A number that is at least the time in seconds goes on above the old ones where a file was lost and made
 //!   anew; one that only counts would begin at 1 again, and nobody would hear the member. The file is made before its
@@ -51,7 +51,7 @@
 //!   of the system's impls are believed.
 //! - **The tags' key is made of the list as it is written**, since a name may have different addresses on different
 //!   machines.
-//! - **A key's file that others may read is refused** (83), as ssh does it; standard error says which of the three
+//! - **A key's file that others may read is refused** (83), as ssh does it; standard error has which of the three
 //!   reasons it was. A key that `pfx key` makes is what the random source gave; of that nothing is promised.
 //! - **The file of starts is text**, a line for each member, so that it can be read; there is one spelling.
 #![tactic(auto)]

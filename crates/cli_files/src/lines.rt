@@ -16,7 +16,7 @@ pub(crate) fn line_behind(front: &[u8]) -> u64
     line
 }
 
-/// The number of the line, from 1, in which the byte behind that many others stands; that of the end past it.
+/// The number of the line, from 1, that has the byte behind that many others; that of the end past it.
 pub(crate) fn line_at(text: &[u8], before: usize) -> u64 {
     match text.get(..before) {
         Some(front) => line_behind(front),
@@ -34,7 +34,7 @@ fn is_of_key(byte: u8) -> bool {
     byte.is_ascii_alphanumeric() || byte == b'-' || byte == b'_'
 }
 
-/// Whether the key is at this place, and no more of a word.
+/// Whether the key is at this place, and ends there.
 fn stands_at(text: &[u8], at: usize, key: &[u8]) -> bool {
     let Some(rest) = text.get(at..) else {
         return false;

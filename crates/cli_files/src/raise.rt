@@ -10,7 +10,7 @@ use thiserror::Error;
 /// Why a member has no start.
 #[derive(Clone, Copy, Debug, PartialEq, Eq, Error)]
 pub enum RaiseFault {
-    /// Memory was refused.
+    /// Out of memory.
     #[error("out of memory")]
     Memory,
     /// There is none, and none is to be made.

@@ -16,7 +16,7 @@ pub trait RandomBytes {
 }
 
 impl<R: RandomSource> RandomBytes for R {
-    // no contract says what the system's source gives
+    // no contract states what the system's source gives
     ghost gives = { λ _ _. ⊤ };
 
     fn fill(&self, bytes: &mut [u8]) -> io::Result<()> {

@@ -9,7 +9,7 @@ use thiserror::Error;
 /// Why a file of starts isn't read.
 #[derive(Clone, Copy, Debug, PartialEq, Eq, Error)]
 pub enum StartsFault {
-    /// Memory was refused.
+    /// Out of memory.
     #[error("out of memory")]
     Memory,
     /// It doesn't begin with the line of this version.

@@ -49,16 +49,16 @@ fn salt<R: RandomBytes>(source: &R) -> io::Result<u32>
 
 /// A clock that reports the time in seconds since 1970.
 trait Seconds {
-    // it may tell this time
+    // it may return this time
     ghost tells: { Self → ℕ → Type 0 };
 
-    /// The time, 0 where the system doesn't tell it.
+    /// The time, 0 where the system has none.
     fn seconds(&self) -> u64
         ensures { tells self.now result };
 }
 
 impl<C: Clock> Seconds for C {
-    // no contract says what the system's clock reports
+    // no contract states what the system's clock reports
     ghost tells = { λ _ _. ⊤ };
 
     fn seconds(&self) -> u64 {

@@ -62,7 +62,7 @@ fn put<F: Files>(files: &F, alloc: Global, path: &str, text: &[u8]) -> Result<()
 }
 
 impl<F: Files> StartsPlace for StartsFile<'_, F> {
-    // no contract says what a file has
+    // no contract states what a file has
     ghost has = { λ _ _. ⊤ };
 
     fn read(&self, alloc: Global) -> Result<Option<Vec<u8>>, RaiseFault> {

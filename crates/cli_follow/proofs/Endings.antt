@@ -37,7 +37,7 @@ no_ending rows status.Usage h = (inr h, λ e. absurd cc)
 no_ending rows status.Memory h = (inr h, λ e. absurd cc)
 no_ending rows status.Failed h = (inr h, λ e. absurd cc)
 
--- none, for lack of memory
+-- none, when out of memory
 pub no_memory : (x : List Exchange → Type 0) (rows : List Row) (turns : ℕ) (s : Status) (a : Option (List ℕ)) → IsEnding (Err fault.Memory) s →
     FollowedBy x x rows turns s a a
 no_memory x rows turns s a ending = inr (adds_nothing x, (Appends-nil a, no_ending rows s ending))

@@ -221,7 +221,7 @@ Stopped given now w s before written = (es : List Exchange) × (r : Reached) × 
     × (after w s es ≡ Some r) × AppendsFront before written r.out
 
 -- How a run ends that is to ask for entries so often: after that many asks, or at another log, all is written that the
--- answers lead to; where memory runs out, or the output is closed, a front of it.
+-- answers lead to; when out of memory, or the output is closed, a front of it.
 abbrev pub Ends : (given now : List Exchange → Type 0) → Wanted → (turns : ℕ) → Result Unit WriteFault →
     (before written : Option (List ℕ)) → Type 0
 Ends given now w turns (Ok done) before written = (f : Follower) × (f.asks ≡ turns)

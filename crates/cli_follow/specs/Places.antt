@@ -101,7 +101,7 @@ abbrev pub FollowedTo : (given now : List Exchange → Type 0) → Places → (t
 FollowedTo given now p turns s before written =
     (r : Result Unit WriteFault) × (Ends given now (wanted_at p) turns r before written × IsEnding r s)
 
--- nothing is asked and nothing is written: the arguments or the file of interfaces are refused, or memory ran out
+-- nothing is asked and nothing is written: the arguments or the file of interfaces are refused, or it was out of memory
 abbrev pub NotFollowed : (given now : List Exchange → Type 0) → List Row → Status →
     (before written : Option (List ℕ)) → Type 0
 NotFollowed given now rows s before written = Adds given now []

@@ -26,7 +26,7 @@
 //! - Lines go to standard output as nft takes them; all refusals go to standard error, 40 and 89 too, and so does
 //!   `memory`, since what reads the output is nft. What `clap` writes of arguments goes to standard output, as of every
 //!   word.
-//! - The loop ends with its output, at `--turns`, or for lack of memory, and at nothing else: a control socket where
+//! - The loop ends with its output, at `--turns`, or out of memory, and at nothing else: a control socket where
 //!   nobody answers is asked again, since nodes are restarted.
 //! - It pauses by a read of a stream of its own that times out, as `cli_ask` does: there is no handle for waiting.
 //! - A line has no position: the answer begins where it was asked from. The followed configuration has its position.

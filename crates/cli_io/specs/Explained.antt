@@ -1,13 +1,13 @@
--- What is said of a refusal.
+-- The explanation of a refusal.
 use Rattle.std.specs.Prelude.{ℕ, List, [], ◌∷◌, ◌++◌, ◌==◌, Option, Some, None, bytes_eq, codes, decimal, find}
 use Rattle.std.specs.List.{flat_map}
 use Rattle.cli_io.specs.declared.paragraph.Explanation.{Explanation}
 
--- what a table says of a number: its first row with this one
+-- a table's row for a number: its first with this one
 abbrev pub row_of : List Explanation → ℕ → Option Explanation
 row_of table code = find (λ r. r.code == code) table
 
--- what a table says of a number in digits
+-- a table's row for a number in digits
 abbrev pub named : List Explanation → List ℕ → Option Explanation
 named table digits = find (λ r. bytes_eq (decimal r.code) digits) table
 
@@ -15,7 +15,7 @@ named table digits = find (λ r. bytes_eq (decimal r.code) digits) table
 abbrev pub part : List ℕ → List ℕ → List ℕ
 part heading text = heading ++ text ++ 10 ∷ []
 
--- a refusal's paragraph: its number and its name, where it comes, what stands after it, what to do
+-- a refusal's paragraph: its number and its name, where it comes, what holds after it, what to do
 abbrev pub paragraph : Explanation → List ℕ
 paragraph r = decimal r.code ++ part (codes ": ") r.name.now ++ part (codes "  where  ") r.meaning.now
     ++ part (codes "  then   ") r.after.now ++ part (codes "  do     ") r.remedy.now

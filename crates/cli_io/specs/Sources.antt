@@ -5,7 +5,7 @@ use Rattle.std.specs.Prelude.{◌≡◌, ℕ, true, false, List, [], Option, Som
 abbrev pub IsOfFile : {F : Type 0} → (remaining : F → Option (List ℕ)) → (text : List ℕ) → Type 0
 IsOfFile {F} remaining text = (file : F) × IfSome (remaining file) (λ bytes. text ≡ bytes)
 
--- the text that a name stands for: of the input for `-`, else the one at that path
+-- the text that a name refers to: the input for `-`, else that of the file at this path
 abbrev pub IsText : (has : (path text : List ℕ) → Type 0) → (input : Option (List ℕ)) → (name text : List ℕ) → Type 0
 IsText has input name text = (bytes_eq name (codes "-") ≡ true → IfSome input (λ bytes. text ≡ bytes))
     × (bytes_eq name (codes "-") ≡ false → has name text)

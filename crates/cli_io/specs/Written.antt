@@ -14,8 +14,8 @@ abbrev pub AppendsFront : Option (List ℕ) → Option (List ℕ) → List ℕ �
 AppendsFront old new text =
     (front : List ℕ) × (rest : List ℕ) × (text ≡ front ++ rest) × Appends old new front
 
--- What a run has done that ended so because its words aren't understood. Where memory ran out it wrote that alone; of a
--- write that failed, and of the text for such words, nothing is said.
+-- What a run has done that ended so because its arguments aren't understood. Where it was out of memory it wrote that
+-- alone; a write that failed, and the text for such arguments, aren't specified.
 abbrev pub IsMisused : Status → Option (List ℕ) → Option (List ℕ) → Type 0
 IsMisused Done old new = ⊥
 IsMisused Refused old new = ⊥

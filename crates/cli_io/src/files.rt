@@ -10,7 +10,7 @@ use std::os::unix::net::UnixStream;
 const PRIVATE: u32 = 0o600;
 
 /// Opens a file for reading. What isn't a regular file is refused: a pipe would be waited for. Between the look and the
-/// opening whoever may write in the folder can put something else there.
+/// opening a process that may write in the folder can put another file there.
 pub fn open_regular<F: Files>(files: &F, path: &str) -> io::Result<F::File> {
     let found = fs::metadata(files, path)?;
     if !found.is_file() {

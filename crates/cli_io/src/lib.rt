@@ -7,13 +7,13 @@
 //!   [`Sources`].
 //! - [`open_regular`], [`make_private`]: a file that isn't waited for, and one that its owner alone may read;
 //!   [`knock`]: why nobody answers at a socket.
-//! - [`Shown`]: a foreign string for people.
+//! - [`Shown`]: a foreign string, its control characters escaped.
 //! - [`flag`], [`valued`], [`with_option`]: the options of a subcommand; [`values_in`]: the values of one.
 //! - [`write_bytes`]: all of an output, or a front of it; [`misused`], [`out_of_memory`]: what is written of arguments
 //!   that aren't understood, and of out of memory.
 //! - [`REFUSALS`]: the table, which has each refusal that the program answers once, by its number. [`explanation`],
-//!   [`named`]: what it says of a number, and of a number's digits; [`explain_all`]: all that it says. An
-//!   [`Explanation`] is shown as its paragraph; [`Remark`]: one line for people about a refusal that came.
+//!   [`named`]: its row for a number, and for a number's digits; [`explain_all`]: all its rows. An [`Explanation`] is
+//!   shown as its paragraph; [`Remark`]: one line on standard error about a refusal.
 //! - The numbers that have names: [`NO_PACKET`], [`WAITING_FULL`], [`ROUNDS_SPENT`], [`POSITIONS_SPENT`],
 //!   [`UNREADABLE`], [`NO_SCRIPT`].
 //!
@@ -21,7 +21,8 @@
 //!
 //! - Each subcommand has a crate of its own, so that they are proved side by side; what is here is theirs together.
 //! - **A regular file is recognized before it is opened**, since std opens without `O_NONBLOCK`, and a pipe would be
-//!   waited for; who may write in the folder can put another file there in between. The ruleset of `-f` may be a pipe.
+//!   waited for; a process that may write in the folder can put another file there in between. The ruleset of `-f` may
+//!   be a pipe.
 #![tactic(auto)]
 
 mod files;

@@ -1,4 +1,4 @@
-//! What a table says of a number.
+//! A table's row for a number.
 
 ghost use Rattle.std.specs.Prelude.{◌≡◌, IfOk, string_bytes};
 ghost use Rattle.std.specs.Option.{option_copied};
@@ -8,15 +8,14 @@ use crate::paragraph::Explanation;
 use itoa::Buffer;
 use std::alloc::{AllocError, Global};
 
-/// What the table says of a number: its first row with this one, none where it has none.
+/// The table's row for a number: the first with this one, none where it has none.
 pub fn explanation(table: &[Explanation], code: u8) -> Option<&Explanation>
     ensures { option_copied result ≡ row_of table.now code }
 {
     table.iter().find(|row| row.code == code)
 }
 
-/// What the table says of a number that is there in digits, none where no row has it. A number with leading zeros
-/// is none.
+/// The table's row for a number in digits, none where it has none. A number with leading zeros is none.
 pub fn named<'t>(table: &'t [Explanation], digits: &str) -> Option<&'t Explanation>
     ensures { option_copied result ≡ named table.now digits.now }
 {

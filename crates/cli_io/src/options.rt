@@ -8,7 +8,7 @@ ghost use Rattle.cli_io.specs.Options.{flag_rule, value_rule};
 use clap::{Arg, ArgAction, ArgMatches, Command};
 use std::alloc::{AllocError, Global};
 
-/// `--NAME`, with what help says of it.
+/// `--NAME`, with its help.
 pub fn flag<'a>(alloc: Global, name: &'a str, help: &'a str) -> Arg<'a>
     ensures rule { rule_of result ≡ flag_rule name.entry.now }
     ensures local { result.global ≡ false }
@@ -19,7 +19,7 @@ pub fn flag<'a>(alloc: Global, name: &'a str, help: &'a str) -> Arg<'a>
         .help(help)
 }
 
-/// `--NAME VALUE`, with what help says of it.
+/// `--NAME VALUE`, with its help.
 pub fn valued<'a>(alloc: Global, name: &'a str, help: &'a str) -> Arg<'a>
     ensures rule { rule_of result ≡ value_rule name.entry.now }
     ensures local { result.global ≡ false }

@@ -1,20 +1,20 @@
-//! What is said of a refusal, and its paragraph.
+//! The explanation of a refusal, and its paragraph.
 
 ghost use Rattle.std.specs.Prelude.{Some};
 ghost use Rattle.cli_io.specs.Explained.{paragraph};
 
 use std::fmt;
 
-/// What is said of a refusal. It is shown as a paragraph of four lines or more, the last one with its newline.
+/// The explanation of a refusal. It is shown as a paragraph of four lines or more, the last one with its newline.
 #[derive(Clone, Copy)]
 pub struct Explanation {
     /// Its number, 1 to 255.
     pub code: u8,
-    /// In a few words, for one line.
+    /// A short name, for one line.
     pub name: &'static str,
     /// Where it comes.
     pub meaning: &'static str,
-    /// What stands after it.
+    /// What holds after it.
     pub after: &'static str,
     /// What to do.
     pub remedy: &'static str,

@@ -5,7 +5,7 @@ ghost use Rattle.cli_io.specs.Explained.{remark, place_of};
 
 use std::fmt;
 
-/// A refusal that came, for people: where, and which. It is shown in pfctl's manner, `stdin:3: bad port (13)`, without
+/// The message on a refusal: where, and which. It is shown in pfctl's manner, `stdin:3: bad port (13)`, without
 /// a newline.
 #[derive(Clone, Copy)]
 pub struct Remark<'a> {
@@ -13,7 +13,7 @@ pub struct Remark<'a> {
     pub source: &'a str,
     /// The line of the text, from 1, where the refusal names one.
     pub line: Option<u64>,
-    /// What it is in a few words.
+    /// Its short name.
     pub name: &'a str,
     /// The number of the refusal.
     pub code: u8,

@@ -1,12 +1,12 @@
-//! Text of others for people.
+//! A foreign string, as messages show it.
 
 ghost use Rattle.std.specs.Prelude.{Some};
 ghost use Rattle.cli_io.specs.Shown.{shown, shown_char};
 
 use std::fmt;
 
-/// A string of others, as a file's name, for people: each control character is shown as its number, `\u{1b}`, so that
-/// it does nothing to a terminal and ends no line.
+/// A string of others, as a file's name, as messages show it: each control character is shown as its number, `\u{1b}`,
+/// so that it does nothing to a terminal and ends no line.
 #[derive(Clone, Copy)]
 pub struct Shown<'a>(pub &'a str);
 

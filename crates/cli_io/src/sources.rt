@@ -30,7 +30,7 @@ impl<F: Files> Sources for F {
     }
 }
 
-/// The text that a name stands for: of the input for `-`, else the one at that path.
+/// The text that a name refers to: the input for `-`, else that of the file at this path.
 pub fn source_named<T: Sources, R: Read>(
     sources: &T,
     alloc: Global,

@@ -10,16 +10,16 @@ pub enum Status {
     Done,
     /// A string or a packet is refused; the refusal is written.
     Refused,
-    /// The words aren't understood; what is wrong with them, or the help asked for, is written.
+    /// The arguments aren't understood; what is wrong with them, or the help asked for, is written.
     Usage,
-    /// Memory ran out; `memory` is written.
+    /// Out of memory; `memory` is written.
     Memory,
     /// A read or a write failed, or the input is larger than 16,777,216 bytes; nothing more is written.
     Failed,
 }
 
 impl Status {
-    /// The exit status: 0 done; 1 refused, out of memory or failed; 2 words that aren't understood.
+    /// The exit status: 0 done; 1 refused, out of memory or failed; 2 arguments that aren't understood.
     pub fn code(self) -> u8
         ensures { result ≡ code_of self }
     {

@@ -48,7 +48,7 @@ pub fn out_of_memory<W: Write>(writer: &mut W) -> Status
     }
 }
 
-/// Writes what is wrong with the words.
+/// Writes what is wrong with the arguments.
 pub fn misused<W: Write>(alloc: Global, error: &Error, writer: &mut W) -> Status
     ensures ran { IsMisused result (W.contents writer.old) (W.contents writer.new) }
     ensures memory { kind_of error.now ≡ OutOfMemory → result ≡ Status.Usage → ⊥ }

@@ -19,7 +19,7 @@ memory words s input old new h = inr (elim h [
   | inr both ↦ subst (λ e. IsMisused e old new) (sym both.0) both.1
 ])
 
--- ---- what clap says of a command that is this one
+-- ---- what clap gives for a command that is this one
 
 simple : is_simple nft_app ≡ true
 simple = refl
@@ -37,7 +37,7 @@ placed a words m n same h e =
     let P : App → Type 0 = λ b. HasMatchesOf b words m in
     subst (λ rows. IsPosition (position_text rows) n) (subst P same h simple).1 e
 
--- what was written of these members and this position, which are those that the words name
+-- what was written of these members and this position, which are those that the arguments name
 pub ran_by : (words : List Text) (file : Option (List ℕ)) (ms : Option (List Member)) (position : ℕ) (s : Status) (input old new : Option (List ℕ)) →
     ms ≡ members_named words → IsPositionOf words position → Wrote file ms position s input old new → Ran words s input old new
 ran_by words file ms position s input old new e p w = inl (record {

@@ -14,11 +14,11 @@ use Rattle.cli_nft.specs.declared.machines.TheConstants.{INTERFACES_MAX}
 abbrev pub may_have : Machine → Name → Bool
 may_have m name = nat_lt (length m) INTERFACES_MAX && not (list_any (λ n. bytes_eq n name) (known m))
 
--- words, if each is spelled as the name of an interface is
+-- strings, if each is spelled as the name of an interface is
 abbrev pub names_if : List (List ℕ) → Option (List Name)
 names_if ws = if list_all is_interface_text ws then Some ws else None
 
--- a machine with what a line lists; one without words is passed over
+-- a machine with what a line lists; one without names is passed over
 abbrev pub with_names : Machine → Option (List Name) → Option Machine
 with_names m None = None
 with_names m (Some []) = Some m

@@ -70,7 +70,7 @@ unfoldable pub output : Option (List ℕ) → Option (List Member) → ℕ → L
 output file None position input = refused (Some 40)
 output file (Some ms) position input = output_for (machine_of_file file) ms position input
 
--- ---- a configuration that stands
+-- ---- a present configuration
 
 -- for a machine, if the list of its interfaces is one
 abbrev pub config_for : Option Machine → List Member → ℕ → Configuration → Written

@@ -1,4 +1,4 @@
--- Which words ask for what nft(8) loads, and what a run has done.
+-- Which arguments ask for what nft(8) loads, and what a run has done.
 use Rattle.std.specs.Prelude.{◌≡◌, ◌⊎◌, ℕ, Bool, true, false, ◌&&◌, List, [], ◌∷◌, Option, IfSome, bytes_eq, codes}
 use Rattle.std.specs.List.{list_any}
 use Rattle.std.specs.Io.KnownBytes.{Appends}
@@ -10,14 +10,14 @@ use Rattle.nft_rules.specs.declared.guard.Member.{Member}
 use Rattle.cli_io.specs.declared.status.Status.{Status}
 use Rattle.cli_io.specs.declared.status.Status.TheVariants as status
 
--- the words, the program's name first, are check with --nft among what follows
+-- the arguments, the program's name first, are check with --nft among what follows
 abbrev pub asks_nft : List (List ℕ) → Bool
 asks_nft [] = false
 asks_nft (name ∷ []) = false
 asks_nft (name ∷ word ∷ words) = bytes_eq word (codes "check") && list_any (λ w. bytes_eq w (codes "--nft")) words
 
--- What a run that ended so has written, of this file of interfaces, these members, this position and this input. Where
--- memory ran out it wrote that alone; a run that failed wrote a front of either, and nothing where the input wasn't
+-- What a run that ended so has written, of this file of interfaces, these members, this position and this input. When
+-- out of memory it wrote that alone; a run that failed wrote a front of either, and nothing where the input wasn't
 -- read.
 abbrev pub Wrote : Option (List ℕ) → Option (List Member) → ℕ → Status → Option (List ℕ) → Option (List ℕ) →
     Option (List ℕ) → Type 0
@@ -30,13 +30,13 @@ Wrote file ms position status.Memory input old new = Appends old new (line (code
 Wrote file ms position status.Failed input old new = AppendsFront old new (line (codes "memory"))
     ⊎ IfSome input (λ bytes. AppendsFront old new (output file ms position bytes).text)
 
--- a run of words that are understood: of the members and the position that they name, for some file of interfaces
+-- a run of arguments that are understood: of the members and the position that they name, for some file of interfaces
 pub record Answered (words : List Text) (ending : Status) (input old new : Option (List ℕ)) : Type 0 where
   pub file : Option (List ℕ)
   pub position : ℕ
   pub at : IsPositionOf words position
   pub wrote : Wrote file (members_named words) position ending input old new
 
--- a run of these words, the program's name first, which are understood, or memory ran out, or they aren't
+-- a run of these arguments, the program's name first, which are understood, or it was out of memory, or they aren't
 abbrev pub Ran : List Text → Status → (input old new : Option (List ℕ)) → Type 0
 Ran words ending input old new = Answered words ending input old new ⊎ IsMisused ending old new

@@ -1,4 +1,4 @@
--- The words `check --nft`, and which members they name.
+-- The arguments `check --nft`, and which members they name.
 use Rattle.std.specs.Prelude.{◌≡◌, ◌<◌, ◌^◌, ℕ, true, List, [], ◌∷◌, Option, Some, None, length, nat_lt, codes}
 use Rattle.std.specs.Prelude.{bytes_eq}
 use Rattle.std.specs.Prelude.{unwrap_or, if◌then◌else◌, pos}
@@ -35,7 +35,7 @@ members_at (text ∷ texts) = and_member (address_of text) (members_at texts)
 unfoldable pub members_in : List Text → Option (List Member)
 members_in texts = if nat_lt MEMBERS_MAX (length texts) then None else members_at texts
 
--- ---- words
+-- ---- arguments
 
 -- --NAME VALUE, which has to be there
 abbrev pub needed_rule : Text → Rule
@@ -64,30 +64,30 @@ check_app =
     let filed = with_rule flagged (needed_rule (codes "interfaces")) in
     with_rule (with_rule filed (several_rule (codes "members"))) (number_rule (codes "position"))
 
--- the program with this word, which has to be named
+-- the program with this subcommand, which has to be given
 abbrev pub nft_app : App
 nft_app =
     let app = with_subcommand (new_app (codes "pfx")) check_app.top in
     record app { top = record app.top { subcommand_required = true } }
 
--- the members that the words behind a subcommand name; without --members there are none
+-- the members that the arguments of a subcommand name; without --members there are none
 abbrev pub named_in : Option (Text × List Row) → Option (List Member)
 named_in None = None
 named_in (Some (word, rows)) =
     if bytes_eq word (codes "check") then members_in (unwrap_or (all_of (codes "members") rows) []) else None
 
--- the members that the words name, the program's name first; none where they are no members of a cluster
+-- the members that the arguments name, the program's name first; none where they are no members of a cluster
 unfoldable pub members_named : List Text → Option (List Member)
 members_named words = named_in (subcommand_of nft_app words)
 
 -- ---- the position
 
--- what the words behind a subcommand give as position
+-- what the arguments of a subcommand give as position
 abbrev pub position_text : Option (Text × List Row) → Option Text
 position_text None = None
 position_text (Some (word, rows)) = one_of (codes "position") rows
 
--- a number of 32 bits that a string spells, where a plus may stand first
+-- a number of 32 bits that a string spells, where a plus may be first
 abbrev pub IsSpelled : Text → ℕ → Type 0
 IsSpelled text n = IsNumeral 10 (without_leading_plus text) → digits_value 10 (without_leading_plus text) < 2 ^ 32
     → n ≡ digits_value 10 (without_leading_plus text)
@@ -98,6 +98,6 @@ abbrev pub IsPosition : Option Text → ℕ → Type 0
 IsPosition None n = n ≡ 0
 IsPosition (Some text) n = IsSpelled text n
 
--- the position that the words name, the program's name first
+-- the position that the arguments name, the program's name first
 abbrev pub IsPositionOf : List Text → ℕ → Type 0
 IsPositionOf words n = IsPosition (position_text (subcommand_of nft_app words)) n

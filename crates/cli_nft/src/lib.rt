@@ -2,7 +2,7 @@
 //!
 //! # Organization
 //!
-//! - [`run_nft`]: the subcommand, over any reader and writer; [`asks_nft`] says whether arguments are of it.
+//! - [`run_nft`]: the subcommand, over any reader and writer; [`asks_nft`] tests whether arguments are of it.
 //! - [`machine_in`]: the interfaces of a machine, as a file lists them; [`read_file`]: such a file. [`members_in`]:
 //!   members from strings.
 //! - [`nft_output`]: what is written of a ruleset for a machine: three lines, or a refusal; [`config_output`]: the same

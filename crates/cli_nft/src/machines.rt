@@ -57,7 +57,7 @@ fn is_known(machine: &[MachineInterface], name: &[u8]) -> bool
     false
 }
 
-/// The names that words are, none where one is no name of an interface.
+/// The names that these strings are, none where one is no name of an interface.
 fn names_of(alloc: Global, words: &[&[u8]]) -> Result<Option<Vec<InterfaceName>>, AllocError>
     ensures { IfOk result (λ o. option_map (λ v. v.items) o ≡ names_if (map (λ w. w.now) words.now)) }
 {
@@ -108,7 +108,7 @@ fn push_line(
 }
 
 /// The machine that a string lists, a line an interface: its name and then its groups, between blanks. None where a
-/// word is no name of an interface, an interface is listed twice, or there are more than 1,024.
+/// name is no interface's, an interface is listed twice, or there are more than 1,024.
 #[tactic(auto, unfolding(crate::specs::Machines::machine_in))]
 pub fn machine_in(alloc: Global, text: &[u8]) -> Result<Option<Vec<MachineInterface>>, AllocError>
     ensures { IfOk result (λ o. option_map (λ v. machine_of v.items) o ≡ machine_in text.now) }

@@ -17,7 +17,7 @@ use std::convert::AsStr;
 use std::fs::{self, Files};
 use std::io::{Read, Write};
 
-/// Whether one of these words is `--nft`.
+/// Whether one of these arguments is `--nft`.
 fn has_nft<S: AsStr>(words: &[S]) -> bool
     ensures { result ≡ list_any (λ w. bytes_eq w (codes "--nft")) (map S.text words.now) }
 {
@@ -29,7 +29,7 @@ fn has_nft<S: AsStr>(words: &[S]) -> bool
     false
 }
 
-/// Whether the words, the program's name first, are `check` with `--nft` among what follows.
+/// Whether the arguments, the program's name first, are `check` with `--nft` among what follows.
 pub fn asks_nft<S: AsStr>(words: &[S]) -> bool
     ensures { result ≡ asks_nft (map S.text words.now) }
 {
@@ -39,14 +39,14 @@ pub fn asks_nft<S: AsStr>(words: &[S]) -> bool
     }
 }
 
-/// The position that the words behind a subcommand name, 0 if they name none. `clap` has refused what is no number.
+/// The position that the arguments of a subcommand name, 0 if they name none. `clap` has refused what is no number.
 fn position_in(inner: &ArgMatches<'_>) -> u32
     ensures { IsPosition (one_of (codes "position") (rows_of (found_of inner.now))) result }
 {
     inner.get_one::<u32>("position").unwrap_or(0)
 }
 
-/// The file of interfaces and the position that the words name. `clap` has refused words that lack the file.
+/// The file of interfaces and the position that the arguments name. `clap` has refused arguments that lack the file.
 fn words_of<'a>(matches: &ArgMatches<'a>) -> Option<(&'a str, u32)>
     ensures { IfSome result (λ said. IsPosition (position_text (subcommand_rows_of matches.now)) said.1) }
 {
@@ -59,7 +59,7 @@ fn words_of<'a>(matches: &ArgMatches<'a>) -> Option<(&'a str, u32)>
     }
 }
 
-/// The members that the words name, none where they are no members of a cluster.
+/// The members that the arguments name, none where they are no members of a cluster.
 fn members_of(alloc: Global, matches: &ArgMatches<'_>) -> Result<Option<Vec<Member>>, AllocError>
     ensures { IfOk result (λ o. option_map (λ v. v.items) o ≡ named_in (subcommand_rows_of matches.now)) }
 {
@@ -131,8 +131,8 @@ fn answer<R: Read, W: Write>(
 }
 
 /// What the arguments `check --nft --interfaces FILE [--members ADDRESS:PORT..]` ask for, the program's name first,
-/// with the input and the output that are lent: the text's rules behind the guard of these members as three lines for
-/// nft(8), or a refusal. Other words are refused.
+/// over this input and output: the ruleset's rules behind the guard of these members as three lines for nft(8), or a
+/// refusal. Other arguments are refused.
 pub fn run_nft<S: AsStr, R: Read, W: Write>(
     rt: &HostRuntime,
     alloc: Global,

@@ -1,4 +1,4 @@
-//! The words `check --nft`, as `clap` reads them.
+//! The arguments `check --nft`, as `clap` reads them.
 
 ghost use Rattle.std.specs.Prelude.{◌≡◌, IfOk, false, codes};
 ghost use Rattle.clap.specs.Words.{app_of, rule_of};
@@ -68,7 +68,7 @@ fn check_command<'a>(alloc: Global) -> Result<Command<'a>, AllocError>
     with_option(command, position(alloc))
 }
 
-/// The program with this word.
+/// The program with this subcommand.
 pub(crate) fn command<'a>(alloc: Global) -> Result<Command<'a>, AllocError>
     ensures { IfOk result (λ c. app_of c ≡ nft_app) }
 {

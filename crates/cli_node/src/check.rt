@@ -170,7 +170,7 @@ fn of_found<RT: Files + Eprint, I: Inspection>(
     }
 }
 
-/// What is refused of the store that the arguments name, where this was found; none: memory ran out.
+/// What is refused of the store that the arguments name, where this was found; none when out of memory.
 #[tactic(auto, using(crate::proofs::Stores::by_memory))]
 fn of_store<RT: Files + Eprint, I: Inspection>(
     rt: &RT,

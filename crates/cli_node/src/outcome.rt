@@ -34,7 +34,7 @@ pub(crate) enum Outcome {
     Sound,
     /// A key's file is made.
     Made,
-    /// Memory ran out.
+    /// Out of memory.
     Memory,
     /// The input, or the system's random source, couldn't be read.
     Unread,
@@ -131,7 +131,7 @@ pub(crate) fn write_outcome<W: Write>(alloc: Global, outcome: Outcome, writer: &
     }
 }
 
-/// What a refusal with this number is shown as; without one, that memory ran out.
+/// What a refusal with this number is shown as; without one, that it was out of memory.
 pub(crate) fn numbered(code: Option<u8>) -> Outcome
     ensures { result ≡ numbered code }
 {

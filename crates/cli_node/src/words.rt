@@ -103,7 +103,7 @@ fn large<'a>(alloc: Global, name: &'a str, help: &'a str) -> Arg<'a>
     text(alloc, name, help).value_parser(value_parser!(u32))
 }
 
-/// Adds an option, which is missing if memory ran out.
+/// Adds an option, which is missing if out of memory.
 fn with_made<'a>(
     command: Command<'a>,
     arg: Result<Arg<'a>, AllocError>,
@@ -315,7 +315,7 @@ fn key_command<'a>(alloc: Global) -> Result<Command<'a>, AllocError> {
     with_option(key, file)
 }
 
-/// Adds a subcommand, which is missing if memory ran out.
+/// Adds a subcommand, which is missing if out of memory.
 fn with_word<'a>(
     command: Command<'a>,
     word: Result<Command<'a>, AllocError>,

@@ -42,7 +42,7 @@ shows_record {R} {G} given back n w s was stands learned applied configured is s
       };
     }
 
--- where memory runs out it is given back as it was too
+-- when out of memory it is given back as it was too
 pub not_shown : {R : Type 0} {G : Ghosts R} (members : ℕ) (given back : R) (n : Node R G) →
     (G.is_honest (records_of n) → G.is_honest given) →
     (G.is_honest (records_of n) → state_in n ≡ started (G.stored given)) →

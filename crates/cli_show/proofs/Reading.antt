@@ -46,7 +46,7 @@ begins_again old new began same = record {
   auto = same.auto;
 }
 
--- what is shown of the record that was taken is shown of the rows that stood there
+-- what is shown of the record that was taken is shown of the rows that were there
 pub shows_store : {R : Type 0} {G : Ghosts R} {E : Type 0} (given came : State) (adopted back : R) (w : Wanted) (s : Shown)
     (answer : Result Shown E) →
     (HasCleanDisk came → Began Three given → IsSame given came) →

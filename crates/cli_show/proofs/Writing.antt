@@ -1,4 +1,4 @@
--- What is wrong with the words is written without an outcome.
+-- What is wrong with the arguments is written without an outcome.
 use Rattle.std.proofs.Common.{List, ℕ, Option, None}
 use Rattle.cli_io.specs.declared.status.Status.{Status}
 use Rattle.cli_io.specs.declared.status.Status.TheVariants.{Done, Refused, Usage, Memory, Failed}

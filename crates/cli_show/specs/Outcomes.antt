@@ -19,7 +19,7 @@ abbrev pub status_of : Bool → Status
 status_of true = status.Refused
 status_of false = status.Done
 
--- how a run ends that comes to it
+-- how a run with this outcome ends
 abbrev pub ending : Outcome → Status
 ending (Shown s) = status_of s.refused
 ending (Refused code) = status.Refused
@@ -32,7 +32,7 @@ Wrote status.Failed outcome old new =
     AppendsFront old new (line (codes "memory")) ⊎ AppendsFront old new (text_of outcome)
 Wrote ended outcome old new = (ended ≡ ending outcome) × Appends old new (text_of outcome)
 
--- a run that came to an outcome wrote it; without one the words weren't understood, or memory ran out
+-- a run with an outcome wrote it; without one the arguments weren't understood, or it was out of memory
 abbrev pub Ran : Status → Option Outcome → Option (List ℕ) → Option (List ℕ) → Type 0
 Ran ended (Some outcome) old new = Wrote ended outcome old new
 Ran status.Done None old new = ⊥

@@ -46,13 +46,13 @@ pub record ShowsRecord {R : Type 0} (G : Ghosts R) (given back : R) (w : Wanted)
   pub same : G.stored back ≡ G.stored given
   pub shows : ShowsLog (G.stored given).learned w s
 
--- memory ran out, over a record that is given back as it was
+-- out of memory, over a record that is given back as it was
 pub record MemoryRanOut {R : Type 0} (G : Ghosts R) (given : R) (e : NodeFault) (back : R) : Type 0 where
   pub memory : e ≡ fault.Memory
   pub was : G.is_honest back → G.is_honest given
   pub same : G.is_honest back → G.stored back ≡ G.stored given
 
--- Nothing is shown: memory ran out, or the record doesn't open, as that of a node.
+-- Nothing is shown: out of memory, or the record doesn't open, as that of a node.
 -- Example: 72 comes of a bad row and of nothing else.
 abbrev pub IsRefused : {R : Type 0} → (G : Ghosts R) → (members : ℕ) → (given : R) → NodeFault → (back : R) → Type 0
 IsRefused G members given e back = MemoryRanOut G given e back ⊎ OpenRefused G members given e back

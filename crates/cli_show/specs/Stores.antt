@@ -29,14 +29,14 @@ use Rattle.cli_show.specs.declared.shown.Wanted.{Wanted}
 use Rattle.cli_show.specs.declared.store.Closed.{Closed}
 use Rattle.cli_show.specs.declared.store.Closed.TheVariants as closed
 
--- The record that is given back is that of the rows that stood there, and this is shown of its log.
+-- The record that is given back is that of the rows that were there, and this is shown of its log.
 pub record ShowsStore {R : Type 0} (G : Ghosts R) (given : State) (back : R) (w : Wanted) (s : Shown) : Type 0 where
   pub same : G.stored back ≡ record_in given.now.trees
   pub shows : ShowsLog (record_in given.now.trees).learned w s
 
 -- ---- refusals
 
--- what the number of a refusal gives; without one memory ran out
+-- what the number of a refusal gives; without one it was out of memory
 abbrev pub closed_by : (code : Option ℕ) → Closed
 closed_by None = closed.Memory
 closed_by (Some code) = closed.Refused code

@@ -12,7 +12,7 @@ use std::alloc::{AllocError, Global};
 /// The most positions.
 const POSITIONS: u64 = 1_000_000;
 
-/// What help says of each option, and below them.
+/// The help of each option, and the text below the options.
 const STORE: &str = "The file of a node's record, which no node has open; it isn't changed";
 
 const NFT: &str = "The configuration as nft(8) loads it, three lines";
@@ -36,7 +36,7 @@ What is shown is of the configuration after the learned positions up to the firs
 A refusal is refused CODE: 70 no store, or one in use, 72 a bad row, 73 another format, 40 words that don't go together,
 20, 24, 30, 1 to 3 as for ctl, 87 to 89 as for check --nft, 91 no script gives the configuration.";
 
-/// `show --store FILE [--nft --interfaces FILE] [--pf] [--script] [--from P] [--count N]`, and pfctl's words.
+/// `show --store FILE [--nft --interfaces FILE] [--pf] [--script] [--from P] [--count N]`, and pfctl's arguments.
 fn show_command<'a>(alloc: Global) -> Result<Command<'a>, AllocError>
     ensures local { IfOk result (λ c. (out-Command c).has_globals ≡ false) }
 {
@@ -55,7 +55,7 @@ fn show_command<'a>(alloc: Global) -> Result<Command<'a>, AllocError>
     pfctl_args(alloc, command)
 }
 
-/// The program's words with `show`.
+/// The program's arguments with `show`.
 pub(crate) fn command<'a>(alloc: Global) -> Result<Command<'a>, AllocError> {
     let show = show_command(alloc)?;
     let command = Command::new(alloc, "pfx").subcommand(show)?;

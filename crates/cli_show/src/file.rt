@@ -78,7 +78,7 @@ pub(crate) trait Databases {
 }
 
 impl Databases for HostRuntime {
-    // no contract says what is in the file at a path
+    // no contract states what is in the file at a path
     ghost holds = { λ _ _ _ _. ⊤ };
 
     ghost refuses = { λ _ _ _. ⊤ };

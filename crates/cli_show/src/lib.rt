@@ -23,7 +23,7 @@
 //! - **A script and rulesets are checked, not proved to give the configuration.** What is written of it is done by the
 //!   definition of `ctl` on an empty one, and the two are compared; what doesn't give the same is not shown. It costs a
 //!   replay.
-//! - Main's load stands last in a script, since a load takes away each table that no rule names: the rules of the
+//! - Main's load is last in a script, since a load removes each table that no rule names: the rules of the
 //!   other paths have to be there.
 #![tactic(auto)]
 

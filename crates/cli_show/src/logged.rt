@@ -11,7 +11,7 @@ use pf_node::Node;
 use px_records::Records;
 use std::alloc::{AllocError, Global};
 
-/// How many lines are shown where neither a position nor a number is said.
+/// How many lines are shown where neither a position nor a number is given.
 const LAST_LINES: u32 = 20;
 
 /// The first position whose line is shown.
@@ -37,8 +37,8 @@ fn end_of(applied: u32, first: u32, count: Option<u32>) -> u32
     }
 }
 
-/// The lines of the log from a position on, and that many at most; without a position the last ones, 20 if it isn't
-/// said how many.
+/// The lines of the log from a position on, and that many at most; without a position the last ones, 20 if no count is
+/// given.
 pub(crate) fn show_log<R: Records>(
     alloc: Global,
     node: &Node<R>,

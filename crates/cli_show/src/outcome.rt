@@ -16,7 +16,7 @@ pub(crate) enum Outcome {
     Shown(Shown),
     /// The number of the refusal.
     Refused(u8),
-    /// Memory ran out.
+    /// Out of memory.
     Memory,
 }
 

@@ -22,7 +22,7 @@ const TABLES: usize = 4;
 /// The number of that format.
 const FORMAT: u64 = 3;
 
-/// Why a value isn't read: memory ran out, or it is no number.
+/// Why a value isn't read: out of memory, or it is no number.
 fn closed_for_value(error: &Error) -> Closed
     ensures why { (result ≡ Closed.Memory) ⊎ (result ≡ Closed.Refused 72) }
     ensures bad { result ≡ Closed.Refused 72 → error.now ≢ Error.SqliteFailure ErrorCode.OutOfMemory }

@@ -47,7 +47,7 @@ fn nft_outcome<RT: Databases + Files>(
     }
 }
 
-/// The lines of the log that the words ask for.
+/// The lines of the log that the arguments ask for.
 fn log_outcome<D: Databases>(
     dbs: &D,
     alloc: Global,
@@ -83,7 +83,7 @@ fn listing_outcome<D: Databases>(
     }
 }
 
-/// What the words give.
+/// What the arguments give.
 fn outcome_of<RT: Databases + Files>(rt: &RT, alloc: Global, matches: &ArgMatches<'_>) -> Outcome {
     let (Some(store), Some(kind)) = (matches.get_str("store"), kind_of(matches)) else {
         return Outcome::Refused(40);
@@ -101,7 +101,7 @@ fn outcome_of<RT: Databases + Files>(rt: &RT, alloc: Global, matches: &ArgMatche
 
 /// What the subcommand `show` asks for, the program's name first: what a node's store holds, which no node has open and
 /// which isn't changed. It is written as `show_store` has it, or `refused CODE`: the numbers of
-/// [`Closed`](crate::Closed), or 40 for words that don't go together. Other words are refused.
+/// [`Closed`](crate::Closed), or 40 for arguments that don't go together. Other arguments are refused.
 pub fn run_show<S: AsStr, W: Write>(
     rt: &HostRuntime,
     alloc: Global,

@@ -59,7 +59,7 @@ pub fn show_node<R: Records>(
 /// What is shown of the record that is there, as of a node that opens it: of the configuration after the first
 /// learned entries, up to the first gap. The record is given back as it was.
 ///
-/// `Store` and `BadStore` are as for [`Node::open`], `Memory` where memory runs out; but for `Store` the record is then
+/// `Store` and `BadStore` are as for [`Node::open`], `Memory` when out of memory; but for `Store` the record is then
 /// as it was.
 #[tactic(auto, using(crate::proofs::Opened::shows_record, crate::proofs::Opened::not_shown, crate::proofs::Opened::was_before, crate::proofs::Opened::leaves_less))]
 pub fn show_record<R: Records>(

@@ -1,16 +1,16 @@
-//! What is wanted of a record, and what is shown.
+//! What is to be shown of a record, and what is shown.
 
 use pf_arguments::Action;
 
-/// What is wanted of a record.
+/// What is to be shown of a record.
 #[derive(Clone, Copy)]
 pub enum Wanted<'a> {
     /// What an action lists (pfctl(8), `-s` and `-T`).
     Listing(&'a Action),
     /// The verdicts for packets.
     Packets(&'a [&'a str]),
-    /// Lines of the log: from a position on, and that many at most. Without a position the last ones, 20 if it isn't
-    /// said how many.
+    /// Lines of the log: from a position on, and that many at most. Without a position the last ones, 20 if no count is
+    /// given.
     Log {
         from: Option<u32>,
         count: Option<u32>,

@@ -30,7 +30,7 @@ pub enum Closed {
     Refused(u8),
 }
 
-/// What the number of a refusal gives; without one memory ran out.
+/// What the number of a refusal gives; without one it was out of memory.
 fn closed_by(code: Option<u8>) -> Closed
     ensures { result ≡ closed_by code }
 {

@@ -1,4 +1,4 @@
-//! What the words ask for.
+//! What the arguments ask for.
 
 use clap::ArgMatches;
 use cli_io::values_in;
@@ -22,7 +22,7 @@ pub(crate) enum Kind {
     Figures,
 }
 
-/// The words behind the options, none where there are none.
+/// The arguments behind the options, none where there are none.
 pub(crate) fn rest_of<'m, 'a>(matches: &'m ArgMatches<'a>) -> &'m [&'a str] {
     values_in(matches, "address")
 }
@@ -35,7 +35,7 @@ fn has_listing(matches: &ArgMatches<'_>) -> bool {
         || matches.get_flag("check")
 }
 
-/// What the matches ask for; none where words don't go together.
+/// What the matches ask for; none where arguments don't go together.
 pub(crate) fn kind_of(matches: &ArgMatches<'_>) -> Option<Kind> {
     let rest = rest_of(matches);
     let is_plain = !has_listing(matches);

@@ -1,7 +1,7 @@
-//! What `pfx check` and `pfx test` answer of the rules on standard input: without words the rules as they are
-//! understood, with packets in the words a verdict for each, a line each. What is refused is `refused` and its number,
-//! with the line where a ruleset is at fault; that ends the program with 1, as does out of memory. It links what judges
-//! a packet and nothing else, so it is tried soon after a clone; `pfx` says more, and is what runs.
+//! What `pfx check` and `pfx test` answer for the rules on standard input: without arguments the rules as they are
+//! understood, with packets as arguments a verdict for each, a line each. What is refused is `refused` and its number,
+//! with the line where a ruleset is at fault; that ends the program with 1, as does out of memory. It links what
+//! evaluates a packet and nothing else, so it is tried soon after a clone; `pfx` prints more, and is what runs.
 #![tactic(auto)]
 
 use pf_config::Config;
@@ -18,7 +18,7 @@ enum Fault {
     Text(u8, u64),
     /// The load or a packet is refused with this number.
     Refused(u8),
-    /// Memory is wanting, or what is read or written failed.
+    /// Out of memory, or what is read or written failed.
     Failed,
 }
 
@@ -58,7 +58,7 @@ fn tell_rules(rt: &HostRuntime, rules: &Ruleset) -> Result<(), Fault> {
     }
 }
 
-/// Writes the verdict for the packet that a word spells.
+/// Writes the verdict for the packet that an argument spells.
 fn tell_verdict(rt: &HostRuntime, config: &Config, word: &str) -> Result<(), Fault> {
     let packet = match parse_packet(rt.alloc(), word) {
         Ok(packet) => packet,
@@ -78,7 +78,7 @@ fn words_of(rt: &HostRuntime) -> io::Result<Vec<String>> {
     Ok(std::env::args(rt)?.collect(rt.alloc())?)
 }
 
-/// Writes what the words ask of the rules on standard input.
+/// Writes what the arguments ask of the rules on standard input.
 fn run(rt: &HostRuntime) -> Result<(), Fault> {
     let Ok(words) = words_of(rt) else {
         return Err(Fault::Failed);

@@ -12,7 +12,7 @@
 -- | `FoundSets` | the set of a table is found by its name |
 -- | `Targeted` | the chains to which an anchor rule leads |
 -- | `Depths` | anchor rules nest less than 10 deep, so nothing depends on how deep jumps may nest from there on |
--- | `Running` | the rendered ruleset decides what the two walks come to |
+-- | `Running` | the rendered ruleset decides what the two walks give |
 -- | `Guarded` | the guard's rules accept exactly the members' packets, by the families of a packet's ends; so at a hook with the guard in front a ruleset that decides as judged decides so of every other packet (`decides_behind`) |
 -- | `Refused` | what is refused by 87 and by 88 |
 pub mod Cutting

@@ -1,4 +1,4 @@
--- The rendered ruleset decides what the two walks come to.
+-- The rendered ruleset decides what the two walks give.
 use Rattle.std.proofs.Common.{◌≡◌, ℕ, zero, suc, ◌+◌, Bool, true, false, ◌&&◌, ◌||◌, List, [], ◌∷◌, ◌++◌, map, length, reverse, Option, Some, None, option_map, refl, sym, ap, ◌∙◌}
 use Rattle.std.specs.Prelude.{not, nat_le, find, filter, if◌then◌else◌}
 use Rattle.std.specs.List.{list_any, list_all}
@@ -103,7 +103,7 @@ run_jumps sets k jumped (x ∷ xs) ns =
     ∙ ap (or_else (if choice_holds sets k x then first_chain jumped ns else None)) (run_jumps sets k jumped xs ns)
     ∙ again (choice_holds sets k x) (any_holds sets k xs) (first_chain jumped ns)
 
--- ---- what a walk comes to, as a decision
+-- ---- what a walk gives, as a decision
 
 abbrev pub decided : PfSpot → Decision
 decided s = record { outcome = outcome_of s.action; note = Spot s.path s.index }
@@ -189,7 +189,7 @@ backward_found c m d p =
 
 -- ---- what an anchor rule evaluates
 
--- a chain decides what the walk comes to at its path
+-- a chain decides what the walk gives at its path
 abbrev Decides : Pass → (ChainName → Option Decision) → (Path → Option PfSpot) → Type 0
 Decides pass jumped walk = (q : Path) → jumped (At pass q) ≡ decided_in (walk q)
 

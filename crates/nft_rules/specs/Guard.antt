@@ -65,7 +65,7 @@ is_datagram ms h =
 abbrev pub is_fragment : List Member → HookPacket → Bool
 is_fragment ms h = is_udp h.packet && h.is_later && is_home ms h.packet.source && is_home ms h.packet.destination
 
--- it says that a packet was too big: in IPv4 that it would have to be fragmented (RFC 792; RFC 4443, 3.2)
+-- it reports that a packet was too big: in IPv4 that it would have to be fragmented (RFC 792; RFC 4443, 3.2)
 abbrev pub says_too_big : Family → HookPacket → Bool
 says_too_big Inet h = if_there (λ n. n == 3) h.packet.icmp_type && if_there (λ n. n == 4) h.icmp_code
 says_too_big Inet6 h = if_there (λ n. n == 2) h.icmp6_type

@@ -45,12 +45,12 @@ unless_costly r = if is_costly r then Err Costly else Ok r
 unfoldable pub render : Configuration → Machine → Direction → Result NftRuleset RenderFault
 render c m d = if some_leads_back c then Err LeadsBack else unless_costly (rendered c m d)
 
--- what a call answers: this, or that memory was refused
+-- what a call answers: this, or out of memory
 abbrev pub Renders : {R S : Type 0} → (R → S) → Result R RenderFault → Result S RenderFault → Type 0
 Renders seen (Ok r) answer = answer ≡ Ok (seen r)
 Renders seen (Err fault) answer = (fault ≡ Memory) ⊎ (answer ≡ Err fault)
 
--- the number of a refusal; none for lack of memory
+-- the number of a refusal; none when out of memory
 abbrev pub fault_code : RenderFault → Option ℕ
 fault_code LeadsBack = Some 87
 fault_code Costly = Some 88

@@ -322,7 +322,7 @@ abbrev pub backward_chain : Configuration → Machine → Direction → Path →
 backward_chain c m d p =
     record { name = At Backward p; rules = backward_rules (backward_rule c m d p) 0 (rules_at c p) }
 
--- a packet stands on no interface of the list; of an empty list nothing is asked
+-- a packet is on no interface of the list; for an empty list there is no match
 abbrev pub unknown_matches : List Name → List Match
 unknown_matches [] = []
 unknown_matches (n ∷ ns) = OnInterface (n ∷ ns) true ∷ []
@@ -388,7 +388,7 @@ rendered c m d = record { sets = sets_of c; chains = chains_of c m d }
 
 -- ---- what it decides
 
--- what a judgement is in its words
+-- a judgement as a decision: its outcome and its note
 abbrev pub decision_of : pf.Judgement → Decision
 decision_of pf.Skipped = record { outcome = Accept; note = Skip }
 decision_of (pf.Decided None) = record { outcome = Accept; note = Default }

@@ -72,7 +72,7 @@ pub data ChainName : Type 0 where
   Base : ChainName
   At : (pass : Pass) (path : Path) → ChainName
 
--- what a rule's counter and comment say
+-- what a rule's counter and comment are for
 -- Example: reject with x@3.
 pub data Note : Type 0 where
   -- a packet on an interface that the machine's list lacks

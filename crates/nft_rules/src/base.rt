@@ -17,7 +17,7 @@ use pf_rules::InterfaceName;
 use std::alloc::{AllocError, Global};
 use std::rc::Rc;
 
-/// A packet that stands on none of these interfaces.
+/// A packet that is on none of these interfaces.
 fn unknown_matches<'c>(
     alloc: Global,
     names: Vec<InterfaceName>,

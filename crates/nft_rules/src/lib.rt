@@ -15,9 +15,9 @@
 //! - The rules of a path are in two chains: in one, forwards, what may end the evaluation, that is quick rules and
 //!   the jumps of anchor rules; in the other, the last one first, the rules that aren't quick and the jumps again.
 //!   The first rule that decides a packet is then the one that decides its verdict. Of a quick anchor rule both
-//!   jumps stand forwards.
+//!   jumps are forwards.
 //! - Where a rule's conditions hold in several ways, of TCP or of UDP, of either family, of TCP by its flags or of
-//!   what isn't TCP, a rule stands for each.
+//!   what isn't TCP, there is a rule for each.
 //! - nftables knows no groups of interfaces, nor names without their digits. So a ruleset is one for a machine, and
 //!   a rule's interface is written as the names of those of the machine's interfaces that it means. A packet on an
 //!   interface that isn't listed is dropped.
@@ -25,14 +25,14 @@
 //!   begins or has ended, so one question at each cut gives the intervals.
 //! - An ICMP type is asked as the first byte of the transport header (`@th,0,8`) behind `meta l4proto 1`, since
 //!   `icmp type` asks for IPv4 too.
-//! - A jump stands only where the target has rules. A configuration in which an anchor rule's target is its own
+//! - There is a jump only where the target has rules. A configuration in which an anchor rule's target is its own
 //!   anchor isn't rendered (87): nftables refuses the loop.
 //! - What is limited (88) is what one packet may be asked of from the hook on, 100,000 rules, not the ruleset's
 //!   size.
 //! - Every interval is written `low-high`, single addresses too. A comment leaves out a path of more than some 110
 //!   bytes.
 //! - One rule in front accepts whatever is part of a state, where any rule keeps state; so `no state` on one rule
-//!   means nothing while another keeps state. Marks on connections would tell them apart.
+//!   has no effect while another keeps state. Marks on connections would distinguish them.
 //! - The members' guard has rules of its own with a definition of its own (`guard_holds`), since it asks for
 //!   fragments, hop limits and ICMPv6 types, which no pf rule can and no packet of `pf_eval` has. Its law is of
 //!   whatever is behind it.

@@ -37,7 +37,7 @@ pub enum RenderFault {
 }
 
 impl RenderFault {
-    /// The number of the refusal; none for lack of memory.
+    /// The number of the refusal; none when out of memory.
     pub fn code(self) -> Option<u8>
         ensures { result ≡ fault_code self }
     {

@@ -10,7 +10,7 @@ use crate::alternative::{Alternative, Protocol, push_matches};
 use crate::subset::{ChainName, Match, NftRule, Statement};
 use std::alloc::{AllocError, Global};
 
-/// The matches as a rule has them: the family and the protocol stand first.
+/// The matches as a rule has them: the family and the protocol are first.
 fn matches_of<'c>(
     alloc: Global,
     alternative: &Alternative<'c>,

@@ -171,7 +171,7 @@ pub enum ChainName<'c> {
     At { pass: Pass, path: &'c [Name] },
 }
 
-/// What a rule's counter and comment say.
+/// What a rule's counter and comment are for.
 #[derive(Clone, Copy)]
 pub enum Note<'c> {
     /// A packet on an interface that the machine's list lacks.

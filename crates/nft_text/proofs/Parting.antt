@@ -1,4 +1,4 @@
--- A chain's rules in two parts, and what else a ruleset says by cases.
+-- A chain's rules in two parts, and what else in a ruleset is by cases.
 use Rattle.std.proofs.Common.{◌≡◌, ℕ, zero, suc, List, [], ◌∷◌, ◌++◌, map, take, drop, refl, ap}
 use Rattle.std.specs.Prelude.{codes}
 use Rattle.std.specs.List.{flat_map}

@@ -1,4 +1,4 @@
--- A ruleset of nftables as the lines that nft(8) loads, a line a transaction. Each word but the last is followed by a
+-- A ruleset of nftables as the lines that nft(8) loads, a line a transaction. Each token but the last is followed by a
 -- blank, each statement by a semicolon; lists may end with a comma.
 use Rattle.std.specs.Prelude.{ℕ, ◌+◌, ◌-◌, Bool, true, false, ◌&&◌, List, [], ◌∷◌, ◌++◌, codes, decimal}
 use Rattle.std.specs.Prelude.{length, take, drop, nat_lt, nat_le, if◌then◌else◌}
@@ -79,22 +79,22 @@ place_text position r f (InSet name) = codes "@" ++ set_label position r name
 abbrev pub quoted : Name → List ℕ
 quoted name = codes "\"" ++ (name ++ codes "\", ")
 
--- the word for a packet's interface: iifname of packets in, oifname of packets out
+-- the keyword for a packet's interface: iifname of packets in, oifname of packets out
 abbrev pub interface_text : Direction → List ℕ
 interface_text In = codes "iifname "
 interface_text Out = codes "oifname "
 
--- the word for the header in which a family's addresses stand
+-- the keyword for the header that has a family's addresses
 abbrev pub family_text : Family → List ℕ
 family_text Inet = codes "ip "
 family_text Inet6 = codes "ip6 "
 
--- the word for the address of an end
+-- the keyword for the address of an end
 abbrev pub address_text : Side → List ℕ
 address_text Source = codes "saddr "
 address_text Destination = codes "daddr "
 
--- the words for the port of an end, of TCP or UDP
+-- the keywords for the port of an end, of TCP or UDP
 -- Example: th dport.
 abbrev pub port_text : Side → List ℕ
 port_text Source = codes "th sport "
@@ -201,7 +201,7 @@ abbrev pub front_text : ℕ → Bool → ChainName → List ℕ
 front_text position keeps Base = codes "jump " ++ (generation position ++ (codes "guard; " ++ states_text keeps))
 front_text position keeps (At pass path) = []
 
--- the rules of a chain; behind those for the interface alone stands what the hook's chain has there
+-- the rules of a chain; behind those for the interface alone is what the hook's chain has there
 abbrev pub rules_text : ℕ → Bool → Direction → NftRuleset → Chain → List ℕ
 rules_text position keeps d r c =
     flat_map (rule_text position d r) (take (first_rules c.rules) c.rules)
@@ -246,17 +246,17 @@ end_text false port = codes ", "
 abbrev pub member_text : (ports : Bool) → Family → Member → List ℕ
 member_text ports f m = if of_family m.address f then shown_addr m.address ++ end_text ports m.port else []
 
--- the word for the port of an end, of UDP
+-- the keywords for the port of an end, of UDP
 abbrev pub udp_text : Side → List ℕ
 udp_text Source = codes ". udp sport "
 udp_text Destination = codes ". udp dport "
 
--- the words for a later fragment (RFC 791, 3.1; RFC 8200, 4.5)
+-- the match of a later fragment (RFC 791, 3.1; RFC 8200, 4.5)
 abbrev pub later_text : Family → List ℕ
 later_text Inet = codes "ip frag-off & 0x1fff != 0 "
 later_text Inet6 = codes "frag frag-off != 0 "
 
--- the words for what says that a packet was too big
+-- the match of a report that a packet was too big
 abbrev pub too_big_text : Family → List ℕ
 too_big_text Inet = codes "icmp type destination-unreachable icmp code frag-needed "
 too_big_text Inet6 = codes "icmpv6 type packet-too-big "

@@ -67,7 +67,7 @@ impl fmt::Display for HeadersText {
     }
 }
 
-/// The chain that drops what can't be judged for want of a header.
+/// The chain that drops what can't be judged since a header is missing.
 #[derive(Clone, Copy)]
 struct GuardText(u32);
 
@@ -302,7 +302,7 @@ impl fmt::Display for GoneLine<'_, '_> {
 /// nothing refers yet; all rules in place of those before; and, for later, the end of this position's sets and chains,
 /// once another position's rules have come. A position's names are its own: no two rulesets are loaded under one
 /// position; behind another members' guard its sets are the same. Where a rule keeps state, what belongs to a
-/// connection passes. Before all else at the hooks stands the guard of these members, if there are any. A growth that
+/// connection passes. Before all else at the hooks is the guard of these members, if there are any. A growth that
 /// is refused is the error.
 #[tactic(auto, unfolding(crate::specs::Texts::lines))]
 pub fn lines<'r, 'c>(

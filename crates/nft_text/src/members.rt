@@ -103,7 +103,7 @@ fn later_text(family: Family) -> &'static str
     }
 }
 
-/// What asks whether it says that a packet was too big.
+/// The match of a report that a packet was too big.
 fn too_big_text(family: Family) -> &'static str
     ensures { result.now ≡ too_big_text family }
 {
@@ -220,7 +220,7 @@ impl fmt::Display for FragmentText<'_> {
     }
 }
 
-/// The rule for what says that one was too big.
+/// The rule for reports that a packet was too big.
 #[derive(Clone, Copy)]
 struct TooBigText<'m> {
     family: Family,

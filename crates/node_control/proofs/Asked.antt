@@ -102,7 +102,7 @@ pub figures_then : {R : Type 0} {G : Ghosts R} (c d e : HttpService R G) → Ser
 figures_then c d e a b =
     record { still = λ h. b.still (a.scraped ∙ h) ∙ a.still h; scraped = b.scraped ∙ a.scraped }
 
--- ---- what the loop says of the node
+-- ---- what the loop reports of the node
 
 same_counters : (t u : Counters) → u ≡ t → AreKept t u
 same_counters t u e = record {

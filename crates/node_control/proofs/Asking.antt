@@ -56,7 +56,7 @@ figures_chained {R} {G} answers are c d [] e =
 figures_chained answers are c d (k ∷ calls) (next, one, rest) =
     figures_then c next d (are c next k.0 k.1 one) (figures_chained answers are next d calls rest)
 
--- and what the loop says of the node
+-- and what the loop reports of the node
 pub kept_chained : {R : Type 0} {G : Ghosts R} (answers : HttpService R G → Request (List ℕ) → Response → HttpService R G → Type 0) →
     ((c d : HttpService R G) (q : Request (List ℕ)) (r : Response) → answers c q r d → IsKept c d) →
     (c d : HttpService R G) (calls : List Call) → Chain answers c calls d → IsKept c d

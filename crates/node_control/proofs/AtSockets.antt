@@ -44,7 +44,7 @@ abbrev AllRanSealed : (g : Group) (keys : List (List ℕ)) (s : Sealer) (m : ℕ
 AllRanSealed g keys s m first es trace end unanswered =
     (r : RanSealed g keys s m first es trace end unanswered) × (r.ran.ran.lost ≡ [])
 
--- what a run lived, a member ran
+-- the trace of a run is that of a member that ran
 ran : {R : Type 0} (G : Ghosts R) (m : Membership) (given back : R) (es : List WireEvent) (l : LivedOver G m given back [] es) →
     AllRan (group m) m.me (G.stored given) es (trace_of l.moves) l.then (given_in l.last)
 ran G m given back es l = (
@@ -64,7 +64,7 @@ ran G m given back es l = (
   refl,
 )
 
--- nothing happened to it
+-- it has no events
 idle : (g : Group) (m : ℕ) (first : Record Bytes) (es : List WireEvent) → es ≡ [] → AllRan g m first es [] (started first) []
 idle g m first es none = (
   record {
@@ -83,12 +83,12 @@ idle g m first es none = (
   refl,
 )
 
--- while no call on a record has failed, a stop leaves it as it stands
+-- while no call on a record has failed, a stop leaves it as it is
 abbrev pub Settles : {R : Type 0} → Ghosts R → Type 0
 Settles {R} G =
     (r : R) → G.is_honest r → G.failed r ≡ 0 → (d : Record Bytes) → G.may_leave r d → d ≡ G.stored r
 
--- a run over a record, over some wire: what happened to the member, and how its record stands
+-- a run over a record, over some wire: the member's trace, and its record
 record RunsOver {R : Type 0} (G : Ghosts R) (m : Membership) (hears : Bool) (given back : R) (es : List WireEvent) : Type 0 where
   pub trace : List TraceEvent
   pub end : NodeState Bytes

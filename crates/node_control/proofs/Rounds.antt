@@ -124,7 +124,7 @@ some_control (Err f) e is none = cc
 
 -- ---- how it ends
 
--- whoever ends a run asked for that
+-- a client that ends a run asked for that
 pub ending_stops : (b : Bool) (control : Option ControlSocket) → is_ending b control ≡ true → b ≡ true
 ending_stops true control e = refl
 ending_stops false None e = e

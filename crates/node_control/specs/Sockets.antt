@@ -1,4 +1,4 @@
--- A member's run at its socket: what happened to it, and what went over the socket meanwhile.
+-- A member's run at its socket: its trace, and what went over the socket meanwhile.
 use Rattle.std.specs.Prelude.{◌≡◌, ℕ, Bool, true, false, List, [], ◌++◌}
 use Rattle.std.specs.List.{AllByRecursion}
 use Rattle.px_model.specs.Node.{Record}
@@ -21,13 +21,13 @@ use Rattle.node_udp.specs.Sockets as sockets
 use Rattle.node_udp.specs.Sockets.{SocketEvent, Passage, IsSound}
 use Rattle.node_udp.specs.declared.address.Address.{Address}
 
--- A member of the group ran from this record on; this happened to it, and it stands so then. This went over its wire:
--- its moves, and then, where a call failed, what came for that call and after it, and what was handed over again. Of
--- what was to be handed over, the end may be lost; of what was given, nothing is.
+-- A member of the group ran from this record: this is its trace, and this its state at the end. Over its wire went its
+-- moves, and then, where a call failed, what came for that call and after it, and what was handed over again. Of what
+-- was to be handed over, the end may be lost; of what was given, nothing is.
 -- So a run that is killed is one, too, wherever that happens. If it was in a call, what came for the call is
 -- unanswered, and it left of the record what a stop may leave. If it was after a call, before all that this sends was
--- handed over, the rest is lost. Each layer below is what happened there so far, step by step, so a front of it is one:
--- a datagram of which some packets were put is taken, and its other packets are no steps; one that the wire wasn't
+-- handed over, the rest is lost. Each layer below is a list of steps up to then, so a prefix of it is one: a datagram
+-- of which some packets were put is taken, and its other packets are no steps; one that the wire wasn't
 -- handed yet is lost here; and what the wire kept of the member's own is what it keeps then. A packet that came when
 -- nothing was made of it yet is given, and unanswered.
 pub record Ran (g : Group) (m : ℕ) (first : Record Bytes) (events : List WireEvent) (trace : List TraceEvent)
@@ -78,8 +78,8 @@ pub record RanSealed (g : Group) (keys : List (List ℕ)) (s : Sealer) (m : ℕ)
   pub are : AreSteps keys s made []
   pub ran : RanAbove g m first (steps.above_in made) trace end unanswered
 
--- How the member's record stands after what happened to it: so, unless a call on it failed; and whatever a stop leaves
--- of it is that, or that with the change of one step more.
+-- The member's record after its trace: it is that of the end, unless a call on it failed; and what a stop leaves of it
+-- is that, or that with the change of one step more.
 pub record Leaves {R : Type 0} (G : Ghosts R) (m : Membership) (back : R) (end : NodeState Bytes)
     (unanswered : List Bytes) : Type 0 where
   pub stays : G.failed back ≡ 0 → G.stored back ≡ end.stored

@@ -55,7 +55,7 @@ pub(crate) enum Look {
     Left,
 }
 
-/// Whether the fault says that nothing can be done now.
+/// Whether the error is that nothing can be read or written now.
 fn is_waiting(error: &io::Error) -> bool {
     error.kind() == ErrorKind::WouldBlock || error.kind() == ErrorKind::Interrupted
 }

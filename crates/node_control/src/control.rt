@@ -1,7 +1,7 @@
 //! The control socket: a Unix socket, for figures alone a TCP port too, and the clients of both.
 
 ghost use Rattle.std.specs.Prelude.{◌≡◌, ◌<◌, ◌&&◌, length, nat_le, not, true, Some, None, unwrap_or, if◌then◌else◌};
-ghost use Rattle.std.specs.Prelude.{IfSome, slice_get};
+ghost use Rattle.std.specs.Prelude.{⊤, ℕ, List, Bool, false, IfSome, slice_get};
 ghost use Rattle.http_server.specs.Exchange.{Calls};
 ghost use Rattle.node_requests.specs.Health.{health};
 ghost use Rattle.std.specs.List.{list_any};
@@ -47,7 +47,7 @@ const CHANGES: u8 = 8;
 /// byte, in microseconds.
 const SILENT: u64 = 1_000_000;
 
-/// For how many seconds after its start a node's health isn't said: it is alone until it hears others.
+/// For how many seconds after its start a node's health isn't reported: it is alone until it hears others.
 const START: u64 = 3;
 
 /// How many events are looked at after a wait; more stay for the next.
@@ -93,7 +93,7 @@ pub struct ControlSocket {
     events: Events,
     /// Whether the clients of figures come first now.
     is_figures_first: bool,
-    /// The node's health as it was said last.
+    /// The node's health as it was reported last.
     health: Health,
 }
 
@@ -110,15 +110,50 @@ impl Drop for ControlSocket {
     }
 }
 
-/// Takes away a socket that a node left which is gone: whether the path is free now.
-fn free<RT: Files + Net>(rt: &RT, path: &str) -> bool {
-    if UnixStream::connect(rt, path).is_ok() {
+/// What is at the paths of control sockets.
+pub(crate) trait SocketPaths {
+    // whether somebody accepts connections at this path
+    ghost is_answered: { Self → (path : List ℕ) → Bool → Type 0 };
+
+    // nothing is at this path
+    ghost is_free: { Self → (path : List ℕ) → Type 0 };
+
+    /// Whether somebody accepts connections at the path.
+    fn is_answered(&self, path: &str) -> bool
+        ensures { is_answered self.now path.now result };
+
+    /// Removes a socket at the path, where nobody accepts connections: whether nothing is there then.
+    fn clear(&self, path: &str) -> bool
+        requires { is_answered self.now path.now false }
+        ensures { result ≡ true → is_free self.now path.now };
+}
+
+impl<RT: Files + Net> SocketPaths for RT {
+    // no contract states who accepts a connection, or what is in the file system
+    ghost is_answered = { λ _ _ _. ⊤ };
+
+    ghost is_free = { λ _ _. ⊤ };
+
+    fn is_answered(&self, path: &str) -> bool {
+        UnixStream::connect(self, path).is_ok()
+    }
+
+    fn clear(&self, path: &str) -> bool {
+        match fs::symlink_metadata(self, path) {
+            Ok(found) => found.file_type().is_socket() && fs::remove_file(self, path).is_ok(),
+            Err(_) => true,
+        }
+    }
+}
+
+/// Removes a socket that a node left which doesn't run: whether the path is free now.
+fn free<P: SocketPaths>(paths: &P, path: &str) -> bool
+    ensures { result ≡ true → P.is_free paths.now path.now }
+{
+    if paths.is_answered(path) {
         return false;
     }
-    match fs::symlink_metadata(rt, path) {
-        Ok(found) => found.file_type().is_socket() && fs::remove_file(rt, path).is_ok(),
-        Err(_) => true,
-    }
+    paths.clear(path)
 }
 
 /// A socket at `inner`, in the folder `room`, to which its owner and its group may connect, is put at the path, where
@@ -246,7 +281,7 @@ impl Entrance {
         }
     }
 
-    /// Whether there is room for a client, or one is silent and is to go for whoever comes.
+    /// Whether there is room for a client, or one is silent and is closed for a new one.
     fn has_room(&self, now: u64) -> bool
         ensures { result ≡ has_room now self.now.most self.now.clients.items }
     {
@@ -272,7 +307,7 @@ impl Entrance {
         }
     }
 
-    /// Accepts a connection; where there is no memory for it, it is closed.
+    /// Accepts a connection; when out of memory for it, it is closed.
     fn client(&mut self, poll: &Poll, stream: Stream, now: u64) {
         let Ok(keys) = self.keys.clone() else {
             return;
@@ -450,7 +485,8 @@ impl ControlSocket {
         let _woken = self.poll.poll(&mut self.events, Some(timeout));
     }
 
-    /// The node's health, if it is to be said, since it is another than was said last: then it is noted.
+    /// The node's health, if it isn't what was reported last and the node has run for `START` seconds; then it is
+    /// noted.
     fn changed<R: Records>(&mut self, service: &HttpService<R>) -> Option<Health>
         ensures said { result ≡ (if not (⟦<Health as PartialEq>⟧.eq
             (health service.now.handler.node service.now.counters) self.old.health)
@@ -531,7 +567,7 @@ impl ControlSocket {
     }
 }
 
-/// What a refusal of the system comes to.
+/// The fault of a system's error.
 fn fault_of(error: &io::Error) -> ControlFault {
     if error.kind() == ErrorKind::OutOfMemory {
         ControlFault::Memory

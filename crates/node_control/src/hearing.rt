@@ -15,7 +15,7 @@ const QUIET: u64 = 10;
 /// For how many seconds a node has to lack what others have, that it is written when it has caught up.
 const LACKING: u64 = 3;
 
-/// From this position on a warning says that the log comes to its end.
+/// From this position on a warning is written that the log nears its end.
 const NEAR_THE_END: u32 = 900_000;
 
 /// How many positions there are.
@@ -43,7 +43,7 @@ pub(crate) struct Hearing {
     others: u64,
     /// Since when the node lacks what others have.
     lacking: Option<u64>,
-    /// Whether it was written that the log comes to its end.
+    /// Whether it was written that the log nears its end.
     is_ending: bool,
     /// Whether only warnings are written.
     is_quiet: bool,

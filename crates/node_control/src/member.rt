@@ -189,13 +189,13 @@ where
 
 /// A member's run over its record: the record is opened, turns are made over the wire, and the record is given back.
 ///
-/// The node takes what comes as it comes, and its clock ticks when its timer says so ([`node_loop::round`]). Where
-/// there is a place, requests come in at a control socket there, and between two rounds eight changes at most are
-/// asked; each change of the node's health is a line on standard error. Asks by datagrams are heard or not. The run
-/// ends after the given number of turns, where each datagram counts for one, and so do each tick and each wait, of a
-/// tenth of a second at most; with the first fault of the node's calls; or once an operator asked for that and has the
-/// answer, which is `Stopped`. Before it ends, what waits to be proposed is worked off ([`node_loop::finish`]). When
-/// the clock ticks the timer says, which is asked in each round. The observer is new ([`Observer::new`]).
+/// The node receives messages in the order in which they come, and its clock ticks when its timer returns that
+/// ([`node_loop::round`]), which is asked in each round. Where there is a place, requests come in at a control socket
+/// there, and between two rounds eight changes at most are asked; each change of the node's health is a line on
+/// standard error. Asks by datagrams are heard or not. The run ends after the given number of turns, where each
+/// datagram counts for one, and so do each tick and each wait, of a tenth of a second at most; with the first fault of
+/// the node's calls; or once an operator asked for that and has the answer, which is `Stopped`. Before it ends, what
+/// waits to be proposed is proposed ([`node_loop::finish`]). The observer is new ([`Observer::new`]).
 pub fn run_member<R: Records, W: Wire, T: Timer, RT>(
     rt: &RT,
     alloc: Global,

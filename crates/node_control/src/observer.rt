@@ -53,7 +53,7 @@ pub struct Observer {
     sampled: u64,
     /// The node's front after the last round.
     front: u32,
-    /// Since when commands have waited and the front stood.
+    /// Since when commands have waited and the front didn't move.
     since: Option<u64>,
     /// The position that another member proposed at last, and when.
     proposed: Option<(u32, u64)>,
@@ -115,7 +115,7 @@ fn is_proposed(front: u32, now: u64, proposed: Option<(u32, u64)>) -> bool
     }
 }
 
-/// Since when commands have waited while the front stood.
+/// Since when commands have waited while the front didn't move.
 fn stood_since(has_moved: bool, waits: bool, since: Option<u64>, now: u64) -> Option<u64>
     ensures { result ≡ stood_since has_moved waits since now }
 {
@@ -364,8 +364,8 @@ impl Observer {
         }
     }
 
-    /// Tells what was counted, after a round that came to this. A turn that neither took a datagram nor is to be
-    /// followed by a wait was a tick.
+    /// Sets the counters for clients, after a round with this result. A turn that neither received a datagram nor is to
+    /// be followed by a wait was a tick.
     pub(crate) fn tell(&self, counters: &mut Counters, made: Progress)
         ensures shown { IsShown (seen_of self.entry.now) made counters.old counters.new }
         ensures stood { counters.new.stood ≡ seconds_since self.entry.now.since self.entry.now.now }
@@ -402,7 +402,7 @@ impl Observer {
         }
     }
 
-    /// Notes what a member's message says of proposals: another's, or that this one's was refused by a higher round.
+    /// Notes what a member's message shows of proposals: another's, or that this one's was refused by a higher round.
     fn note(&mut self, head: &Head)
         ensures round { (self.new.front ≡ self.old.front) × (self.new.now ≡ self.old.now) }
         ensures proposed { self.new.proposed ≡ proposed_by self.old.front self.old.now head.now self.old.proposed }
@@ -453,8 +453,8 @@ impl Observer {
         }
     }
 
-    /// Tells on standard error what is to be told of who was heard in a round, after which the node lacks entries that
-    /// others have, or not.
+    /// Writes on standard error what is to be reported of the members that were heard in a round, after which the node
+    /// lacks entries that others have, or not.
     pub(crate) fn hear<RT: Eprint>(
         &mut self,
         rt: &RT,

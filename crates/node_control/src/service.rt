@@ -235,7 +235,7 @@ impl<R: Records> HttpService<R> {
         response.body.put_slice(answer.body.as_bytes())
     }
 
-    /// Writes an answer; if memory runs out it is 503 alone, since what was asked may be done.
+    /// Writes an answer; when out of memory it is 503 alone, since what was asked may be done.
     fn write(&self, answer: &Answer, kind: &str, response: &mut Response)
         requires { IsBlank response.old }
         ensures says { Says response.new (answer_value answer.now) }

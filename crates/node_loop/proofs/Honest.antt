@@ -29,7 +29,7 @@ module _ {R : Type 0} (G : Ghosts R) (How : (s t : Node R G) → Type 0)
   at_start m given back honest l =
       before l.begun l.done l.went (subst (λ (r : R). G.is_honest r) l.closed honest)
 
-  -- a life from where the node began is one from what its record held, and hears asks from outside where that does
+  -- a trace from where the node began is one from what its record held, and hears asks from outside where that does
   pub life_lived : (m : Membership) (given back : R) (w v : List WireEvent) (a : Option NodeFault) → G.is_honest back → (l : Life G How m given back) →
       (hears : Bool) (buffers : Buffers) → Living (stands l.begun w (new_buffers hears)) (stands l.done v buffers) a →
       (over : LivedOver G m given back w v) × (over.hears ≡ hears)

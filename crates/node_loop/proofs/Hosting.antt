@@ -77,7 +77,7 @@ goes_before x y (inr asked) honest = once_before x.replica y.replica asked.asked
 
 -- ---- a member that works, and one whose store failed in a request
 
--- The request after which it works no more is the last thing that happened to it. Since then nothing but what is idle is
+-- The request after which it works no more is its last event. Since then nothing but what is idle is
 -- done.
 record Broken {R : Type 0} {G : Ghosts R} (x z : Stand G) : Type 0 where
   stood : Stand G

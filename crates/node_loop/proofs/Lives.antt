@@ -1,4 +1,4 @@
--- Turns are steps of the model that happened to a member, and what they took and handed out went over its wire.
+-- Turns are steps of the model at the member, and what they took and handed out went over its wire.
 use Rattle.std.proofs.Common.{◌≡◌, ◌≢◌, ◌∙◌, ℕ, zero, suc, ◌<◌, Bool, true, false, List, [], ◌∷◌, ◌++◌, Option, Some, None, Result, refl, sym, ap, subst, inl, inr, arith}
 use Rattle.std.proofs.lemmas.Bool.{false_from_ne_true}
 use Rattle.std.proofs.lemmas.List.{append-nil}
@@ -33,7 +33,7 @@ use Rattle.node_loop.proofs.Traffic.{sent_then, members_then, brought_more, none
 use Rattle.node_loop.proofs.Traffic.{idly, idle_trace, idle_events, Idles, idle_moves}
 use Rattle.node_loop.proofs.Chains.{between_then, went_then}
 
--- one life behind the other
+-- one trace after the other
 pub lived_then : (g : Group) (me : ℕ) (s t u : NodeState Bytes) (xs ys : List TraceEvent) → Lived g me s xs t → Lived g me t ys u →
     Lived g me s (xs ++ ys) u
 lived_then g me s t u [] ys a b = subst (λ (z : NodeState Bytes). Lived g me z ys u) a b
@@ -442,7 +442,7 @@ ended_more {R} {G} w y z e d l =
       membership = ap (λ (r : Replica R G). membership_of r) l.replica ∙ d.membership;
     }
 
--- ---- lives
+-- ---- traces
 
 module _ {R : Type 0} (G : Ghosts R)
     (settled : (r : R) → G.is_honest r → G.failed r ≡ 0 → (d : Record Bytes) → G.may_leave r d → d ≡ G.stored r) where

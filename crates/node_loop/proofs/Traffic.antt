@@ -33,7 +33,7 @@ among_nil xs ys a = among_front xs ys [] a
 among_one : {X : Type 0} (xs : List X) (y : X) (ys zs : List X) → AreAmong zs (xs ++ y ∷ ys) → AreAmong zs ((xs ++ y ∷ []) ++ ys)
 among_one {X} xs y ys zs a = subst (λ (us : List X). AreAmong zs us) (sym (append_assoc xs (y ∷ []) ys)) a
 
--- ---- messages and what is handed out, life behind life
+-- ---- messages and what is handed out, trace after trace
 
 pub messages_then : (xs ys : List TraceEvent) → messages_of (xs ++ ys) ≡ messages_of xs ++ messages_of ys
 messages_then [] ys = refl

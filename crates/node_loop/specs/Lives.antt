@@ -46,8 +46,8 @@ stands n traffic b = record {
   hears_asks = b.hears_asks;
 }
 
--- What is said of turns at whose end n positions are learned without a gap and that many are applied: how many
--- these are, or the fault. Where there is no wire, or memory runs out before the first turn, none is made.
+-- The end of turns after which n positions are learned without a gap and this many are applied: these two numbers, or
+-- the fault. Where there is no wire, or it is out of memory before the first turn, none is made.
 abbrev pub Tells : (front applied : ℕ) → (answered : Option NodeFault) → Ended → Type 0
 Tells n applied None ended = (ended ≡ Front n applied) ⊎ ((ended ≡ NoWire) ⊎ (ended ≡ Fault fault.Memory))
 Tells n applied (Some e) ended = ended ≡ Fault e
@@ -121,11 +121,11 @@ abbrev pub HostedRuns : {R : Type 0} → (G : Ghosts R) → Membership → (hear
 HostedRuns G m hears given w v ended back =
     IsUnopened G m given w v ended back ⊎ Life G (λ s t. Hosts s t w v hears ended) m given back
 
--- ---- a life
+-- ---- a run
 
--- Steps of the model, one after the other, happened to the member from what its record held on, up to the call that
--- failed, if one did. That is what the record holds then, unless a call on it failed; and whatever a stop leaves of it
--- is that, or that with the change of the next step.
+-- The member made steps of the model, one after the other, from what its record held on, up to the call that failed, if
+-- one did. That is what the record holds then, unless a call on it failed; and what a stop leaves of it is that, or
+-- that with the change of the next step.
 -- What went over the wire meanwhile are the member's moves: each message that came was given in its place, and what
 -- each step sends was handed over after it, each datagram once, in order; and last what came for the call that failed
 -- and after it, and what was handed over again.
@@ -158,16 +158,16 @@ HostedRunsAreLived {R} G =
     (m : Membership) (given back : R) (w v : List WireEvent) (hears : Bool) (ended : Ended) → G.is_honest back →
     Life G (λ s t. Hosts s t w v hears ended) m given back → (l : LivedOver G m given back w v) × (l.hears ≡ hears)
 
--- ---- one life of several runs
+-- ---- one trace of several runs
 
--- A run begins what happened to the member; or before it a stop cut a call short, for a message that one of these
--- datagrams brought if it was for one, and the member was opened.
+-- A run begins the member's trace; or before it a stop cut a call short, for a message that one of these datagrams
+-- brought if it was for one, and the member was opened.
 abbrev pub IsStart : Group → (me : ℕ) → (gave : List Bytes) → List TraceEvent → Type 0
 IsStart g me gave ds =
     (ds ≡ []) ⊎ ((input : Input Bytes) × (left : Record Bytes) × AreBrought g me gave (message_in input) ×
     (ds ≡ Stops input left ∷ Opens ∷ []))
 
--- In these runs, the latest first, each over a wire of its own, this happened to the member, and these events are the
+-- In these runs, the latest first, each over a wire of its own, this is the member's trace, and these events are the
 -- last ones, since a call failed in the latest. A run is what went over its wire in it: the member's moves, and then,
 -- where a call failed, what came for it and after it, and what was handed over again.
 abbrev pub AreOver : Group → (me : ℕ) → (runs : List (List WireEvent)) → List TraceEvent → (last : List WireEvent) →

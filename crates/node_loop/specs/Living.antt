@@ -1,4 +1,4 @@
--- What happens to a node in its turns, in the terms of the law of nodes, and what goes over its wire meanwhile.
+-- A node's trace in its turns, in the terms of the law of nodes, and what goes over its wire meanwhile.
 use Rattle.std.specs.Prelude.{◌≡◌, ◌≢◌, ◌⊎◌, ℕ, Bool, true, false, List, [], ◌∷◌, ◌++◌, Option, None, Some}
 use Rattle.px_model.specs.Law.{Among}
 use Rattle.px_model.specs.Node as node
@@ -34,7 +34,7 @@ message_in (Asks command) = []
 message_in Ticks = []
 message_in (Comes sender message) = (sender, message) ∷ []
 
--- the messages that came to the member, in order: to calls that answered, and to those that a stop cut short
+-- the messages that the member received, in order: in calls that returned, and in those that a stop cut short
 abbrev pub messages_of : List TraceEvent → List Heard
 messages_of [] = []
 messages_of (Calls x t out ∷ ds) = message_in x ++ messages_of ds
@@ -112,7 +112,7 @@ AreMoves g me hears (Passes bytes ∷ ms) before kept =
 AreMoves g me hears (Repeats to bytes ∷ ms) before kept =
     Among kept (to, bytes) × AreMoves g me hears ms before kept
 
--- ---- a life
+-- ---- a run
 
 -- What a stop leaves of a member: its record, or with the change of one step more. If that step is for a message, one
 -- of these datagrams brought it.
@@ -120,10 +120,10 @@ abbrev pub LeavesThere : Group → (me : ℕ) → (gave : List Bytes) → NodeSt
 LeavesThere g me gave s left =
     (x : Input Bytes) × IsInput g me x × AreBrought g me gave (message_in x) × LeavesOne g.members me s x left
 
--- Steps of the model, one after the other, happened to the member, up to the call that failed, if one did. There it
--- stands, unless a call on its record failed; and whenever it stops it leaves its record as it was there, or with the
--- change of the next step.
--- What went over its wire are its moves: each message that came to it was given in its place, and what each step sends
+-- The member made steps of the model, one after the other, up to the call that failed, if one did. Its state is the one
+-- after them, unless a call on its record failed; and whenever it stops it leaves its record as it was then, or with
+-- the change of the next step.
+-- Its moves are what went over its wire: each message that it received was given in its place, and what each step sends
 -- was handed over after it, each datagram once, in order. And then, where a call failed, what came for that call and
 -- after it, and what was handed over again.
 pub record Living {R : Type 0} {G : Ghosts R} (x z : Stand G) (answered : Option NodeFault) : Type 0 where
@@ -146,7 +146,7 @@ pub record Living {R : Type 0} {G : Ghosts R} (x z : Stand G) (answered : Option
   pub stays : G.failed (records_of z.replica) ≡ 0 → state_in z.replica ≡ then
   pub stop : (left : Record Bytes) → G.may_leave (records_of z.replica) left →
       LeavesThere (group (membership_of x.replica)) (membership_of x.replica).me (given_in last) then left
-  -- lives chain: where no call failed, all that the wire gave has come
+  -- runs can follow one another: where no call failed, all that the wire gave has come
   pub whole : answered ≡ None → last ≡ []
   pub membership : membership_of z.replica ≡ membership_of x.replica
 

@@ -1,4 +1,4 @@
--- When a member's clock ticks, as its timer says. Times are in microseconds.
+-- When a member's clock ticks, as its timer returns. Times are in microseconds.
 use Rattle.std.specs.Prelude.{◌≡◌, ◌≤◌, ◌+◌, ◌-◌, ◌*◌, ◌^◌, ◌&&◌, ◌||◌, ℕ, Bool, max, min, nat_lt}
 use Rattle.node_loop.specs.declared.pacing.TheConstants.{START, BEHIND}
 use Rattle.node_loop.specs.declared.tick_timer.TickTimer.{TickTimer}

@@ -1,4 +1,4 @@
--- What is seen of the other members' progress. The timer is given the time, how the node stands, and this; so a
+-- What is seen of the other members' progress. The timer is given the time, the node's state, and this; so a
 -- datagram that is nobody's changes nothing of it.
 use Rattle.std.specs.Prelude.{◌≡◌, ◌⊎◌, ℕ, zero, suc, ◌+◌, ◌==◌, true, false}
 use Rattle.std.specs.Prelude.{List, Option, Some, None, min, max, replicate, slice_set, if◌then◌else◌}
@@ -71,7 +71,7 @@ accepting next s = record {
 }
 
 -- what a message about this position shows beside how far its sender is, in 32 bits: a member that asks for promises
--- lacks the position, and whoever needs its entry is answered with that and lacks the next one; an accept request
+-- lacks the position, and a member that needs its entry is answered with that and lacks the next one; an accept request
 -- counts where another member sent it
 abbrev pub noted_by : Kind → (from to position : ℕ) → PeerProgress → PeerProgress
 noted_by kinds.Prepare from to p s = lacking from (min (p + 1) 4294967295) s

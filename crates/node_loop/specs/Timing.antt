@@ -21,13 +21,13 @@ IsShort (actions.Wait milliseconds) = (1 ≤ milliseconds) × (milliseconds ≤ 
 
 -- what a timer is given
 pub data TimerEvent : Type 0 where
-  -- what is seen at this time, so that it says whether the clock ticks
+  -- what is seen at this time, to decide whether the clock ticks
   Looks : (now : ℕ) (view : View) → TimerEvent
   -- votes were sent
   Sends : (now : ℕ) → TimerEvent
   -- it is asked whether what was sent is sent again
   Repeats : (now : ℕ) → TimerEvent
-  -- the node takes no more commands in
+  -- the node accepts no more commands
   Ends : TimerEvent
 
 -- what is seen of a node, whose front was there before the datagrams were taken

@@ -32,7 +32,7 @@ Acts s t (Some bytes) out answered =
 abbrev pub handed_over : List Datagram → List (ℕ × Bytes)
 handed_over out = map (λ d. (d.to, d.bytes.items)) out
 
--- A member of a cluster with its wire and its buffers: how it stands; what went over the wire so far; what may be
+-- A member of a cluster with its wire and its buffers: its state; what went over the wire so far; what may be
 -- handed to it again; the requests that are known where they come again; and whether asks from outside are heard.
 pub record Stand {R : Type 0} (G : Ghosts R) : Type 0 where
   pub replica : Replica R G

@@ -5,7 +5,7 @@ ghost use Rattle.node_loop.specs.Counts.{nothing_of, one_in, one_more, one_out};
 
 use crate::packet::MEMBERS;
 
-/// What went over the wire in a round, for whoever counts it. What is sent again isn't among it.
+/// What went over the wire in a round, for counters. What is sent again isn't included.
 #[derive(Clone, Copy, PartialEq, Eq)]
 pub struct RoundCounts {
     me: u8,

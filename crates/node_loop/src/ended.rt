@@ -9,7 +9,7 @@ pub enum Ended {
     Front { front: u32, applied: u32 },
     /// An operator asked for the end before all turns were made: the same two numbers.
     Stopped { front: u32, applied: u32 },
-    /// The record wasn't opened, memory ran out before the first turn, or this fault ended the turns.
+    /// The record wasn't opened, it was out of memory before the first turn, or this fault ended the turns.
     Fault(NodeFault),
     /// There is no wire, and no turn was made.
     NoWire,

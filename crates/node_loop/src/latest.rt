@@ -43,7 +43,7 @@ pub(crate) fn proposal_of(head: &Head) -> Option<(u64, u32)>
 }
 
 impl Latest {
-    /// Nothing is kept, of a group of that many members. Takes no memory.
+    /// Nothing is kept, of a group of that many members. Allocates nothing.
     pub(crate) fn new(alloc: Global, members: u8) -> Latest
         ensures kept { sent_in result ≡ [] }
         ensures request { requests_in result ≡ [] }
@@ -121,7 +121,7 @@ impl Latest {
         }
     }
 
-    /// Remembers a request that was taken. Where memory runs out none is remembered.
+    /// Remembers a request that was taken. When out of memory none is remembered.
     pub(crate) fn remember(&mut self, head: &Head, request: &[u8])
         ensures kept { sent_in self.new ≡ sent_in self.old }
         ensures request { AreAmong (requests_in self.new) (request.now ∷ []) }

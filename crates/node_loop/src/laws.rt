@@ -5,7 +5,7 @@ ghost use Rattle.node_loop.specs.Living.{TurnsAreLived, HostingsAreLived};
 use px_records::Records;
 
 /// Whatever turns a node makes, in whatever order the network and the clock ask for them, are steps of the model: a
-/// life of that member, as pfx_laws's histories are made of.
+/// trace of that member, as pfx_laws's histories are made of.
 pub fn turns_are_lived<R: Records>()
     ensures { TurnsAreLived R.Records }
 {}

@@ -3,18 +3,19 @@
 //! # Organization
 //!
 //! - [`turn`]: one datagram is received, or the clock ticks, and what is to be sent is sent.
-//! - [`round`]: what has come is received, and the clock ticks when the [`Timer`] says so, which is [`TickTimer`].
-//!   [`finish`]: what waits to be proposed is worked off. node_control has the loop of such rounds.
+//! - [`round`]: what has come is received, and the clock ticks when the [`Timer`] returns that; the program's timer is
+//!   [`TickTimer`]. [`finish`]: the last rounds before a stop, in which what waits is proposed. node_control has the
+//!   loop of such rounds.
 //! - [`tick_now`]: the clock ticks.
 //! - [`Room`]: the buffers that one turn after another uses, and what is sent again. [`RoundCounts`]: what went over
-//!   the wire in a round, for whoever counts it.
+//!   the wire in a round, for counters.
 //! - [`Resender`]: keeps what a member sent and may be lost, and hands it to a wire again. It knows heads of messages
 //!   alone, and is above the seal: it is shown what was sent, and what was received once it was decoded.
 //! - [`Ended`]: how a run ended. [`open_member`]: a run where there is no wire; node_control has the others.
-//! - `specs/Turns` says what a turn makes, and what several in a row do; [`laws`] that they are steps of the model.
-//! - `specs/Resends` says what is kept, and what may be handed to a wire again.
-//! - `specs/Lives` says what becomes of the record and what went over the wire in a run; [`run_laws`] that this is a
-//!   trace of the model, and that runs which follow one another over one store are one trace.
+//! - `specs/Turns` defines what a turn does, and what several in a row do; by [`laws`] these are steps of the model.
+//!   `specs/Resends` defines what is kept, and what may be handed to a wire again.
+//! - `specs/Lives` defines what becomes of the record and what goes over the wire in a run; by [`run_laws`] this is a
+//!   trace of the model, and runs which follow one another over one store are one trace.
 //!
 //! # Why
 //!
@@ -40,15 +41,15 @@
 //!   and the second doesn't; so with the first alone what is lost would be sent again later and later.
 //! - **A node that lacks entries listens.** The kind and position of each accepted datagram show how far its sender is
 //!   (`PeerProgress`): a member that proposes, votes at or lacks a position has learned all positions below. A node
-//!   that is behind asks for what it lacks. It makes no proposal of its own until its front has stood still for as long
+//!   that is behind asks for what it lacks. It makes no proposal of its own until its front hasn't moved for as long
 //!   as an attempt may take. Meanwhile, and for the first 200 ms after its start, a change at its control socket is
 //!   answered with 503, and `ask --wait` asks again. So a node that was away and is asked doesn't take the lead from
 //!   the node that has it. A command that comes by a datagram is accepted at any time. Commands that were accepted
 //!   before are proposed after that time: the protocol has no message by which such a node could ask for what it lacks.
 //! - **Lost datagrams are sent again by the loop, above the seal** (`Resender`). A datagram may come twice, so this
-//!   changes nothing that is decided. The laws say that what a wire was handed is what the calls sent, and some of that
-//!   again; a wire of packets sends packets of its own besides (state, reports, missing pieces). The resender sees the
-//!   heads of what the node sends and accepts. It keeps the accept requests and votes of one ballot at one position
+//!   changes nothing that is decided. The laws state that what a wire was handed is what the calls sent, and some of
+//!   that again; a wire of packets sends packets of its own besides (state, reports, missing pieces). The resender sees
+//!   the heads of what the node sends and accepts. It keeps the accept requests and votes of one ballot at one position
 //!   that were sent last. The loop has them sent again one and a half answers and 5 ms after they were sent, then in
 //!   pauses that grow, 64 times at most, until the front moves. A round begun anew would do it too, but loses the votes
 //!   that were on their way: a change of 32 KB is some 22 packets, and one lost packet loses the datagram without a
@@ -70,11 +71,11 @@
 //!   that is 65,536 positions, some 20 MB with what each takes beside its bytes. Where a member shows by a need, or by
 //!   a request for promises below the front, that it lacks entries, it is sent those votes of 63 positions that this
 //!   member sent to it before. Each of the others does so. With a majority of votes of one ballot the entry is learned,
-//!   by the same law as ever: no step is new. A member that advances is sent what follows. One that stands still, goes
-//!   back, or advances by one three times in a row is sent all of it again, 20 ms apart at least. In 10 ms it is sent
-//!   no more than fills this member's part of a socket's buffer as Linux has it. That also limits what somebody gets
-//!   who forges a member's address on a need: some 600 kB of small votes a second from a member of three. Votes sent
-//!   before the node's last start aren't kept, nor those longer than a packet: such entries are sent one by one.
+//!   by the same law as before: no step is new. A member that advances is sent what follows. One that doesn't advance,
+//!   goes back, or advances by one three times in a row is sent all of it again, 20 ms apart at least. In 10 ms it is
+//!   sent no more than fills this member's part of a socket's buffer as Linux has it. That also limits what somebody
+//!   gets who forges a member's address on a need: some 600 kB of small votes a second from a member of three. Votes
+//!   sent before the node's last start aren't kept, nor those longer than a packet: such entries are sent one by one.
 //! - **A member is handed its own votes again** (`Resender::repeat_own`). A member accepts proposals at any position,
 //!   but its learner drops a vote outside its 64 positions, its own vote too, and nobody else sends it that one. So the
 //!   resender keeps these votes with the others. While another member is further ahead the loop hands those of 63
@@ -91,13 +92,13 @@
 //!   member wins; with the whole pause a member that has the lead once makes the others wait for nothing. Waits are
 //!   taken from the time of an answer: that of an attempt grows with the waits of others.
 //! - **A gap is filled soon.** A learner keeps the votes of 64 positions from its front on. A node that sees others
-//!   advance while its front stands still asks for what it lacks an attempt's time and 1 ms later. Where commands wait
+//!   advance while its front doesn't move asks for what it lacks an attempt's time and 1 ms later. Where commands wait
 //!   at it, it can't ask, and proposes, which takes the lead from the node that has it and brings the votes of 63
 //!   positions. It does so after the same time, again whenever 16 entries came, and after a refusal. Of what it didn't
 //!   accept a proposal brings one entry; so while it leads it goes on at once.
 //! - **The clock rests for a fifth of a round trip** after each tick, unless the front moves. No hold before a proposal
-//!   is set more than 4 s ahead, and the definitions say by when the clock ticks at the latest: the clauses of
-//!   `TickTimer::action`. Nothing of the protocol rests on these; an operator's figures do.
+//!   is set more than 4 s ahead, and the definitions state by when the clock ticks at the latest: the clauses of
+//!   `TickTimer::action`. Nothing of the protocol depends on these; an operator's figures do.
 //! - **A node that is stopped proposes what waits** (`finish`): 3,000 rounds more at most, of which one with a wait
 //!   counts for its milliseconds. Meanwhile it accepts no command (`TickTimer::end`), and one with a control socket at
 //!   which an operator asked for the stop answers nobody.
@@ -105,7 +106,7 @@
 //!   those that it accepted (`Room::heads`) and how many datagrams went over the wire (`Room::counts`), and one
 //!   `Observer` sees both after each round. So `ignored` and `heard` are what the node ignores and hears, and no
 //!   datagram is decoded twice.
-//! - **No promise says when something is learned**: `Wire`'s contract knows no time. None says that a datagram is
+//! - **No contract states when something is learned**: `Wire`'s contract knows no time. None states that a datagram is
 //!   received: under a flood the system discards what its buffer can't hold, members' datagrams too.
 #![tactic(auto)]
 

@@ -229,7 +229,7 @@ impl TickTimer {
         }
     }
 
-    /// An attempt came to nothing.
+    /// An attempt failed.
     fn lose(&mut self)
         ensures times { AreTimes self.old self.new }
         ensures me { self.new.me ≡ self.old.me }
@@ -276,9 +276,9 @@ impl TickTimer {
     }
 
     /// How long a node keeps still that lost the lead, while the front stays: one to sixteen sixteenths, as drawn, of
-    /// four answers' time and some more. That doubles with each loss, three times at most: a refusal says nothing of
-    /// the line, and a longer pause leaves a node behind where others go on. An attempt's time would grow with the
-    /// pauses of others, and they with it.
+    /// four answers' time and some more. That doubles with each loss, three times at most: a refusal shows nothing
+    /// about the line, and a longer pause leaves a node behind where others go on. An attempt's time would grow with
+    /// the pauses of others, and they with it.
     fn pause(&self) -> u64
         ensures { result ≤ 4000000 }
     {
@@ -313,7 +313,7 @@ impl TickTimer {
             .max(time)
     }
 
-    /// When a node that lacks entries does something about it: soon after it is seen that its front stands still, and
+    /// When a node that lacks entries asks for them or proposes: soon after it is seen that its front doesn't move, and
     /// then each time after its patience.
     fn fills(&self) -> u64
         ensures { result ≤ latest_of self.now }

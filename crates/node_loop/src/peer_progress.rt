@@ -1,4 +1,4 @@
-//! What messages tell of how far other members have come.
+//! What messages show of how far other members are.
 
 ghost use Rattle.std.specs.Prelude.{◌≡◌};
 ghost use Rattle.node_loop.specs.Progress.{shown_by, noted, looked, reaching, lacking, with_learned, accepting};
@@ -15,8 +15,8 @@ pub(crate) struct PeerProgress {
     pub(crate) has_learned: bool,
     /// One more than the last position of another's accept request that has come since the last look; 0 for none.
     pub(crate) accepting: u32,
-    /// For each member that has told since the last look how far it is: one more than the position from which on it is
-    /// to be told what it lacks; 0 for the others.
+    /// For each member that has shown since the last look how far it is: one more than the position from which on it is
+    /// to be sent what it lacks; 0 for the others.
     lacking: [u32; 15],
 }
 
@@ -43,7 +43,7 @@ impl PeerProgress {
         }
     }
 
-    /// The position from which on this member is to be told what it lacks, if it lacks any of those below the front.
+    /// The position from which on this member is to be sent what it lacks, if it lacks any of those below the front.
     pub(crate) fn lacks(&self, member: u8, front: u32) -> Option<u32> {
         match self.lacking.get(usize::from(member)) {
             Some(&next) => {

@@ -51,7 +51,7 @@ impl Drop for Resender {
 }
 
 impl Resender {
-    /// Keeps nothing yet, of a member of a group of that many. Takes no memory.
+    /// Keeps nothing yet, of a member of a group of that many. Allocates nothing.
     pub fn new(alloc: Global, members: u8, me: u8) -> Resender
         ensures kept { kept_of result ≡ [] }
         ensures request { requests_of result ≡ [] }
@@ -73,8 +73,8 @@ impl Resender {
         self.now = now;
     }
 
-    /// Keeps a datagram that was sent to a member, if it is a vote, or an accept request to another. Where memory runs
-    /// out, a vote may be kept all the same for who lacks it later.
+    /// Keeps a datagram that was sent to a member, if it is a vote, or an accept request to another. When out of
+    /// memory, a vote may be kept all the same for a member that lacks it later.
     pub fn keep(&mut self, to: u8, bytes: &[u8]) -> Result<(), AllocError>
         // Such a one that isn't below the last is kept.
         ensures keeps { OnOk result ((g : Group) (from b p : ℕ) (message : Message) →

@@ -6,7 +6,7 @@ ghost use Rattle.node_loop.specs.Lives.{RunsAreLived, HostedRunsAreLived, RunsGo
 use crate::laws::{hostings_are_lived, turns_are_lived};
 use px_records::Records;
 
-/// What a run did to its record and over its wire is a life of the model, from what the record held on.
+/// What a run did to its record and over its wire is a trace of the model, from what the record held on.
 pub fn runs_are_lived<R: Records>()
     ensures { RunsAreLived R.Records }
 {
@@ -21,8 +21,8 @@ pub fn hosted_runs_are_lived<R: Records>()
     hostings_are_lived::<R>();
 }
 
-/// Runs that follow one another over one store, where each opening finds what a stop may have left, are one life of the
-/// member.
+/// Runs that follow one another over one store, where each opening finds what a stop may have left, are one trace of
+/// the member.
 pub fn runs_go_on<R: Records>()
     ensures { RunsGoOn R.Records }
 {}

@@ -48,7 +48,7 @@ fn view_of<R: Records>(node: &Node<R>, room: &Room, was: u32) -> View
     }
 }
 
-/// What a round came to.
+/// The result of a round.
 #[derive(Clone, Copy, PartialEq, Eq)]
 pub struct Progress {
     /// For how many turns it counts, 1 at least: each datagram is one, a tick, and a wait.
@@ -113,7 +113,7 @@ fn action<T: Timer>(timer: &mut T, peer_progress: &mut PeerProgress, now: u64, v
     action
 }
 
-/// Members that told that they lack entries below the front are sent again what was sent to them of those.
+/// Members whose messages show that they lack entries below the front are sent again what was sent to them of those.
 fn remind<W: Wire>(wire: &mut W, resender: &mut Resender, peer_progress: &PeerProgress, front: u32)
     ensures again { HandsAgain (kept_of resender.old) (W.traffic wire.old) (W.traffic wire.new) }
     ensures kept { kept_of resender.new ≡ kept_of resender.old }
@@ -193,12 +193,12 @@ fn begin(room: &mut Room, now: u64)
     room.resender.set_time(now);
 }
 
-/// What has come is taken, 64 datagrams at most; then the clock ticks where the timer says so, which is given what
-/// those datagrams left to see and nothing else. These are turns of the
-/// node and nothing else. Answers how long may be waited before the next round.
+/// Receives what has come, 64 datagrams at most; then the clock ticks where the timer returns that, which is given what
+/// is seen of the node after those datagrams and nothing else. These are turns of the node and nothing else. Returns
+/// how long may be waited before the next round.
 ///
 /// A request that came before and is answered by what is kept isn't shown to the node, nor is an ask where asks aren't
-/// heard. What was sent and may be lost, or is lacked by a member that told so, is sent again.
+/// heard. What was sent and may be lost, or is lacked by a member whose messages show that, is sent again.
 ///
 /// `now` is the time in microseconds since the node started, which never goes back. The faults are those of
 /// [`Node::receive`] and [`Node::tick`]; after one nothing is to be sent.

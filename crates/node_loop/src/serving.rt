@@ -30,9 +30,9 @@ use px_transport::Wire;
 use px_wire::Head;
 
 impl Room {
-    /// The heads of the messages that the node took in its last [`round`](crate::round), in order, for whoever counts
-    /// them. A datagram that it ignored, or was passed over, has none here, and neither has one for whose head memory
-    /// ran out.
+    /// The heads of the messages that the node accepted in its last [`round`](crate::round), in order, for counters. A
+    /// datagram that it ignored, or was passed over, has none here, and neither has one for whose head it was out of
+    /// memory.
     pub fn heads(&self) -> &[Head]
         ensures { result.now ≡ heads_in self.now }
     {

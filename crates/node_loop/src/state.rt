@@ -24,7 +24,7 @@ pub(crate) struct Latest {
     pub(crate) ballot: u64,
     pub(crate) position: u32,
     pub(crate) kept: Vec<Kept>,
-    /// The request's head; none where there is no request, or memory ran out.
+    /// The request's head; none where there is no request, or it was out of memory.
     pub(crate) head: Option<Head>,
     pub(crate) request: Vec<u8>,
     /// For each member, before when nothing longer than a packet goes to it again, in microseconds.

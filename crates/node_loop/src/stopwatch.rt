@@ -24,7 +24,7 @@ pub struct SystemClock<'a, C> {
 }
 
 impl<C: Clock> Stopwatch for SystemClock<'_, C> {
-    // no contract says what the system's clock reads
+    // no contract states what the system's clock reads
     ghost readings = { λ _ _. ⊤ };
 
     fn read(&mut self) -> Option<Instant> {

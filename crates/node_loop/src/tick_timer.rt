@@ -4,15 +4,15 @@ ghost use Rattle.std.specs.Prelude.{◌≤◌, ◌+◌};
 
 /// When a node's clock ticks: at once where commands wait and no attempt is under way; anew where an attempt isn't
 /// answered in four round trips and some more, a time that doubles with each loss; within the time of an answer where
-/// one was refused before a majority promised, since the refusal told the round to begin above; after a pause, of four
-/// answers' time and more, where another node took the lead, or two attempts in a row were refused; and where nothing
-/// waits at the start, once a second, and at once while what it lacks is coming. These waits are drawn by each member
-/// anew, so that two which meet don't meet each time. Where others move the front a pause ends within four answers'
-/// time: who has the lead makes some commits before the next one takes it.
+/// one was refused before a majority promised, since the refusal reported the round to begin above; after a pause, of
+/// four answers' time and more, where another node took the lead, or two attempts in a row were refused; and where
+/// nothing waits at the start, once a second, and at once while what it lacks is coming. These waits are drawn by each
+/// member anew, so that two which meet don't meet each time. Where others move the front a pause ends within four
+/// answers' time: the member that has the lead makes some commits before the next one takes it.
 ///
 /// A node that lacks entries which others have learned asks for them soon. Where commands wait at it, it can't ask and
-/// has to propose, which takes the lead from who has it and brings the votes that others keep. It does so soon; each
-/// time that it got many; and while it leads at once, entry by entry.
+/// has to propose, which takes the lead from the member that has it and brings the votes that others keep. It does so
+/// soon; each time that it got many; and while it leads at once, entry by entry.
 ///
 /// Two times are learned. How long an attempt takes, from those that led to something and weren't begun anew meanwhile;
 /// and how long an answer takes, from what was sent once and answered, to be sent again after that. The clock decides
@@ -34,7 +34,7 @@ pub struct TickTimer {
     pub(crate) trip: u64,
     /// How long an answer takes where nothing is lost, in microseconds.
     pub(crate) answer: u64,
-    /// How many attempts in a row came to nothing.
+    /// How many attempts in a row failed.
     pub(crate) losses: u32,
     /// What the last wait was drawn from.
     pub(crate) drawn: u64,

@@ -17,8 +17,8 @@ const MOST_VOTES: usize = 131_072;
 
 const MOST_BYTES: usize = 16 * 1_024 * 1_024;
 
-/// How many positions a member accepts votes at, from the first that it lacks on. It is answered the one below by
-/// whoever learned it, so one less than the 64 of its window are sent.
+/// For how many positions, from the first that it lacks on, a member is sent votes. The entry of the position below is
+/// sent to it by a member that learned it, so that is one less than the 64 of its window.
 const WINDOW: u32 = 63;
 
 /// How often a member comes on by just one before it is taken to lack what it was sent.
@@ -120,7 +120,7 @@ impl Stretch {
 }
 
 impl Votes {
-    /// Nothing is kept, of a group of that many members. Takes no memory.
+    /// Nothing is kept, of a group of that many members. Allocates nothing.
     pub(crate) fn new(alloc: Global, members: u8) -> Votes
         ensures { votes_in result ≡ [] }
     {
@@ -197,7 +197,7 @@ impl Votes {
     }
 
     /// Keeps a datagram that was sent to a member, if it is a vote that fits into a packet and isn't of a lower
-    /// position than the last; of its position what is of another ballot is let go. Where memory runs out it isn't
+    /// position than the last; of its position what is of another ballot is let go. When out of memory it isn't
     /// kept.
     pub(crate) fn keep(&mut self, to: u8, head: &Head, bytes: &[u8])
         ensures { AreAmong (votes_in self.new) (votes_in self.old ++ (to, bytes.now) ∷ []) }

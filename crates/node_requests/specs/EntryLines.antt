@@ -27,7 +27,7 @@ abbrev pub lines_from : Log Bytes → (applied kept first : ℕ) → List ℕ
 lines_from log applied kept first =
     let end = min applied (first + ENTRIES_MAX) in lines_before (log_line log applied kept) end (end - first) []
 
--- where it isn't said from where, the last 20
+-- where no first position is given, the last 20
 abbrev pub log_answer : {R : Type 0} {G : Ghosts R} → Node R G → Option ℕ → AnswerValue
 log_answer n from =
     shown (lines_from (learned_by n) (applied_of n) (kept_of n) (unwrap_or from (applied_of n - 20)))
@@ -53,7 +53,7 @@ abbrev pub entries_from : Log Bytes → (applied first count : ℕ) → List ℕ
 entries_from log applied first count =
     let end = min applied (first + min count ENTRIES_MAX) in entries_before log end (end - first) []
 
--- the lines from a position on, 0 where it isn't said, and that many, 1,000 where it isn't said
+-- the lines from a position on, 0 where it isn't given, and that many, 1,000 where that isn't given
 abbrev pub entries_answer : {R : Type 0} {G : Ghosts R} → Node R G → (from count : Option ℕ) → AnswerValue
 entries_answer n from count =
     shown (entries_from (learned_by n) (applied_of n) (unwrap_or from 0) (unwrap_or count ENTRIES_MAX))

@@ -1,4 +1,4 @@
--- How a node stands among the others.
+-- A node's health.
 use Rattle.std.specs.Prelude.{ℕ, Bool, false, List, ◌/◌, ◌||◌, nat_lt, nat_le, count_by, Option, Some, None}
 use Rattle.std.specs.Prelude.{codes, if◌then◌else◌}
 use Rattle.std.specs.List.{list_any}
@@ -29,8 +29,8 @@ counted peers = count_by (λ p. is_recent p.heard) peers
 abbrev pub is_shown : ℕ → List PeerCounters → Bool
 is_shown applied peers = list_any (λ p. nat_lt applied p.shown) peers
 
--- a fault of the store; commands wait and the front stands; fewer than a majority heard, this one counted; positions
--- to be applied; else it works
+-- a fault of the store; commands wait and the front doesn't move; fewer than a majority heard, this one counted;
+-- positions to be applied; else it works
 -- Example: of 3 members, one other that is heard will do.
 abbrev pub health_by : (failed stuck few behind : Bool) → Health
 health_by failed stuck few behind =
@@ -44,7 +44,7 @@ health n t = health_by (has_failed n) (nat_le STUCK t.stood)
 
 -- ---- what is answered
 
--- the word for it
+-- its name, as answers have it
 abbrev pub health_word : Health → List ℕ
 health_word Works = codes "ok"
 health_word Behind = codes "behind"
@@ -69,7 +69,7 @@ ready_code Alone = 503
 ready_code Stuck = 503
 ready_code Failed = 503
 
--- what a watcher is answered that asks whether the node lives
+-- what a watcher is answered that asks whether the node runs
 abbrev pub health_answer : Health → AnswerValue
 health_answer h = record { code = health_code h; body = line (health_word h) }
 

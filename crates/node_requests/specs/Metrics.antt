@@ -90,7 +90,7 @@ is_at Stuck Stuck = 1
 is_at Failed Failed = 1
 is_at state h = 0
 
--- how it stands among the others: 1 at its health, and 0 at each other
+-- the node's health: 1 at that one, and 0 at each other
 abbrev pub health_metrics : Health → List ℕ
 health_metrics h = samples_of (codes "gauge") (codes "pfx_health") (codes "1 at the health that the node has.")
     (codes "state")

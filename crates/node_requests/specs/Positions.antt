@@ -8,12 +8,12 @@ use Rattle.pf_entry.specs.Reading.{reading}
 use Rattle.pf_command.specs.Arguments.{command_words}
 use Rattle.node_requests.specs.Outcomes.{kept_line}
 
--- an entry that spells no command has no words
+-- an entry that spells no command has no arguments
 abbrev pub words_read : Option entries.Entry → List ℕ
 words_read None = []
 words_read (Some e) = codes " " ++ command_words e.command
 
--- what came of it is behind the words; a line without it ends so
+-- the outcome is behind the arguments; a line without one ends so
 abbrev pub behind_words : List ℕ → List ℕ
 behind_words [] = codes "\n"
 behind_words (b ∷ outcome) = 32 ∷ b ∷ outcome

@@ -54,7 +54,7 @@ abbrev pub value_of : List ℕ → List (List ℕ × List ℕ) → Option (List 
 value_of name [] = None
 value_of name (p ∷ ps) = if bytes_eq p.0 name then Some p.1 else value_of name ps
 
--- the positions that it says
+-- the number of positions in it
 abbrev pub position_at : Option (List ℕ) → Option ℕ
 position_at None = None
 position_at (Some value) = position_in value

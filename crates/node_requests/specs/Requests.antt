@@ -84,7 +84,7 @@ IsReadIf false n accepted t r a = IsRead n accepted t r a
 
 -- ---- all requests
 
--- where no memory is there for the line of a change that was asked or refused
+-- when out of memory for the line of a change that was asked or refused
 abbrev pub no_memory : AnswerValue
 no_memory = record { code = 503; body = [] }
 

@@ -209,7 +209,7 @@ abbrev pub routed_behind : Option Text → (method path query body : List ℕ) �
 routed_behind None method path query body json = plain_asked method path query body json
 routed_behind (Some name) method path query body json = standing_asked method name query
 
--- what a method, a path, a query and a body ask for; json says that the answer may be JSON
+-- what a method, a path, a query and a body ask for; json is whether the answer may be JSON
 abbrev pub routed : (method path query body : List ℕ) → (json : Bool) → RoutedValue
 routed method path query body json = routed_behind (behind path) method path query body json
 

@@ -29,7 +29,7 @@ waiting = shown (codes "waiting\n")
 abbrev pub unknown : AnswerValue
 unknown = record { code = 404; body = codes "unknown\n" }
 
--- of one that was learned, its place; of another one, whether this node took it in
+-- of one that was learned, its place; of another one, whether this node accepted it
 -- Example: applied 411 and ok 1 0.
 abbrev pub standing_at : Log Bytes → (applied kept : ℕ) → Bool → Option ℕ → AnswerValue
 standing_at log applied kept ours (Some p) =

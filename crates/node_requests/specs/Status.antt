@@ -59,7 +59,7 @@ store_word false = codes "ok"
 
 -- ---- strings
 
--- a number, or the word for none
+-- a number, or this text where there is none
 abbrev pub number_or : (never : Text) → Option ℕ → List ℕ
 number_or never None = never
 number_or never (Some n) = decimal n

@@ -24,8 +24,8 @@ impl Drop for Answer {
     }
 }
 
-/// HTTP's status for the number of a refusal: 404 no such table, 413 too long, 429 too many wait, 503 nothing is taken
-/// in, else 400.
+/// HTTP's status for the number of a refusal: 404 no such table, 413 too long, 429 too many wait, 503 nothing is
+/// accepted, else 400.
 pub fn status_of(code: u8) -> u16
     ensures { result ≡ status_of code }
 {

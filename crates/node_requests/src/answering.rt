@@ -103,7 +103,7 @@ impl<R: Records> RequestHandler<R> {
         standing(self.alloc, &self.node, self.accepted, origin, number)
     }
 
-    /// How the node stands among the others.
+    /// The node's health.
     pub fn health(&self, counters: &Counters) -> Health
         ensures { result ≡ health self.now.node counters.now }
     {
@@ -167,8 +167,8 @@ impl<R: Records> RequestHandler<R> {
         changed
     }
 
-    /// What a change answers. Where no memory is there for its line it is 503 with an empty body, and the node may have
-    /// been asked.
+    /// What a change answers. When out of memory for its line it is 503 with an empty body, and the node may have been
+    /// asked.
     fn change_answer(&mut self, command: &Command) -> Answer
         ensures { IsChange self.old self.new (command_value command.now) (answer_value result) }
     {
@@ -194,7 +194,7 @@ impl<R: Records> RequestHandler<R> {
     }
 
     /// What a request answers: a read leaves all as it was, a change is one ask of the node or a refusal with nothing
-    /// changed. Where memory runs out nothing has changed.
+    /// changed. When out of memory nothing has changed.
     pub fn answer(&mut self, request: &Request, counters: &Counters) -> Result<Answer, AllocError>
         ensures answers { IfOk result (λ a. Answers self.old self.new counters.now request.now (answer_value a)) }
         ensures memory { OnErr result (self.new ≡ self.old) }

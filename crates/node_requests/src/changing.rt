@@ -15,11 +15,11 @@ use std::alloc::{AllocError, Global};
 /// What became of a change.
 #[derive(Clone, Copy, PartialEq, Eq)]
 pub enum Changed {
-    /// The node took the command in: its number as a member, and the number that the request got there.
+    /// The node accepted the command: its number as a member, and the number that the request got there.
     Asked(u8, u64),
     /// It wasn't accepted: the number of the refusal.
     Refused(u8),
-    /// It wasn't accepted: memory runs out.
+    /// It wasn't accepted: out of memory.
     Memory,
 }
 

@@ -21,8 +21,8 @@ pub struct Counters {
     pub up: u64,
     /// A row for each other member, by their numbers.
     pub peers: Vec<PeerCounters>,
-    /// Whole seconds for which commands have waited, here or at a member that proposes one, while the front stood; 0
-    /// where none waits.
+    /// Whole seconds for which commands have waited, here or at a member that proposes one, while the front didn't
+    /// move; 0 where none waits.
     pub stood: u64,
     /// How often a higher round refused one of this member's since the front moved last.
     pub outrun: u64,

@@ -11,7 +11,7 @@ use pf_node::Node;
 use px_records::Records;
 use std::alloc::{AllocError, Global};
 
-/// How many lines are shown of the log where it isn't said from where.
+/// How many lines of the log are shown where no first position is given.
 const LAST_LINES: u32 = 20;
 
 /// How many lines are shown at most.
@@ -112,9 +112,9 @@ pub(crate) fn entries<R: Records>(
     Ok(Answer { code: 200, body })
 }
 
-/// The log from a position on, or its last 20 lines: the positions that are applied, each a line with who took its
-/// command in, the number there, the command's words and what came of it. It ends after 1,000 lines, and after the line
-/// with which it has 262,144 bytes.
+/// The log from a position on, or its last 20 lines: the positions that are applied, each a line with the member that
+/// accepted its command, the number there, the command's arguments and its outcome. It ends after 1,000 lines, and
+/// after the line with which it has 262,144 bytes.
 pub(crate) fn log<R: Records>(
     alloc: Global,
     node: &Node<R>,

@@ -1,4 +1,4 @@
-//! How a node stands among the others.
+//! A node's health.
 
 ghost use Rattle.std.specs.Prelude.{◌≡◌, ◌≤◌, ◌+◌, IfOk, length, take};
 ghost use Rattle.node_requests.specs.Answers.{answer_value};
@@ -12,10 +12,10 @@ use pf_scripts::push_line;
 use px_records::Records;
 use std::alloc::{AllocError, Global};
 
-/// For how many seconds commands may wait while the front stands, before that is said.
+/// For how many seconds commands may wait while the front doesn't move, before that is reported.
 pub const STUCK: u64 = 10;
 
-/// How a node stands among the others.
+/// A node's health.
 #[derive(Clone, Copy, PartialEq, Eq)]
 pub enum Health {
     /// It hears a majority, has applied what it could, and what waits is learned.
@@ -24,7 +24,7 @@ pub enum Health {
     Behind,
     /// It hears fewer than a majority of the members, itself counted.
     Alone,
-    /// Commands have waited for ten seconds, here or at a member that proposes one, while the front stood.
+    /// Commands have waited for ten seconds, here or at a member that proposes one, while the front didn't move.
     Stuck,
     /// Its store failed.
     Failed,
@@ -55,10 +55,10 @@ fn is_shown(applied: u32, peers: &[PeerCounters]) -> bool
 }
 
 impl Health {
-    /// How a node stands among the others: failed where its store failed, else stuck where commands have waited for ten
-    /// seconds while the front stood, else alone where fewer than a majority were heard in the last three seconds, this
-    /// one counted, else behind where not everything is applied that is learned here, or was learned two seconds ago as
-    /// a member shows, else it works. A row for each member but this one has what was heard of it.
+    /// A node's health: failed where its store failed, else stuck where commands have waited for ten seconds while the
+    /// front didn't move, else alone where fewer than a majority were heard in the last three seconds, this one
+    /// counted, else behind where not everything is applied that is learned here, or was learned two seconds ago as a
+    /// member shows, else it works. A row for each member but this one has what was heard of it.
     pub fn of<R: Records>(node: &Node<R>, counters: &Counters) -> Health
         ensures { result ≡ health node.now counters.now }
     {
@@ -80,7 +80,7 @@ impl Health {
         Health::Works
     }
 
-    /// The word for it.
+    /// Its name, as answers have it.
     pub fn word(self) -> &'static str
         ensures { result.now ≡ health_word self }
     {

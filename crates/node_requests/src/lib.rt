@@ -11,7 +11,7 @@
 //!   [`push_positions`]: those of some positions. [`push_outcome`]: what came of a command, a line as a script prints
 //!   it.
 //! - [`laws`]: which requests change something, and with what others are refused; what a verdict meets is bounded.
-//! - `specs/Routing` says what HTTP's requests ask for, `specs/Answers` what is answered, `specs/Changing` what a
+//! - `specs/Routing` defines what HTTP's requests ask for, `specs/Answers` what is answered, `specs/Changing` what a
 //!   change does, `specs/Positions` the lines of a log.
 //!
 //! # Why
@@ -27,7 +27,7 @@
 //!   lacks the last positions while votes are on their way.
 //! - **A carriage return before a newline is no part of an address or a packet**: bodies over HTTP may have such lines.
 //!   In a change it is refused, as in pf.conf(5).
-//! - **The words of a change are read once**, where they come in. What isn't understood is refused there; what is
+//! - **The arguments of a change are read once**, where they come in. What isn't understood is refused there; what is
 //!   understood is a command from then on. A listing has none: its parameters give an action.
 //! - **`sync` is a load that no configuration accepts**: it is learned and applied, and changes nothing.
 //! - **A request is sought in the log whenever a client asks for it**, from the front down. One that waits has a number

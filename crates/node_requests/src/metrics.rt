@@ -217,7 +217,7 @@ fn is_at(state: Health, health: Health) -> u64
     }
 }
 
-/// How it stands among the others: 1 at its health, and 0 at each other.
+/// The node's health: 1 at that one, and 0 at each other.
 fn push_health(alloc: Global, out: &mut String, health: Health) -> Result<(), AllocError>
     ensures { OnOk result (string_bytes out.new ≡ string_bytes out.old ++ health_metrics health) }
 {

@@ -27,7 +27,7 @@ fn push_words(alloc: Global, out: &mut String, bytes: &[u8]) -> Result<(), Alloc
     }
 }
 
-/// Puts what came of a command behind its words.
+/// Appends a command's outcome to its arguments.
 fn push_behind(out: &mut String, outcome: &str) -> Result<(), AllocError>
     ensures { OnOk result (string_bytes out.new ≡ string_bytes out.old ++ behind_words outcome.now) }
 {

@@ -132,7 +132,7 @@ pub(crate) fn value_of<'a>(name: &str, given: &'a [Parameter]) -> Option<&'a str
     None
 }
 
-/// The positions that the parameter of this name says.
+/// The number of positions in the parameter of this name.
 pub(crate) fn position_of(name: &str, given: &[Parameter]) -> Option<u32>
     ensures { result ≡ position_of name.now (pairs_of given.now) }
 {

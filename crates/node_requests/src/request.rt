@@ -14,7 +14,7 @@ pub enum Read<'a> {
     },
     /// What became of a request.
     Standing {
-        /// The node that took it in.
+        /// The node that accepted it.
         origin: u8,
         /// Its number there.
         number: u64,
@@ -26,9 +26,9 @@ pub enum Read<'a> {
     },
     /// The entries at the applied positions, as they are spelled.
     Entries {
-        /// The first position, 0 if it isn't said.
+        /// The first position, 0 if it isn't given.
         from: Option<u32>,
-        /// How many at most, 1,000 if it isn't said or is more.
+        /// How many at most; 1,000 if it isn't given or is more.
         count: Option<u32>,
     },
     /// How the node is, in lines or as JSON.

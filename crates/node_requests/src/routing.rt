@@ -80,7 +80,7 @@ fn request_number(text: &str) -> Option<(u8, u64)>
     }
 }
 
-/// A change: its words are the first line, the text is what is behind it.
+/// A change: its arguments are the first line, the text is what is behind it.
 fn change_in<'a>(alloc: Global, body: &[u8]) -> Result<Routed<'a>, AllocError>
     ensures { IfOk result (λ r. routed_value r ≡ change_asked body.now) }
 {
@@ -260,7 +260,7 @@ fn behind(path: &str) -> Option<&str>
     path.strip_prefix("/v1/requests/")
 }
 
-/// What HTTP's method, path, query (what is behind the `?`, without it) and body ask for; `json` says that `Accept`
+/// What HTTP's method, path, query (what is behind the `?`, without it) and body ask for; `json` is whether `Accept`
 /// names `application/json`.
 ///
 /// The path has no escapes; those of the query are read, and `+` stands for a blank there. A line of the body ends with

@@ -91,7 +91,7 @@ host_port text =
     else if is_host (take colon text) then used_port (port_behind colon text)
     else None
 
--- the address that the text is, or what the system says of the name that it is, with its port
+-- the address that the text is, or what the system gives for the name that it is, with its port
 abbrev pub IsFound : List ℕ → Address → Type 0
 IsFound text a = (address_of text ≡ Some a) ⊎ ((address_of text ≡ None) × (host_port text ≡ Some a.port))
 

@@ -41,7 +41,7 @@ abbrev pub ip_at : IpAddr → Addr
 ip_at (ips.V4 ip) = V4 (ipv4_bits ip)
 ip_at (ips.V6 ip) = V6 (ipv6_bits ip)
 
--- the address of whoever sends from there
+-- the address of a sender there
 abbrev pub address_at : SocketAddr → Address
 address_at there = record { ip = ip_at (socket_ip there); port = socket_port there }
 

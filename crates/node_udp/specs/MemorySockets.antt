@@ -12,7 +12,7 @@ came_of s = take s.next (map (λ d. (d.0, d.1.items)) s.coming.items)
 abbrev pub kept_of : MemorySocket → List (SocketAddr × List ℕ)
 kept_of s = map (λ d. (d.0, d.1.items)) s.went.items
 
--- what it was handed so far; none once memory was refused
+-- what it was handed so far; none once out of memory
 abbrev pub went_of : MemorySocket → Option (List (SocketAddr × List ℕ))
 went_of s = if s.is_whole then Some (kept_of s) else None
 
@@ -28,7 +28,7 @@ went_in [] = []
 went_in (Came from bytes ∷ es) = went_in es
 went_in (Went to bytes ∷ es) = (to, bytes) ∷ went_in es
 
--- this went over it: what came to it, and, while memory has that, what it was handed
+-- this went over it: what it received, and, while memory has that, what it was handed
 pub record WentOver (s : MemorySocket) (es : List SocketEvent) : Type 0 where
   pub came : came_in es ≡ came_of s
   pub went : IfSome (went_of s) (λ all. went_in es ≡ all)

@@ -165,7 +165,7 @@ impl Address {
         Address { ip, port: 0 }
     }
 
-    /// What a socket says of where a datagram came from.
+    /// The address of a datagram's sender, as a socket reports it.
     pub(crate) fn of_socket(from: SocketAddr) -> Address
         ensures { result ≡ address_at from }
     {

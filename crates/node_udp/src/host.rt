@@ -56,7 +56,7 @@ fn host_port(text: &[u8]) -> Option<u16>
     used_port(&text[colon + 1..])
 }
 
-/// The first IPv4 address that the system says of the name, else the first of any kind.
+/// The first IPv4 address that the system gives for the name, else the first of any kind.
 fn look_up<R: Net>(rt: &R, host: &str, port: u16) -> Option<Addr> {
     let Ok(found) = (host, port).to_socket_addrs(rt) else {
         return None;
@@ -74,7 +74,7 @@ fn look_up<R: Net>(rt: &R, host: &str, port: u16) -> Option<Addr> {
     first
 }
 
-/// The address that the text is, or what the system says of the host's name in it.
+/// The address that the text is, or what the system gives for the host's name in it.
 pub(crate) fn find<R: Net>(rt: &R, text: &str) -> Option<Address>
     ensures found { IfSome result (λ a. IsFound text.now a) }
     ensures written { result ≡ None → address_of text.now ≡ None }

@@ -34,7 +34,7 @@ impl Drop for MemorySocket {
 }
 
 impl MemorySocket {
-    /// A socket to which these come, and that was handed nothing. Takes no memory.
+    /// A socket to which these come, and that was handed nothing. Allocates nothing.
     pub fn new(alloc: Global, coming: Vec<(SocketAddr, Vec<u8>)>) -> MemorySocket
         ensures came { came_of result ≡ [] }
         ensures went { went_of result ≡ Some [] }
@@ -49,7 +49,7 @@ impl MemorySocket {
         }
     }
 
-    /// What it was handed: for which address, and the bytes. `None` once memory was refused.
+    /// What it was handed: for which address, and the bytes. `None` once out of memory.
     pub fn went(&self) -> Option<&[(SocketAddr, Vec<u8>)]>
         ensures { option_map (λ s. map (λ d. (d.0, d.1.items)) s.now) result ≡ went_of self.now }
     {

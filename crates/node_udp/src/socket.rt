@@ -36,7 +36,7 @@ pub trait Socket {
         ensures quiet { IsQuiet (traffic self.old) (traffic self.new) };
 }
 
-// The system's socket. No contract says what went over it: that it is what these calls say is trusted.
+// The system's socket. No contract states what went over it: that it is what these calls report is trusted.
 impl Socket for UdpSocket {
     ghost traffic = { λ s es. Unit {0} };
 

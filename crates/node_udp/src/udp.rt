@@ -198,7 +198,7 @@ impl<R: Net + Clock + Copy> UdpWire<UdpSocket, R> {
 }
 
 impl<C> UdpWire<UdpSocket, C> {
-    /// The socket's descriptor, for whoever waits for several.
+    /// The socket's descriptor, for a caller that waits for several.
     pub fn raw_fd(&self) -> RawFd {
         self.socket.as_raw_fd()
     }

@@ -16,7 +16,7 @@ abbrev pub bits_of : Addr → ℕ
 bits_of (V4 bits) = bits
 bits_of (V6 bits) = bits
 
--- how two prefixes stand to one another: by family, IPv4 first, then by length, then by first address
+-- the order of two prefixes: by family, IPv4 first, then by length, then by first address
 -- Example: 10/8 is before 9.0.0.0/9.
 unfoldable pub prefix_cmp : Block → Block → Ordering
 prefix_cmp p q =

@@ -1,4 +1,4 @@
--- What the code's values stand for, and what its calls answer.
+-- What the code's values stand for, and what its calls return.
 use Rattle.std.specs.Prelude.{◌≡◌, ℕ, false, List, Option, Some, None, Result, Ok, Err, Vec}
 use Rattle.pf_addr.specs.Faults.{fault_code}
 use Rattle.pf_addr.specs.declared.addr.Addr.{Addr}
@@ -11,7 +11,7 @@ use Rattle.pf_arguments.specs.declared.fault.CommandFault.TheVariants.{Memory, U
 use Rattle.pf_arguments.specs.Asked.{Asked, ActionValue, Change, CheckOnly, ShowRules, ShowTables}
 use Rattle.pf_arguments.specs.Asked.{ShowAnchors, TableShow, TableTest, is_too_long}
 
--- none for lack of memory
+-- none when out of memory
 abbrev pub command_fault_code : CommandFault → Option ℕ
 command_fault_code Memory = None
 command_fault_code Usage = Some 40
@@ -35,7 +35,7 @@ abbrev pub vec_read : {X A : Type 0} → Result (Vec X A) CommandFault → Resul
 vec_read (Ok v) = Ok v.items
 vec_read (Err fault) = Err fault
 
--- of the faults of arguments that spell no values this is the lowest; nothing is said of out of memory
+-- of the faults of arguments that spell no values this is the lowest; out of memory isn't specified
 abbrev pub FailsToRead : {X : Type 0} → CommandFault → Result (List X) AddrFault → Type 0
 FailsToRead Memory read = Unit {0}
 FailsToRead Usage read = ⊥
@@ -51,7 +51,7 @@ Reads (Err fault) read = FailsToRead fault read
 
 -- ---- actions
 
--- the fault is the one that is defined; nothing is said of out of memory
+-- the fault is the one that is defined; out of memory isn't specified
 abbrev pub FailsAs : CommandFault → Asked → Type 0
 FailsAs Memory asked = Unit {0}
 FailsAs Usage asked = asked ≡ Err Usage

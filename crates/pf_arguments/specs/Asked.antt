@@ -54,7 +54,7 @@ given_in rows = record {
   addresses = unwrap_or (all_of (codes "address") rows) [];
 }
 
--- ---- the word which says what to do
+-- ---- the operation that the options choose
 
 -- -F rules|Tables|all
 abbrev pub flush_word : Text → Option Word
@@ -87,7 +87,7 @@ show_word text =
 abbrev pub load_word : Bool → Word
 load_word check = if check then Whole whole.Check else Whole whole.Load
 
--- a word, and none where -n was given
+-- an operation, and none where -n was given
 abbrev pub unless : Bool → Option Word → Option Word
 unless true word = None
 unless false word = word
@@ -100,12 +100,12 @@ chosen check None None (Some text) None = unless check (table_word text)
 chosen check None None None (Some text) = unless check (show_word text)
 chosen _ _ _ _ _ = None
 
--- the word among what was given, none where the options don't go together or the value is no such word
+-- the operation among what was given, none where the options don't go together or the value names none
 -- Example: -F rules -s rules is none.
 abbrev pub word_of : GivenWords → Option Word
 word_of given = chosen given.check given.file given.flush given.change given.show
 
--- addresses stand only with add, delete and test, one or more, and with replace, any number
+-- addresses are given only with add, delete and test, one or more, and with replace, any number
 abbrev pub may_have : TableWord → ℕ → Bool
 may_have table.Add n = nat_lt 0 n
 may_have table.Delete n = nat_lt 0 n
@@ -135,7 +135,7 @@ before (Ok x) (Err f) = Err f
 before (Err e) (Ok xs) = Err e
 before (Err e) (Err f) = Err (lower e f)
 
--- each word's value, or the lowest fault of any
+-- each argument's value, or the lowest fault of any
 -- Example: 10/33 10.0.0 is 2.
 abbrev pub each : {X : Type 0} → (Text → Result X AddrFault) → List Text → Result (List X) AddrFault
 each value [] = Ok []
@@ -153,7 +153,7 @@ entry_of (b ∷ bytes) = if b == 33 then signed true (prefix_of bytes) else sign
 
 -- ---- what is asked for
 
--- a change, or a look at what stands
+-- a change, or what changes nothing: a check, a listing or a test
 pub data ActionValue : Type 0 where
   Change : (command : entry.Command) → ActionValue
   CheckOnly : (path : List Name) → ActionValue
@@ -180,7 +180,7 @@ abbrev pub on_list : {X : Type 0} → (List X → Asked) → Result (List X) Add
 on_list action (Ok list) = action list
 on_list action (Err fault) = Err (BadAddress fault)
 
--- what a word for a whole ruleset asks for at a path, with the text behind -f
+-- what an operation on a whole ruleset asks for at a path, with the text of -f
 abbrev pub whole_action : WholeWord → List Name → List ℕ → Asked
 whole_action whole.Load p text = change (entry.load p profile.Two text)
 whole_action whole.Check p text = Ok (CheckOnly p)
@@ -191,7 +191,7 @@ whole_action whole.ShowRules p text = Ok (ShowRules p)
 whole_action whole.ShowTables p text = Ok (ShowTables p)
 whole_action whole.ShowAnchors p text = Ok ShowAnchors
 
--- what a word for a table asks for, with the addresses as words
+-- what an operation on a table asks for, with the addresses as arguments
 abbrev pub table_action : TableWord → List Name → Name → List Text → Asked
 table_action table.Add p t words = on_list (λ list. change (entry.add p t list)) (each entry_of words)
 table_action table.Delete p t words = on_list (λ list. change (entry.delete p t list)) (each entry_of words)
@@ -205,13 +205,13 @@ abbrev pub at_path : Option (List Name) → (List Name → Asked) → Asked
 at_path None action = Err BadPath
 at_path (Some p) action = action p
 
--- -t stands with -T and only there
+-- -t is given with -T, and only with it
 abbrev pub whole_asked : WholeWord → GivenWords → List ℕ → Asked
 whole_asked word given text =
     if is_some given.table || nat_lt 0 (length given.addresses) then Err Usage
     else at_path (path_given given) (λ p. whole_action word p text)
 
--- a word for a table wants -t, and as many addresses as it may have
+-- an operation on a table requires -t, and as many addresses as it may have
 abbrev pub table_asked : TableWord → Option Name → GivenWords → Asked
 table_asked word None given = Err Usage
 table_asked word (Some t) given =
@@ -219,12 +219,12 @@ table_asked word (Some t) given =
     then at_path (path_given given) (λ p. table_action word p t given.addresses)
     else Err Usage
 
--- what a word asks for with all that was given; without a word the use is wrong
+-- what an operation asks for with all that was given; without an operation the usage is wrong
 abbrev pub asked_by : Option Word → GivenWords → List ℕ → Asked
 asked_by None given text = Err Usage
 asked_by (Some (Whole word)) given text = whole_asked word given text
 asked_by (Some (OnTable word)) given text = table_asked word (table_given given) given
 
--- the action, or the first fault: 40 of the words, 24 of the path, 1 to 3 of an address, 41 of a change
+-- the action, or the first fault: 40 of the arguments, 24 of the path, 1 to 3 of an address, 41 of a change
 unfoldable pub asked : GivenWords → List ℕ → Asked
 asked given text = asked_by (word_of given) given text

@@ -12,7 +12,7 @@ value_rule id letter = record (new_rule id) { short = Some letter; action = Some
 abbrev pub flag_rule : Text → ℕ → Rule
 flag_rule id letter = record (new_rule id) { short = Some letter; action = Some SetTrue }
 
--- any number of words
+-- any number of arguments
 abbrev pub address_rule : Rule
 address_rule = record (new_rule (codes "address")) {
   action = Some Append;

@@ -1,4 +1,4 @@
-//! What words ask for.
+//! What arguments ask for.
 
 use pf_addr::Addr;
 use pf_entry::{Command, Path, TableName};

@@ -11,7 +11,7 @@ use pf_addr::{Addr, AddrFault, parse_addr, parse_prefix};
 use pf_rules::TableEntry;
 use std::alloc::Global;
 
-/// Whether `!` stands first, and what is behind it, or all of the word.
+/// Whether `!` comes first, and what follows it, or all of the argument.
 #[tactic(auto, using(crate::proofs::Each::negated, crate::proofs::Each::not_negated))]
 fn cut_sign(word: &str) -> (bool, &str)
     ensures { entry_of word.now ≡ signed result.0 (prefix_of result.1.now) }
@@ -49,7 +49,7 @@ fn lowest(found: Option<AddrFault>, fault: AddrFault) -> AddrFault
     }
 }
 
-/// The entries that the words spell, one for each of the words, or the lowest fault of any.
+/// The entries that the arguments spell, one for each argument, or the lowest fault of any.
 pub(crate) fn entries(alloc: Global, words: &[&str]) -> Result<Vec<TableEntry>, CommandFault>
     ensures values { ReadsEntries (vec_read result) (each entry_of (map (λ w. w.now) words.now)) }
     ensures count { IfOk result (λ v. length v.items ≡ length words.now) }
@@ -57,7 +57,7 @@ pub(crate) fn entries(alloc: Global, words: &[&str]) -> Result<Vec<TableEntry>, 
     read_entries(alloc, words)
 }
 
-/// The entries that the words spell, or the lowest fault of any.
+/// The entries that the arguments spell, or the lowest fault of any.
 fn read_entries(alloc: Global, words: &[&str]) -> Result<Vec<TableEntry>, CommandFault>
     ensures { ReadsEntries (vec_read result) (each entry_of (map (λ w. w.now) words.now)) }
 {
@@ -75,7 +75,7 @@ fn read_entries(alloc: Global, words: &[&str]) -> Result<Vec<TableEntry>, Comman
     }
 }
 
-/// The addresses that the words spell, or the lowest fault of any.
+/// The addresses that the arguments spell, or the lowest fault of any.
 pub fn read_addresses(alloc: Global, words: &[&str]) -> Result<Vec<Addr>, CommandFault>
     ensures { Reads (vec_read result) (each addr_of (map (λ w. w.now) words.now)) }
 {

@@ -8,7 +8,7 @@ ghost use Rattle.pf_arguments.specs.Options.{value_rule, flag_rule, address_rule
 use clap::{Arg, ArgAction, Command};
 use std::alloc::{AllocError, Global};
 
-/// What help says of each option.
+/// The help of each option.
 const PATH: &str = "An anchor's path, names between slashes; without it the main ruleset";
 
 const FILE: &str = "Loads a text of rules; - is standard input";

@@ -1,4 +1,4 @@
-//! The word that says what pfctl is to do.
+//! The operation that pfctl's options choose.
 
 ghost use Rattle.std.specs.Prelude.{◌≡◌};
 ghost use Rattle.pf_arguments.specs.Asked.{flush_word, table_word, show_word, load_word, chosen, may_have, word_of};
@@ -105,7 +105,7 @@ fn load_word(check: bool) -> Word
     }
 }
 
-/// The one word of `-f`, `-F`, `-T` and `-s`; none where there is none or more than one, or `-n` without `-f`.
+/// The one operation of `-f`, `-F`, `-T` and `-s`; none where there is none or more than one, or `-n` without `-f`.
 pub(crate) fn word_of(given: Given<'_, '_>) -> Option<Word>
     ensures { result ≡ word_of (given_of given.entry) }
 {

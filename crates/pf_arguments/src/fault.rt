@@ -1,4 +1,4 @@
-//! Why words ask for nothing.
+//! Why arguments ask for nothing.
 
 ghost use Rattle.std.specs.Prelude.{◌≡◌};
 ghost use Rattle.pf_arguments.specs.declared.fault.CommandFault.TheVariants.{Memory};
@@ -8,7 +8,8 @@ use pf_addr::AddrFault;
 use std::alloc::{AllocError, AllocFailed};
 use thiserror::Error;
 
-/// Why words ask for nothing. Of several the first in this list is answered, and of faulty addresses the lowest fault.
+/// Why arguments ask for nothing. Of several faults the first in this list is returned, and of faulty addresses the
+/// lowest fault.
 #[derive(Clone, Copy, Debug, PartialEq, Eq, Error)]
 pub enum CommandFault {
     /// A growth was refused.
@@ -29,7 +30,7 @@ pub enum CommandFault {
 }
 
 impl CommandFault {
-    /// The number of the refusal; none for lack of memory.
+    /// The number of the refusal; none when out of memory.
     pub fn code(self) -> Option<u8>
         ensures { result ≡ command_fault_code self }
     {

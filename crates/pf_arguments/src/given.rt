@@ -31,7 +31,7 @@ fn is_given(text: Option<&str>) -> bool
     }
 }
 
-/// The words, none where there are none.
+/// The arguments; an empty slice where none are given.
 fn or_none<'m, 'a>(words: Option<&'m [&'a str]>) -> &'m [&'a str]
     ensures { map (λ w. w.now) result.now
         ≡ unwrap_or (option_map (λ s. map (λ w. w.now) s.now) words.entry) [] }

@@ -9,8 +9,8 @@
 //!
 //! # Why
 //!
-//! - What a command counts is found before its change is made: a change can't be taken back, so nothing may be
-//!   wanting behind it. A table is therefore made twice for a command on it.
+//! - What a command counts is found before its change is made: a change can't be undone, so nothing after it may run
+//!   out of memory. A table is therefore made twice for a command on it.
 //! - The two flushes of `-F all` are one call of a configuration, for the same reason.
 //! - Arguments are read without the grammar, so they are proved beside it; what a command does is pf_command's, which
 //!   hands out these calls too.
@@ -21,12 +21,12 @@
 //! - A value of `-F`, `-T` or `-s` that is none of its values is 40, as is a name of `-t` that is no table's, and
 //!   so are `-h` and `--help` in a script.
 //! - A change is too long (41) where its entry of origin 0 and number 0 has no spelling: an entry's length doesn't
-//!   hang on either.
-//! - In a line of a script words are cut at spaces and tabs. A line with a word that isn't UTF-8 is one unknown
-//!   line, 40; as blanks are ASCII, that is the same as a line that isn't UTF-8.
-//! - `test` with no words behind it is a packet text that is none: 30. The words in a packet are put together again
-//!   with one blank between them.
-//! - Whether a ruleset follows a line is asked of `clap`'s matches; where it refuses the words, of the words
+//!   depend on either.
+//! - In a line of a script arguments are separated by spaces and tabs. A line with an argument that isn't UTF-8 is one
+//!   unknown line, 40; as blanks are ASCII, that is the same as a line that isn't UTF-8.
+//! - `test` without arguments has a packet text that is none: 30. The arguments of a packet are joined with one blank
+//!   between them.
+//! - Whether a ruleset follows a line is decided by `clap`'s matches; where it refuses the arguments, by the arguments
 //!   themselves (`-f` and `-` side by side).
 //! - `-s Anchors` takes the paths of the entries and of all that lead to them; a line that two of them give is
 //!   printed once.

@@ -148,7 +148,7 @@ fn table_action(
     }
 }
 
-/// The action of a word that isn't on a table: neither `-t` nor addresses stand beside it.
+/// The action of an operation that isn't on a table: neither `-t` nor addresses are given with it.
 fn whole_asked(
     alloc: Global,
     word: WholeWord,
@@ -165,7 +165,8 @@ fn whole_asked(
     whole_action(alloc, word, path, text)
 }
 
-/// The action of a word on a table: `-t` names it, and there are as many addresses as may be.
+/// The action of an operation on a table: `-t` names the table, and there are as many addresses as the operation may
+/// have.
 fn table_asked(alloc: Global, word: TableWord, given: Given<'_, '_>) -> Result<Action, CommandFault>
     ensures answer { Answers result (table_asked word (table_given (given_of given.entry)) (given_of given.entry)) }
     ensures short { IfOk result IsShort }
@@ -180,7 +181,7 @@ fn table_asked(alloc: Global, word: TableWord, given: Given<'_, '_>) -> Result<A
     table_action(alloc, word, path, table, given.addresses)
 }
 
-/// What the matches of pfctl's words ask for; `text` is what the file of `-f` has.
+/// What the matches of pfctl's arguments ask for; `text` is what the file of `-f` has.
 ///
 /// Faults in this order: 40 of options that don't go together, 24 of a path, 1 to 3 of an address (where several have
 /// one, the lowest), 41 of a change that is too long for an entry. A ruleset is loaded by the second profile.

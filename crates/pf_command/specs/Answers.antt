@@ -6,7 +6,7 @@ use Rattle.pf_command.specs.declared.fault.ApplyFault.{ApplyFault}
 use Rattle.pf_command.specs.declared.fault.ApplyFault.TheVariants.{Memory, Refused}
 use Rattle.pf_command.specs.Effect.{Effect, RefusedCommand}
 
--- The configuration and the counts are the effect's, or the refusal is; a command that is refused, or finds no memory,
+-- The configuration and the counts are the effect's, or the refusal is; a command that is refused, or is out of memory,
 -- changes nothing.
 abbrev pub Applies : Result Applied ApplyFault → Configuration → Configuration →
     Result Effect RefusedCommand → Type 0

@@ -1,4 +1,4 @@
--- A command's words.
+-- A command's arguments.
 use Rattle.std.specs.Prelude.{ℕ, List, [], ◌∷◌, ◌++◌, length, codes, decimal}
 use Rattle.std.specs.List.{flat_map}
 use Rattle.pf_config.specs.Map.{Path}

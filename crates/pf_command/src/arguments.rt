@@ -1,4 +1,4 @@
-//! A command's words, as an operator types them.
+//! A command's arguments, as an operator types them.
 
 ghost use Rattle.std.specs.Prelude.{◌≡◌, ◌++◌, ◌∷◌, OnOk, codes, decimal, length, string_bytes};
 ghost use Rattle.std.specs.List.{flat_map};
@@ -107,7 +107,7 @@ fn push_change(
     push_addresses(alloc, out, list)
 }
 
-/// Puts a command's words behind the text, without `pfctl`; a load's text is only counted.
+/// Appends a command's arguments to the text, without `pfctl`; a load's text is only counted.
 pub fn push_command(alloc: Global, out: &mut String, command: &Command) -> Result<(), AllocError>
     ensures { OnOk result (string_bytes out.new ≡ string_bytes out.old ++ command_words (command_value command.now)) }
 {

@@ -227,7 +227,7 @@ flush_all c p = flush_tables (flush_rules c p) p
 
 -- ---- what a call does: it changes the configuration as defined, or is refused so; a refused one changes nothing
 
--- a call with this fault changes nothing, and, unless memory ran out, the same fault is the defined answer
+-- a call with this fault changes nothing, and, unless out of memory, the same fault is the defined answer
 abbrev pub Refuses : ConfigFault → Configuration → Configuration → Result Configuration ConfigFault → Type 0
 Refuses Memory old new r = new ≡ old
 Refuses NoTable old new r = (r ≡ Err NoTable) × (new ≡ old)

@@ -4,7 +4,7 @@ use Rattle.pf_config.specs.declared.fault.ConfigFault.{ConfigFault}
 use Rattle.pf_config.specs.declared.fault.ConfigFault.TheVariants.{NoTable, ConstTable, TableFull, AnchorsFull, BadPath}
 use Rattle.pf_config.specs.declared.fault.ConfigFault.TheVariants.{Memory}
 
--- none for lack of memory
+-- none when out of memory
 abbrev pub fault_code : ConfigFault → Option ℕ
 fault_code NoTable = Some 20
 fault_code ConstTable = Some 21

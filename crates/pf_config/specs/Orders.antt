@@ -22,7 +22,7 @@ use Rattle.pf_config.specs.declared.candidate.Candidate.{Candidate}
 abbrev pub everything : Interval
 everything = record { first = 0; width = 4294967295 }
 
--- the numbers that agree with this one but in the last bits, that many as said; the code's numbers have 32 bits
+-- the numbers that agree with this one in all but the given number of last bits; the code's numbers have 32 bits
 unfoldable pub around : ℕ → ℕ → Interval
 around n bits = record { first = min (n / 2 ^ bits * 2 ^ bits) 4294967295; width = 2 ^ bits - 1 }
 
@@ -35,13 +35,13 @@ abbrev pub front_bits : Addr → ℕ
 front_bits (V4 bits) = bits
 front_bits (V6 bits) = bits / 2 ^ 96
 
--- where the first 32 bits are of the addresses in a set: of those in a table nothing is said
+-- where the first 32 bits of the addresses in a set are; anywhere for those in a table
 unfoldable pub set_interval : Addresses → Interval
 set_interval (Prefix block) = around (front_bits block.base) (32 - block.len)
 set_interval (Range span) = between (front_bits span.first) (front_bits span.last)
 set_interval (Table name) = everything
 
--- where those of the addresses are that a condition on a host asks for: nothing is said where it is negated
+-- the interval of the addresses that a condition on a host allows; where it is negated, all
 unfoldable pub host_interval : Host → Interval
 host_interval Any = everything
 host_interval (In set) = set_interval set
@@ -64,7 +64,7 @@ abbrev pub port_interval : Option PortTest → Interval
 port_interval None = everything
 port_interval (Some t) = test_interval t
 
--- what few comparisons of numbers say of a rule's conditions: it matches no packet outside of these
+-- what few comparisons of numbers test of a rule's conditions: it matches no packet outside of these
 -- Example: to 10/8 port 22: 10.0.0.0 and 2^24 - 1 more; 22.
 unfoldable pub sieve_of : Conditions → Sieve
 sieve_of c = record {

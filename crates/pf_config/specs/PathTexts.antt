@@ -6,13 +6,13 @@ use Rattle.pf_config.specs.declared.fault.ConfigFault.{ConfigFault}
 use Rattle.pf_config.specs.declared.fault.ConfigFault.TheVariants.{NoTable, ConstTable, TableFull, AnchorsFull, BadPath}
 use Rattle.pf_config.specs.declared.fault.ConfigFault.TheVariants.{Memory}
 
--- what stands between the slashes of a string, of which this piece has begun
+-- what is between the slashes of a string, of which this piece has begun
 abbrev pub pieces_from : List ℕ → List ℕ → List (List ℕ)
 pieces_from begun [] = begun ∷ []
 pieces_from begun (b ∷ bytes) = if b == 47 then begun ∷ pieces_from [] bytes
     else pieces_from (begun ++ b ∷ []) bytes
 
--- what stands between the slashes of a string, before the first and behind the last: all of it where there is no slash
+-- what is between the slashes of a string, before the first and after the last: all of it where there is no slash
 abbrev pub pieces : List ℕ → List (List ℕ)
 pieces text = pieces_from [] text
 
@@ -25,7 +25,7 @@ some_path (b ∷ bytes) = path_if (pieces (b ∷ bytes))
 unfoldable pub path_of : List ℕ → Option (List Name)
 path_of text = some_path text
 
--- the path, or 24 where the text is none; unless memory ran out
+-- the path, or 24 where the text is none; unless out of memory
 abbrev pub IsNoPath : ConfigFault → Option (List Name) → Type 0
 IsNoPath Memory path = Unit {0}
 IsNoPath BadPath path = path ≡ None
@@ -34,7 +34,7 @@ IsNoPath ConstTable path = ⊥
 IsNoPath TableFull path = ⊥
 IsNoPath AnchorsFull path = ⊥
 
--- a call answers the path that a string spells, or 24 where it is none, unless memory ran out
+-- a call answers the path that a string spells, or 24 where it is none, unless out of memory
 -- Example: a/_1 is none.
 abbrev pub PathAnswers : Result (List Name) ConfigFault → Option (List Name) → Type 0
 PathAnswers (Ok p) path = path ≡ Some p

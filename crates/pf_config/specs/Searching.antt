@@ -26,6 +26,6 @@ PassesOver s a b =
 abbrev pub FindsNone : Search → (a : ℕ) → Type 0
 FindsNone s a = PassesOver s a (length s.list.now)
 
--- none from a to before this place, where a candidate stands
+-- none from a to before this place, where a candidate is
 abbrev pub FindsAt : Search → (a at : ℕ) → Type 0
 FindsAt s a at = (a ≤ at) × (at < length s.list.now) × PassesOver s a at

@@ -50,12 +50,12 @@ last_name [] = []
 last_name (n ∷ []) = n
 last_name (n ∷ m ∷ ns) = last_name (m ∷ ns)
 
--- it stands directly below the path, and holds something, all of it at its path and below
+-- it is directly below the path, and holds something, all of it at its path and below
 abbrev pub IsKid : Path → AnchorTree → Type 0
 IsKid p k = (k.names ≡ p ++ last_name k.names ∷ []) × (is_empty k.anchors ≡ false) ×
     (list_all (λ (a : AnchorValue). starts_with bytes_eq a.path k.names) k.anchors ≡ true)
 
--- they stand so, in order of their names
+-- they are such anchors, in order of their names
 abbrev pub AreKids : Path → List AnchorTree → Type 0
 AreKids p [] = Unit {0}
 AreKids p (k ∷ ks) = IsKid p k × (list_all (λ (j : AnchorTree). is_before (last_name k.names) (last_name j.names))

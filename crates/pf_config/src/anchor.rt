@@ -159,7 +159,7 @@ impl Anchor {
     }
 
     /// The anchor of that name directly below, to which the rule with this index leads: it is looked for first where
-    /// it stands if rules lead to all anchors below.
+    /// it is if rules lead to all anchors below.
     pub(crate) fn target(&self, index: u32, name: &str) -> Option<&Anchor>
         ensures { option_copied result ≡ child_at self.now name.now }
     {
@@ -215,7 +215,7 @@ impl Anchor {
         Ok(())
     }
 
-    /// Whether an unnamed block stands directly below it.
+    /// Whether an unnamed block is directly below it.
     #[tactic(auto, using(crate::proofs::Unnamed::kids_unnamed))]
     pub(crate) fn has_unnamed_kid(&self) -> bool
         ensures { result ≡ any_unnamed self.now.names self.now.anchors }

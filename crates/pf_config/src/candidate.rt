@@ -1,10 +1,10 @@
-//! A rule as a verdict comes to it: its index, and what few comparisons say of its conditions.
+//! A rule as an evaluation reads it: its index, and what few comparisons test of its conditions.
 
 use pf_addr::Family;
 use pf_rules::Direction;
 use pf_tables::Interval;
 
-/// What few comparisons say of a rule's conditions: the rule matches no packet that is outside of one of these.
+/// What few comparisons test of a rule's conditions: the rule matches no packet that is outside of one of these.
 #[derive(Clone, Copy)]
 pub struct Sieve {
     pub direction: Option<Direction>,

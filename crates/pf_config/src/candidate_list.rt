@@ -11,7 +11,7 @@ use std::marker::Model;
 /// From how many candidates on their intervals are compiled: a walk over fewer costs less than the look-up.
 const COMPILED_FROM: usize = 64;
 
-/// Rules as a verdict comes to them, one after the other. Where they are many, their intervals are compiled.
+/// Rules as an evaluation reads them, one after the other. Where they are many, their intervals are compiled.
 #[derive(Drop)]
 pub struct CandidateList {
     list: Vec<Candidate>,

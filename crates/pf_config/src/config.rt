@@ -194,10 +194,10 @@ impl Config {
         Ok(())
     }
 
-    /// Loads a ruleset at a path: its rules take the place of those there, each of its tables gets the flags that it
-    /// says and, where it lists entries, these, each of its blocks is loaded in the same way at its path below, and
-    /// tables that no rule refers to any more go unless they persist. At the main ruleset's path the skip list becomes
-    /// the ruleset's (pfctl(8), `-f`).
+    /// Loads a ruleset at a path: its rules take the place of those there, each of its tables gets the flags that the
+    /// ruleset gives it and, where entries are listed, these, each of its blocks is loaded in the same way at its path
+    /// below, and tables that no rule refers to any more go unless they persist. At the main ruleset's path the skip
+    /// list becomes the ruleset's (pfctl(8), `-f`).
     ///
     /// Refused are 24 a block that is deeper than 8 names, and 23 a configuration of more than 1,024 paths. A refused
     /// load leaves the configuration as it was.

@@ -24,7 +24,7 @@ pub enum ConfigFault {
 }
 
 impl ConfigFault {
-    /// The number of the refusal, 20 to 24; none for lack of memory.
+    /// The number of the refusal, 20 to 24; none when out of memory.
     pub fn code(self) -> Option<u8>
         ensures { result ≡ fault_code self }
     {

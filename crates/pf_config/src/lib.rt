@@ -5,21 +5,21 @@
 //! - [`Config`]: a skip list, and the anchors from the main ruleset down. Each change is made whole, or refused and
 //!   leaves all as it was.
 //! - [`Anchor`]: what is at a path and below it.
-//! - [`Candidate`]: a rule as a verdict comes to it, in an order made once at the load: its index, and its [`Sieve`].
+//! - [`Candidate`]: a rule as an evaluation reads it, in an order made once at the load: its index, and its [`Sieve`].
 //! - [`CandidateList`]: these rules one after the other; a [`Search`] finds the few of them that may match.
 //! - [`parse_path`] reads the path of an anchor.
 //! - [`Table`], of the crate below.
 //!
 //! # Why
 //!
-//! - **A table's name is no word that either profile reserves.** A command names a table without a profile, and the
-//!   words reserved in profile One are the fewer: a `TableName` is what profile One allows, and a ruleset in profile
-//!   Two is asked for its own words too.
+//! - **A table's name is no word that either profile reserves.** A command names a table without a profile, and profile
+//!   One reserves fewer words: a `TableName` is what profile One allows, and a ruleset in profile Two is refused where
+//!   a table has one of that profile's reserved words as its name.
 //! - **Prefixes have a method `order`** instead of std's trait `Ord`, whose contract wants laws over any two values
 //!   beside the order; the laws of the order that code rests on are lemmas in pf_addr.
 //! - **A table is kept in parts** of one family and one length, each in the order of addresses, longest first. The
 //!   definition's question, 'is there an entry that no longer one overrules', is then 'the first part in which the
-//!   address, cut to that length, stands'.
+//!   address, cut to that length, is found'.
 //! - **A part is searched by halving.** A hash table with a fixed seed would let entries be chosen whose keys all
 //!   meet, and std's proved maps are none whose times are bounded otherwise.
 //! - **The tree of anchors is kept as a tree**, the definition is a map from whole paths. A path of the map has a
@@ -29,7 +29,7 @@
 //!   the blocks that follow (`blocks_in`). The anchors share the block's rules with the text's value (`Rc`), so
 //!   nothing of a rule is copied.
 //! - **A refused command changes nothing by its form**: the new tables and rules are made beside the old ones, and
-//!   put in their places last. A change in place asks everything first; where memory runs out between the entry and
+//!   put in their places last. A change in place asks everything first; if it is out of memory between the entry and
 //!   its number, the entry is removed again.
 //! - **One entry is added or deleted in place** where nothing on the way to it is shared, at any depth of anchors:
 //!   no entry is copied, and of those of its family and length the ones behind it move by one. Where something is
@@ -41,7 +41,7 @@
 //!   persists (`has_fleeting`), since no other table can go then. All else is made beside the old tree.
 //! - **Room for 1,024 paths** (23) is asked of the configuration that the command would leave, so a load that
 //!   clears away others may make room for itself. A change in place asks for it only where a path is new.
-//! - **Faults of a configuration have no place in a ruleset**: `pfx test` says `refused 23` alone.
+//! - **Faults of a configuration have no place in a ruleset**: `pfx test` prints `refused 23` alone.
 //! - **`find` and `kid` are `Config::anchor` and `Anchor::child`**: an anchor is lent as a part of the tree, with
 //!   its rules, its tables and the anchors below it. So a verdict goes down name by name, and looks no path up from
 //!   main again. `Config::kids` lends the anchors directly below a path, in byte order of their names; its clause
@@ -51,7 +51,7 @@
 //!   through an unnamed block, is a path like others there. No command has one, since its path is a `Path` or is
 //!   decoded from bytes that spell none; so the law that a log leaves a map of paths of 8 names at most asks it of
 //!   the log's entries.
-//! - **Laws over the definitions of several crates are in pfx_laws**, on which nothing stands: they are proved
+//! - **Laws over the definitions of several crates are in pfx_laws**, on which nothing depends: they are proved
 //!   beside the crates that use the definitions, and no crate is proved again for them.
 //! - **The tables of an anchor are in the order of their names**, where one is found by binary search; so are skipped
 //!   interfaces (`Skipped`). A new table moves those after it.
@@ -65,7 +65,7 @@
 //! - **An anchor rule's anchor is first looked up at its expected place** (`Places`), which is right if just the path's
 //!   rules lead to all anchors below; else it is found by binary search. The guess decides nothing but time. The first
 //!   walk doesn't ask the conditions of an anchor rule if no rule of its anchor can end the evaluation (`is_quiet`,
-//!   pf_eval), and the anchors that a wildcard names are entered in order, since `Anchor::kids` says that each is the
+//!   pf_eval), and the anchors that a wildcard names are entered in order, since `Anchor::kids` states that each is the
 //!   one of its name (`AreBelow`).
 //! - **A command that changes tables alone shares the order of rules.** Anchors off the changed path are shared, and
 //!   what a load would remove is asked for before anything is copied. A change that isn't made in place costs a few

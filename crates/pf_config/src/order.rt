@@ -13,7 +13,7 @@ use pf_rules::Item;
 use std::alloc::{AllocError, Global};
 
 /// The rules that may end the evaluation, the first one first, and those that aren't quick, the last one first. And
-/// where the anchors may stand that they lead to.
+/// where the anchors may be that they lead to.
 #[derive(Drop)]
 pub(crate) struct Order {
     pub(crate) stops: CandidateList,

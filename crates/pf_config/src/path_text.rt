@@ -8,7 +8,7 @@ use crate::fault::ConfigFault;
 use pf_rules::{Name, Path};
 use std::alloc::{AllocError, Global};
 
-/// What stands between the slashes.
+/// What is between the slashes.
 fn pieces(alloc: Global, text: &[u8]) -> Result<Vec<&[u8]>, AllocError>
     ensures { IfOk result (λ found. map (λ w. w.now) found.items ≡ pieces text.now) }
 {

@@ -1,4 +1,4 @@
-//! Where the anchors may stand that anchor rules lead to: guesses, on which nothing depends but time.
+//! Where the anchors may be that anchor rules lead to: guesses, on which nothing depends but time.
 
 use pf_rules::Item;
 use std::alloc::{AllocError, Global};

@@ -19,7 +19,7 @@ fn everything() -> Interval
     }
 }
 
-/// The numbers that agree with this one but in the last bits, that many as said.
+/// The numbers that agree with this one in all but the given number of last bits.
 #[tactic(auto, unfolding(crate::specs::Orders::around))]
 fn around(number: u32, bits: u8) -> Interval
     requires { bits ≤ 32 }

@@ -9,8 +9,8 @@ use std::alloc::{AllocError, Global};
 use std::cmp::Ordering;
 use std::marker::Model;
 
-/// Names of interfaces as a ruleset lists them, of which one is found at the logarithm of their number: they stand a
-/// second time in byte order, where one is looked for by halves.
+/// Names of interfaces as a ruleset lists them, of which one is found in the logarithm of their number: they are kept a
+/// second time in byte order, where one is found by binary search.
 #[derive(Drop)]
 pub(crate) struct Skipped {
     names: Vec<InterfaceName>,

@@ -28,7 +28,7 @@ content_at c p = record { path = p; rules = rules_at c p; tables = tables_of c p
 abbrev pub contents : Configuration → List Content
 contents c = map (content_at c) (paths_in c.anchors)
 
--- the same interfaces are skipped, and at the same paths stand the same rules and tables
+-- the same interfaces are skipped, and at the same paths are the same rules and tables
 -- Example: a table with persist isn't the same as one without.
 pub record IsSame (c d : Configuration) : Type 0 where
   pub skip : c.skip ≡ d.skip

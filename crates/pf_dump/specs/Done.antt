@@ -37,17 +37,17 @@ at_once (Some c) = Some (record { configuration = c; waiting = None })
 abbrev pub waits : Configuration → List Word → List ℕ → Option Place
 waits c words text = Some (record { configuration = c; waiting = Some (record { words = words; text = text }) })
 
--- a line of pfctl's words, which may wait for its text
+-- a line of pfctl's arguments, which may wait for its text
 abbrev pub pfctl_done : Configuration → List Word → Option Place
 pfctl_done c words = if takes_text words then waits c words [] else at_once (change_done c (words_read c words []))
 
--- a line with words; an empty one does nothing
+-- a line with arguments; an empty one does nothing
 abbrev pub words_done : Configuration → Option (List Word) → Option Place
 words_done c None = None
 words_done c (Some []) = at_once (Some c)
 words_done c (Some (w ∷ ws)) = if bytes_eq w (codes "pfctl") then pfctl_done c (w ∷ ws) else None
 
--- a line: of a ruleset up to a line `.`, or one with words
+-- a line: one of a ruleset, up to a line `.`, or one with arguments
 abbrev pub line_done : Configuration → Option WaitingWords → ScriptLine → Option Place
 line_done c None l = words_done c (words_in l.content)
 line_done c (Some w) l =

@@ -18,7 +18,7 @@ use Rattle.pf_dump.specs.declared.script.TheConstants.{TEXT_MAX, ADDRESSES}
 
 -- ---- tables
 
--- a word, if it is said
+-- a keyword, if it is given
 abbrev pub if_said : Bool → List ℕ → List ℕ
 if_said said word = if said then word else []
 

@@ -15,7 +15,7 @@
 //!
 //! # Why
 //!
-//! - No clause says that the script or the rulesets that are written give the configuration: they are done, and what
+//! - No clause states that the script or the rulesets that are written give the configuration: they are done, and what
 //!   that gives is compared with the configuration.
 #![tactic(auto)]
 

@@ -24,7 +24,7 @@ use std::alloc::{AllocError, Global};
 pub(crate) struct Stand<'a> {
     /// Whether it goes on: the line was a change, or it is of a ruleset.
     pub(crate) goes_on: bool,
-    /// The words that wait for the end of their text.
+    /// The arguments that wait for the end of their text.
     pub(crate) waiting: Option<Waiting<'a>>,
 }
 
@@ -67,7 +67,7 @@ fn apply_change(alloc: Global, config: &mut Config, command: Command) -> Result<
     }
 }
 
-/// Does a line of pfctl's words; false where it is no change.
+/// Runs a line of pfctl's arguments; false where it is no change.
 fn run_words(
     alloc: Global,
     config: &mut Config,
@@ -86,7 +86,7 @@ fn run_words(
     }
 }
 
-/// Does a line of pfctl's words, unless a ruleset follows it.
+/// Runs a line of pfctl's arguments, unless a ruleset follows it.
 fn run_pfctl<'a>(
     alloc: Global,
     config: &mut Config,
@@ -113,7 +113,7 @@ fn run_pfctl<'a>(
     })
 }
 
-/// Does a line with words.
+/// Runs a line with these arguments.
 fn run_line<'a>(
     alloc: Global,
     config: &mut Config,
@@ -141,7 +141,7 @@ fn run_line<'a>(
     }
 }
 
-/// Does a line of a ruleset, or one with words.
+/// Runs a line: one of a ruleset, or one with arguments.
 fn step<'a>(
     alloc: Global,
     config: &mut Config,

@@ -57,7 +57,7 @@ pub(crate) fn same_interface_name(a: &InterfaceName, b: &InterfaceName) -> bool
     a.as_bytes() == b.as_bytes()
 }
 
-/// Whether two sets of addresses are said in the same way.
+/// Whether two sets of addresses are written in the same way.
 #[tactic(auto, using(pf_config::proofs::Treed::bytes_same))]
 fn same_addresses(a: &Addresses, b: &Addresses) -> bool
     ensures same { result ≡ true → a.now ≡ b.now }

@@ -64,7 +64,7 @@ fn same_others(a: &Conditions, b: &Conditions) -> bool
         && a.icmp_type == b.icmp_type
 }
 
-/// Whether two conditions are said in the same way.
+/// Whether two conditions are written in the same way.
 fn same_conditions(a: &Conditions, b: &Conditions) -> bool
     ensures same { result ≡ true → a.now ≡ b.now }
     ensures back { a.now ≡ b.now → result ≡ true }
@@ -83,7 +83,7 @@ fn same_rule(a: &Rule, b: &Rule) -> bool
         && same_conditions(&a.conditions, &b.conditions)
 }
 
-/// Whether two anchor rules say the same, whatever blocks they carry.
+/// Whether two anchor rules are the same, whatever blocks they have.
 fn same_heading(a: &AnchorHeading, b: &AnchorHeading) -> bool
     ensures same { result ≡ true → heading_of a.now ≡ heading_of b.now }
     ensures back { heading_of a.now ≡ heading_of b.now → result ≡ true }

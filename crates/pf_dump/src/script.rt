@@ -65,7 +65,7 @@ pub fn push_change(alloc: Global, script: &mut Vec<u8>, command: &Command) -> Re
     }
 }
 
-/// Puts a command's words behind a script, as a line of it.
+/// Appends a command's arguments to a script, as a line of it.
 fn push_words(alloc: Global, script: &mut Vec<u8>, command: &Command) -> Result<(), AllocError>
     ensures { OnOk result (script.new.items ≡ script.old.items ++ words_line (command_value command.now)) }
 {

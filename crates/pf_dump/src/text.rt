@@ -46,7 +46,7 @@ impl Opens<'_> {
     }
 }
 
-/// Puts a word behind the text, if it is said.
+/// Appends a keyword to the text, if it is given.
 fn push_if(out: &mut String, said: bool, word: &str) -> Result<(), AllocError>
     ensures { OnOk result (string_bytes out.new ≡ string_bytes out.old ++ if_said said word.now) }
 {

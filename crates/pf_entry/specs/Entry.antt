@@ -105,7 +105,7 @@ path_of (delete p table list) = p
 path_of (replace p table list) = p
 path_of (flush_table p table) = p
 
--- what stands after the path
+-- what follows the path
 abbrev pub rest : Command → List ℕ
 rest (load p profile text) = to_be_bytes w32 (length text) ++ text
 rest (flush_rules p) = []

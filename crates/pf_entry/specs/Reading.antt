@@ -148,7 +148,7 @@ flush_table_at path bytes = do
   table ← table_at bytes
   Some (flush_table path table.0, table.1)
 
--- what stands after the path, by format and kind
+-- what follows the path, by format and kind
 unfoldable pub rest_at : ℕ → ℕ → List (List ℕ) → List ℕ → Option (Command × List ℕ)
 rest_at format kind path bytes =
     if kind == 1 then

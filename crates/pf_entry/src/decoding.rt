@@ -10,7 +10,7 @@ use crate::fault::BadEntry;
 use crate::reading::entry_in;
 use crate::view::EntryView;
 
-/// The entry that all of the bytes spell, or `BadEntry` where they spell none. Takes no memory: the view borrows from
+/// The entry that all of the bytes spell, or `BadEntry` where they spell none. Allocates nothing: the view borrows from
 /// the bytes.
 pub fn decode(bytes: &[u8]) -> Result<EntryView<'_>, BadEntry>
     // What is answered is what the bytes spell.

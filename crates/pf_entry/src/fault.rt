@@ -24,7 +24,7 @@ impl BadEntry {
 /// Why an entry isn't written.
 #[derive(Debug, Drop, Error)]
 pub enum EncodeFault {
-    /// No memory.
+    /// Out of memory.
     #[error("out of memory")]
     Memory,
     /// 41: the entry has more than 32,768 bytes or 4,096 addresses.
@@ -33,7 +33,7 @@ pub enum EncodeFault {
 }
 
 impl EncodeFault {
-    /// The number of the refusal, 41; none for lack of memory.
+    /// The number of the refusal, 41; none when out of memory.
     pub fn code(&self) -> Option<u8>
         ensures { result ≡ encode_fault_code self.now }
     {

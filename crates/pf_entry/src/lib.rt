@@ -4,10 +4,10 @@
 //!
 //! - [`Entry`], with a [`Command`]: what is asked, with memory of its own. [`encode`] gives its bytes,
 //!   [`encode_asked`] those of a command with origin and number.
-//! - [`EntryView`], with a [`CommandView`]: what bytes spell. [`decode`] gives it and takes no memory; `to_entry` owns
-//!   it.
+//! - [`EntryView`], with a [`CommandView`]: what bytes spell. [`decode`] gives it and allocates nothing; `to_entry`
+//!   owns it.
 //! - `specs/Entry` is what is to be believed: `spelling`, `Fits`, `EntryBytes`. `specs/Reading` reads from left to
-//!   right and is shown equal; `specs/Seen` and `specs/Owned` say what the types stand for.
+//!   right and is shown equal; `specs/Seen` and `specs/Owned` define what the types stand for.
 //!
 //! # The bytes of an entry
 //!

@@ -6,7 +6,7 @@ ghost use Rattle.std.specs.Int.{w16, w32, w64, to_be_bytes};
 use byteorder::{BigEndian, ByteOrder};
 use std::alloc::AllocError;
 
-/// Two bytes more. Fails for lack of memory alone.
+/// Two bytes more. Fails only when out of memory.
 pub fn put_u16(out: &mut Vec<u8>, n: u16) -> Result<(), AllocError>
     ensures { OnOk result (out.new.items ≡ out.old.items ++ to_be_bytes w16 n) }
 {
@@ -15,7 +15,7 @@ pub fn put_u16(out: &mut Vec<u8>, n: u16) -> Result<(), AllocError>
     out.extend_from_slice(&bytes)
 }
 
-/// Four bytes more. Fails for lack of memory alone.
+/// Four bytes more. Fails only when out of memory.
 pub fn put_u32(out: &mut Vec<u8>, n: u32) -> Result<(), AllocError>
     ensures { OnOk result (out.new.items ≡ out.old.items ++ to_be_bytes w32 n) }
 {
@@ -24,7 +24,7 @@ pub fn put_u32(out: &mut Vec<u8>, n: u32) -> Result<(), AllocError>
     out.extend_from_slice(&bytes)
 }
 
-/// Eight bytes more. Fails for lack of memory alone.
+/// Eight bytes more. Fails only when out of memory.
 pub fn put_u64(out: &mut Vec<u8>, n: u64) -> Result<(), AllocError>
     ensures { OnOk result (out.new.items ≡ out.old.items ++ to_be_bytes w64 n) }
 {

@@ -20,7 +20,7 @@ fn name_owned(alloc: Global, bytes: &[u8]) -> Result<Name, AllocError>
     }
 }
 
-/// The table's name, with memory of its own. Fails for lack of memory alone.
+/// The table's name, with memory of its own. Fails only when out of memory.
 pub fn table_owned(alloc: Global, table: &TableNameView) -> Result<TableName, AllocError>
     ensures { IfOk result (λ name. name ≡ table.now.bytes.now) }
 {
@@ -42,7 +42,7 @@ fn names_owned(alloc: Global, names: &Names) -> Result<Vec<Name>, AllocError>
     Ok(owned)
 }
 
-/// The path of a view's names, with memory of its own. Fails for lack of memory alone.
+/// The path of a view's names, with memory of its own. Fails only when out of memory.
 #[tactic(auto, using(crate::proofs::Kept::path_fits))]
 pub fn path_owned(alloc: Global, names: &Names) -> Result<Path, AllocError>
     ensures { IfOk result (λ path. path ≡ names_of names.now) }
@@ -54,7 +54,7 @@ pub fn path_owned(alloc: Global, names: &Names) -> Result<Path, AllocError>
     }
 }
 
-/// The addresses of a view, with memory of their own. Fails for lack of memory alone.
+/// The addresses of a view, with memory of their own. Fails only when out of memory.
 pub fn addresses_owned(alloc: Global, list: &Addresses) -> Result<Vec<TableEntry>, AllocError>
     ensures { IfOk result (λ v. addresses_value v.items ≡ addresses_of list.now) }
 {
@@ -149,7 +149,7 @@ fn command_owned(alloc: Global, command: &CommandView) -> Result<Command, AllocE
 }
 
 impl EntryView<'_> {
-    /// The entry that the view shows, with memory of its own. Fails for lack of memory alone.
+    /// The entry that the view shows, with memory of its own. Fails only when out of memory.
     pub fn to_entry(&self, alloc: Global) -> Result<Entry, AllocError>
         ensures { IfOk result (λ e. entry_value e ≡ entry_of self.now) }
     {

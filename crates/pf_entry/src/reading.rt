@@ -75,7 +75,7 @@ fn is_name(name: &[u8]) -> bool
     is_anchor_text(name) && !begins_below(name)
 }
 
-/// Whether `_` stands first.
+/// Whether the first byte is `_`.
 fn begins_below(name: &[u8]) -> bool
     ensures { result ≡ begins_below name.now }
 {
@@ -295,7 +295,7 @@ fn flush_table_at<'a>(path: Names<'a>, bytes: &'a [u8]) -> Option<(CommandView<'
     Some((CommandView::FlushTable { path, table }, rest))
 }
 
-/// What stands after the path, by format and kind.
+/// What follows the path, by format and kind.
 #[tactic(auto, unfolding(crate::specs::Reading::rest_at))]
 fn rest_at<'a>(
     format: u8,

@@ -174,7 +174,7 @@ fn put_change(out: &mut Vec<u8>, table: &TableName, list: &[TableEntry]) -> Resu
     put_addresses(out, list)
 }
 
-/// What stands after the path.
+/// What follows the path.
 fn put_rest(out: &mut Vec<u8>, command: &Command) -> Result<(), AllocError>
     requires { is_long (command_value command.now) ≡ false }
     ensures valid { OnOk result (rest_fits (command_value command.now) ≡ true) }

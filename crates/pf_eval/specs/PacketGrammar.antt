@@ -14,7 +14,7 @@ use Rattle.pf_eval.specs.Packets.{PacketValue}
 use Rattle.pf_eval.specs.PacketTexts.{Word, is_blank, name_of, address_of, port_number_of, type_number_of, End, agrees}
 use Rattle.pf_eval.specs.PacketTexts.{said_flags}
 
--- ---- words between blanks
+-- ---- tokens between blanks
 
 -- some bytes, of which none is a blank
 pub record IsWord (word : Word) : Type 0 where
@@ -26,7 +26,7 @@ pub data AreBlanks : List ℕ → Type 0 where
   LastBlank : (b : ℕ) → is_blank b ≡ true → AreBlanks (b ∷ [])
   MoreBlanks : (b : ℕ) (bs : List ℕ) → is_blank b ≡ true → AreBlanks bs → AreBlanks (b ∷ bs)
 
--- words with blanks between them, and none at either end
+-- tokens with blanks between them, and none at either end
 pub data AreSpaced : List ℕ → List Word → Type 0 where
   LastWord : (word : Word) → IsWord word → AreSpaced word (word ∷ [])
   MoreWords : (word blanks text : List ℕ) (words : List Word) → IsWord word → AreBlanks blanks →

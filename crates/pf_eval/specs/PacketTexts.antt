@@ -1,4 +1,4 @@
--- How a packet record is spelled: words between blanks, in a fixed order.
+-- How a packet record is spelled: tokens between blanks, in a fixed order.
 use Rattle.std.specs.Prelude.{ℕ, ◌-◌, ◌==◌, ◌&&◌, ◌||◌, Bool, true, false, List, [], ◌∷◌}
 use Rattle.std.specs.Prelude.{◌++◌, drop, length, Option, Some, None, is_some, not, nat_le, bytes_eq, codes, get_or}
 use Rattle.std.specs.Prelude.{if◌then◌else◌}
@@ -13,9 +13,9 @@ use Rattle.pf_rules.specs.declared.profile.Profile.TheVariants.{One}
 use Rattle.pf_rules.specs.Words.{is_interface_name, protocol_of, number_of, flags_of, no_flags}
 use Rattle.pf_eval.specs.Packets.{PacketValue}
 
--- ---- words
+-- ---- tokens
 
--- the bytes of a word
+-- the bytes of a token
 abbrev pub Word : Type 0
 Word = List ℕ
 
@@ -23,28 +23,28 @@ Word = List ℕ
 abbrev pub is_blank : ℕ → Bool
 is_blank b = b == 32 || b == 9
 
--- a word, unless it is empty
+-- a token, unless it is empty
 abbrev pub ended : Word → List Word
 ended [] = []
 ended (b ∷ bytes) = (b ∷ bytes) ∷ []
 
--- the words in a string of which this word has begun: each longest run of bytes that are no blanks
+-- the tokens in a string of which this token has begun: each longest run of bytes that are no blanks
 abbrev pub words_from : Word → List ℕ → List Word
 words_from begun [] = ended begun
 words_from begun (b ∷ bytes) = if is_blank b then ended begun ++ words_from [] bytes
     else words_from (begun ++ b ∷ []) bytes
 
--- the words in a string: its longest runs of bytes that are no blanks, in their order
+-- the tokens in a string: its longest runs of bytes that are no blanks, in their order
 abbrev pub words : List ℕ → List Word
 words text = words_from [] text
 
--- a blank stands first or last
+-- the first or the last byte is a blank
 abbrev pub has_outer_blank : List ℕ → Bool
 has_outer_blank text = is_blank (get_or text 0 0) || is_blank (get_or text (length text - 1) 0)
 
--- ---- reading from the front: a value and the words behind it, or none
+-- ---- reading from the front: a value and the tokens after it, or none
 
--- a value read from the front of words, and the words behind it; or none
+-- a value read from the front of tokens, and the tokens after it; or none
 abbrev pub Read : Type 0 → Type 0
 Read X = Option (X × List Word)
 
@@ -54,12 +54,12 @@ abbrev pub ◌>>=◌ : {A B : Type 0} → Option A → (A → Option B) → Opti
 (Some x) >>= f = f x
 None >>= f = None
 
--- whether this word comes next
+-- whether this keyword comes next
 abbrev pub begins : Word → List Word → Bool
 begins key [] = false
 begins key (w ∷ ws) = bytes_eq w key
 
--- the next word
+-- the next token
 abbrev pub word_at : List Word → Read Word
 word_at [] = None
 word_at (w ∷ ws) = Some (w, ws)
@@ -68,7 +68,7 @@ word_at (w ∷ ws) = Some (w, ws)
 unfoldable pub word_after : Word → List Word → Read Word
 word_after key ws = if begins key ws then word_at (drop 1 ws) else None
 
--- the next word, read so
+-- the next token, read by this function
 unfoldable pub value : {X : Type 0} → (Word → Option X) → List Word → Read X
 value read ws = do
   word ← word_at ws
@@ -92,7 +92,7 @@ optional key read ws = if begins key ws then (keyed key read ws >>= λ r. Some (
 abbrev pub direction_of : Word → Option Direction
 direction_of w = if bytes_eq w (codes "in") then Some In else (if bytes_eq w (codes "out") then Some Out else None)
 
--- IFNAME, of which the words reserved in profile One are none
+-- IFNAME, which is no word reserved in profile One
 abbrev pub name_of : Word → Option Word
 name_of w = if is_interface_name One w then Some w else None
 
@@ -166,14 +166,14 @@ agrees groups protocol source destination flags icmp_type =
     && only_if (protocol == 6) flags
     && only_if (protocol == 1) icmp_type
 
--- flags that aren't said are not set
+-- flags that aren't given are not set
 abbrev pub said_flags : Option TcpFlags → TcpFlags
 said_flags None = no_flags
 said_flags (Some flags) = flags
 
 -- ---- the whole
 
--- the value, if its parts agree and no word is left behind it
+-- the value, if its parts agree and no token is left after it
 abbrev pub at_end : {X : Type 0} → Bool → X → List Word → Option X
 at_end true x [] = Some x
 at_end true x (w ∷ ws) = None

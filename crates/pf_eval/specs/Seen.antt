@@ -12,11 +12,11 @@ use Rattle.pf_eval.specs.Packets.{PacketValue}
 use Rattle.pf_eval.specs.PacketTexts.{packet_of}
 use Rattle.pf_eval.specs.Verdicts.{Judgement, Skipped, Decided, Spot, judgement}
 
--- where a rule of this action stands, as the code names it: the path of its anchor and its place there
+-- where a rule of this action is, as the code names it: the path of its anchor and its place there
 abbrev pub spot_of : Action → code.Spot → Spot
 spot_of action s = record { path = s.names.now; index = s.index; action = action }
 
--- what a verdict says
+-- the value of a verdict
 abbrev pub judgement_of : Verdict → Judgement
 judgement_of verdict.Skip = Skipped
 judgement_of verdict.Default = Decided None

@@ -11,7 +11,7 @@ use Rattle.pf_config.specs.Map.{Configuration, Path, rules_at, table_for, kids, 
 use Rattle.pf_eval.specs.Packets.{PacketValue, interfaces}
 use Rattle.pf_eval.specs.Matching.{Tables, matches}
 
--- where a rule stands, and what it does
+-- where a rule is, and what it does
 pub record Spot : Type 0 where
   pub path : Path
   pub index : ℕ
@@ -32,8 +32,8 @@ stop_last (h ∷ g ∷ hs) = h ∷ stop_last (g ∷ hs)
 abbrev pub marked : (quick : Bool) → List Hit → List Hit
 marked quick hits = if quick then stop_last hits else hits
 
--- the hits of the rule with this index at a path, whose rules may name these tables; within says what the target of
--- an anchor rule comes to
+-- the hits of the rule with this index at a path, whose rules may name these tables; within gives the hits of the
+-- target of an anchor rule
 abbrev pub rule_hits : Tables → (within : Target → List Hit) → PacketValue → Path → ℕ → AnyRule →
     List Hit
 rule_hits tables within k p i (FilterRule r) =
@@ -90,7 +90,7 @@ last (x ∷ xs) = or_else (last xs) (Some x)
 abbrev pub last_spot : List Hit → Option Spot
 last_spot hs = last (map (λ (h : Hit). h.spot) (cut hs))
 
--- what is said of a packet: its interface is skipped, or the last hit decides, if there is one
+-- the result for a packet: its interface is skipped, or the last hit decides, if there is one
 pub data Judgement : Type 0 where
   Skipped : Judgement
   Decided : (spot : Option Spot) → Judgement

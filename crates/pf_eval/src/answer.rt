@@ -2,7 +2,7 @@
 
 use pf_rules::Name;
 
-/// Where the deciding rule stands: the path of its anchor, which has no name where that is the main ruleset, and the
+/// Where the deciding rule is: the path of its anchor, which has no name where that is the main ruleset, and the
 /// rule's place among the anchor's rules in their expanded order, from 0.
 #[derive(Clone, Copy)]
 pub struct Spot<'c> {

@@ -1,4 +1,4 @@
-//! The words in a packet text, read from the front.
+//! The tokens in a packet text, read from the front.
 
 ghost use Rattle.std.specs.Prelude.{◌≡◌, Some, ◌<◌, drop, length, IsSome, IfSome, IfOk, IfErr, true, map};
 ghost use Rattle.std.specs.Prelude.{option_map, codes};
@@ -29,28 +29,28 @@ pub(crate) struct End {
     pub(crate) port: Option<u16>,
 }
 
-/// The words that are left to read, as the text that is left.
+/// The tokens that are left to read, as the text that is left.
 #[derive(Clone, Copy)]
 pub(crate) struct Cursor<'t> {
     rest: &'t [u8],
 }
 
 impl<'t> Cursor<'t> {
-    /// Before the first word of a string.
+    /// Before the first token of a string.
     pub(crate) fn new(text: &'t [u8]) -> Cursor<'t>
         ensures { left result ≡ words text.now }
     {
         Cursor { rest: text }
     }
 
-    /// Whether no word is left.
+    /// Whether no token is left.
     pub(crate) fn is_empty(&self) -> bool
         ensures { result ≡ is_empty (left self.now) }
     {
         first_word(self.rest).is_none()
     }
 
-    /// Goes past this word, if it comes next.
+    /// Consumes this keyword, if it comes next.
     #[inline(always)]
     fn passes(&mut self, key: &[u8]) -> bool
         requires some { 0 < length key.now }
@@ -67,7 +67,7 @@ impl<'t> Cursor<'t> {
         }
     }
 
-    /// The next word.
+    /// The next token.
     fn word(&mut self) -> Option<&'t [u8]>
         ensures read { Reads (option_copied result) (left self.new) (word_at (left self.old)) }
         ensures consumed { IsSome result → length (left self.new) < length (left self.old) }
@@ -77,7 +77,7 @@ impl<'t> Cursor<'t> {
         Some(word)
     }
 
-    /// The word behind this one.
+    /// The token after this keyword.
     #[inline(always)]
     #[tactic(auto, unfolding(crate::specs::PacketTexts::word_after))]
     fn word_after(&mut self, key: &[u8]) -> Option<&'t [u8]>
@@ -120,7 +120,7 @@ impl<'t> Cursor<'t> {
         InterfaceName::new(word)
     }
 
-    /// The name of an interface behind this word.
+    /// The name of an interface after this keyword.
     #[tactic(auto, unfolding(crate::specs::PacketTexts::keyed, crate::specs::PacketTexts::value, crate::specs::PacketTexts::word_after))]
     pub(crate) fn name_after(&mut self, key: &[u8]) -> Option<InterfaceName>
         requires some { 0 < length key.now }
@@ -180,7 +180,7 @@ impl<'t> Cursor<'t> {
         Some(Some(port))
     }
 
-    /// An address behind this word, and its port.
+    /// An address after this keyword, and its port.
     #[inline(always)]
     #[tactic(auto, unfolding(crate::specs::PacketTexts::end_at))]
     pub(crate) fn end(&mut self, key: &[u8]) -> Option<End>
@@ -193,7 +193,7 @@ impl<'t> Cursor<'t> {
         Some(End { addr, port })
     }
 
-    /// The flags, if they are said.
+    /// The flags, if they are given.
     #[tactic(auto, unfolding(crate::specs::PacketTexts::keyed, crate::specs::PacketTexts::word_after, crate::specs::PacketTexts::optional))]
     pub(crate) fn flags(&mut self) -> Option<Option<TcpFlags>>
         ensures { Reads result (left self.new) (optional (codes "flags") flags_of (left self.old)) }
@@ -206,7 +206,7 @@ impl<'t> Cursor<'t> {
         Some(Some(flags))
     }
 
-    /// The type of ICMP, if it is said.
+    /// The type of ICMP, if it is given.
     #[tactic(auto, unfolding(crate::specs::PacketTexts::keyed, crate::specs::PacketTexts::word_after, crate::specs::PacketTexts::optional))]
     pub(crate) fn icmp_type(&mut self) -> Option<Option<u8>>
         ensures { Reads result (left self.new) (optional (codes "icmp-type") type_number_of (left self.old)) }

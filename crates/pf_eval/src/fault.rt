@@ -19,7 +19,7 @@ pub enum PacketFault {
 }
 
 impl PacketFault {
-    /// The number of the refusal, 30; none for lack of memory.
+    /// The number of the refusal, 30; none when out of memory.
     pub fn code(self) -> Option<u8>
         ensures { result ≡ packet_fault_code self }
     {

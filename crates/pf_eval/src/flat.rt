@@ -1,4 +1,4 @@
-//! The two walks over rules that stand alone, without tables and anchors.
+//! The two walks over rules without tables and anchors.
 
 ghost use Rattle.std.specs.Prelude.{◌≡◌, ◌≤◌, [], length, map};
 ghost use Rattle.pf_rules.specs.Seen.{rule_of};

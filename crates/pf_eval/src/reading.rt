@@ -70,7 +70,7 @@ fn agrees(
         && (protocol == 1 || icmp_type.is_none())
 }
 
-/// The packet that the words in a string spell.
+/// The packet that the tokens in a string spell.
 #[tactic(auto, unfolding(crate::specs::PacketTexts::packet_at))]
 fn packet(alloc: Global, text: &[u8]) -> Result<Packet, PacketFault>
     ensures { Answers result (packet_at (words text.now)) }
@@ -118,7 +118,7 @@ fn packet(alloc: Global, text: &[u8]) -> Result<Packet, PacketFault>
 }
 
 /// Reads a packet: `in|out on IFNAME {group IFNAME} proto PROTO from ADDR [port N] to ADDR [port N] [flags LETTERS]
-/// [icmp-type N]`, blanks between the words and none at either end, 16 groups at most. Both addresses have one family;
+/// [icmp-type N]`, blanks between the tokens and none at either end, 16 groups at most. Both addresses have one family;
 /// both ports are there for tcp and udp and for no other protocol; flags are for tcp alone, and where they are missing
 /// none is set; a type is for icmp alone. Every other text is `BadPacket`.
 pub fn parse_packet(alloc: Global, text: &str) -> Result<Packet, PacketFault>

@@ -26,7 +26,7 @@ pub(crate) fn scope_at<'c>(config: &'c Config, path: &'c [Name]) -> Scope<'c>
     }
 }
 
-/// The scope of rules that stand alone.
+/// The scope of rules without tables and anchors.
 #[tactic(auto, unfolding(crate::specs::inner::Seen::tables_of))]
 pub(crate) fn nowhere<'r>() -> Scope<'r>
     ensures tables { tables_of result ≡ no_tables }

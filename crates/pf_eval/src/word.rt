@@ -1,4 +1,4 @@
-//! The words in a packet text.
+//! The tokens in a packet text.
 
 ghost use Rattle.std.specs.Prelude.{◌≡◌, ◌++◌, ◌∷◌, ◌<◌, IfOk, IfSome, OnOk, Some, None, drop, length, map};
 ghost use Rattle.std.specs.Prelude.{if◌then◌else◌, not, option_map, true};
@@ -16,7 +16,7 @@ fn is_blank(b: u8) -> bool
     b == b' ' || b == b'\t'
 }
 
-/// Whether a blank stands first or last.
+/// Whether the first or the last byte is a blank.
 pub(crate) fn has_outer_blank(text: &[u8]) -> bool
     ensures { result ≡ has_outer_blank text.now }
 {
@@ -26,7 +26,7 @@ pub(crate) fn has_outer_blank(text: &[u8]) -> bool
     }
 }
 
-/// What is before the first blank of a string that begins with a word, and what is behind that blank.
+/// What is before the first blank of a string that begins with a token, and what follows that blank.
 #[tactic(auto, using(crate::proofs::Words::word_stays, crate::proofs::Words::word_cut, crate::proofs::Words::word_whole))]
 fn cut_word(text: &[u8]) -> (&[u8], &[u8])
     requires { begins_plain text.now ≡ true }
@@ -44,7 +44,7 @@ fn cut_word(text: &[u8]) -> (&[u8], &[u8])
     (text, &text[text.len()..])
 }
 
-/// The first word of a string, and what is behind it. A blank that ends the word is gone.
+/// The first token of a string, and what follows it. A blank that ends the token is consumed.
 pub(crate) fn first_word(text: &[u8]) -> Option<(&[u8], &[u8])>
     ensures { cut_words (option_map (λ cut. (cut.0.now, cut.1.now)) result) ≡ words text.now }
 {
@@ -58,7 +58,7 @@ pub(crate) fn first_word(text: &[u8]) -> Option<(&[u8], &[u8])>
     None
 }
 
-/// What is behind this word and the blank that ends it, where the text begins with them.
+/// What follows this keyword and the blank that ends it, where the text begins with them.
 #[inline(always)]
 #[tactic(auto, using(crate::proofs::Words::key_ends, crate::proofs::Words::key_goes_on))]
 fn cut_key<'a>(text: &'a [u8], key: &[u8]) -> Option<&'a [u8]>
@@ -80,7 +80,7 @@ fn cut_key<'a>(text: &'a [u8], key: &[u8]) -> Option<&'a [u8]>
     }
 }
 
-/// What is behind this word, if it is the first one of a string that doesn't begin with it: blanks are before it.
+/// What follows this keyword, if it is the first token of a string that doesn't begin with it: blanks are before it.
 #[tactic(auto, using(crate::proofs::Words::other_first))]
 fn behind_blanks<'a>(text: &'a [u8], key: &[u8]) -> Option<&'a [u8]>
     requires { 0 < length key.now }
@@ -96,7 +96,7 @@ fn behind_blanks<'a>(text: &'a [u8], key: &[u8]) -> Option<&'a [u8]>
     }
 }
 
-/// What is behind this word, if it is the first one. Inlined, so that a key's length is known where it is compared.
+/// What follows this keyword, if it is the first token. Inlined, so that a key's length is known where it is compared.
 #[inline(always)]
 pub(crate) fn behind<'a>(text: &'a [u8], key: &[u8]) -> Option<&'a [u8]>
     requires some { 0 < length key.now }
@@ -110,7 +110,7 @@ pub(crate) fn behind<'a>(text: &'a [u8], key: &[u8]) -> Option<&'a [u8]>
     }
 }
 
-/// Puts the word behind those that were found, unless it is empty.
+/// Appends the token to those that were found, unless it is empty.
 fn put_word<'a>(found: &mut Vec<&'a [u8]>, word: &'a [u8]) -> Result<(), AllocError>
     ensures { OnOk result (map (λ w. w.now) found.new.items ≡ map (λ w. w.now) found.old.items ++ ended word.now) }
 {
@@ -121,7 +121,7 @@ fn put_word<'a>(found: &mut Vec<&'a [u8]>, word: &'a [u8]) -> Result<(), AllocEr
     Ok(())
 }
 
-/// The words in a string between blanks, which are spaces and tabs. A growth that is refused is the error.
+/// The tokens in a string between blanks, which are spaces and tabs. The error is out of memory.
 pub fn words<'a>(alloc: Global, text: &'a [u8]) -> Result<Vec<&'a [u8]>, AllocError>
     ensures { IfOk result (λ found. map (λ w. w.now) found.items ≡ words text.now) }
 {

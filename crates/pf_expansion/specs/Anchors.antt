@@ -46,7 +46,7 @@ is_number_of unnamed name (Some k) = nat_le 1 k && nat_le k unnamed && bytes_eq 
 unfoldable pub is_given : ℕ → Name → Bool
 is_given unnamed name = is_number_of unnamed name (number_of 5 65535 (drop 1 name))
 
--- it stands alone
+-- the same of names: the first is the only one
 abbrev pub is_given_alone : ℕ → List Name → Bool
 is_given_alone unnamed [] = false
 is_given_alone unnamed (name ∷ []) = is_given unnamed name

@@ -180,7 +180,7 @@ comes_again (p ∷ ps) = list_any (same_path p) ps || comes_again ps
 
 -- ---- the rules that are before
 
--- the name of an unnamed block, which stands alone
+-- the name of an unnamed block, and nothing else
 abbrev pub is_unnamed : List Name → Bool
 is_unnamed [] = false
 is_unnamed (name ∷ []) = begins_below name

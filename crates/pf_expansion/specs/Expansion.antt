@@ -81,7 +81,7 @@ resolved policy.Return (Blocks None) = act.Return
 resolved p (Blocks (Some policy.Drop)) = act.Drop
 resolved p (Blocks (Some policy.Return)) = act.Return
 
--- a pass rule keeps state unless it says that it doesn't, and a block rule never does
+-- a pass rule keeps state unless `no state` is given, and a block rule never does
 abbrev pub keeps_state : WrittenAction → Option Bool → Bool
 keeps_state (Blocks said) state = false
 keeps_state Pass None = true
@@ -139,7 +139,7 @@ conditions_with test text c family = record {
   icmp_type = type_in c.icmp_type;
 }
 
--- the families that are said: the one written, those of both hosts, and that of the type of ICMP
+-- the families that are given: the one written, those of both hosts, and that of the type of ICMP
 abbrev pub families : ConditionsText → Combination → List (Option Family)
 families text c = text.common.family ∷ host_family c.source ∷ host_family c.destination ∷
     type_family c.icmp_type ∷ []

@@ -77,7 +77,7 @@ pub(crate) fn unnamed_after(unnamed: u32, item: &WrittenItem) -> u32
     }
 }
 
-/// Whether it is the name of an unnamed block, which stands alone.
+/// Whether it is the name of an unnamed block, and nothing else.
 fn is_unnamed(names: &[Name]) -> bool
     ensures { result ≡ is_unnamed names.now }
 {
@@ -131,7 +131,7 @@ fn is_given(alloc: Global, unnamed: u32, name: &Name) -> Result<bool, AllocError
     Ok(name.as_bytes() == given.as_bytes())
 }
 
-/// Whether it is that name, which stands alone.
+/// Whether it is that name, and nothing else.
 fn is_given_alone(alloc: Global, unnamed: u32, names: &[Name]) -> Result<bool, AllocError>
     ensures { IfOk result (λ given. given ≡ is_given_alone unnamed names.now) }
 {

@@ -54,7 +54,7 @@ impl DefinedTables {
         self.names.contains(name.as_bytes())
     }
 
-    /// The tables themselves. Takes no memory.
+    /// The tables themselves. Allocates nothing.
     pub fn into_list(self) -> Vec<TableDef>
         ensures { map table_of result.items ≡ tables_of self }
     {

@@ -38,7 +38,7 @@
 //!   `keep state` and `no state` are refused with 12.
 //! - **`*` in a target** ends it, behind a slash: `"*"` and `"x/*/y"` are refused with 12.
 //! - **An item's block is shared** (`Rc`), so that a load puts it at its anchor without a copy. A recursive type
-//!   can't keep a fact about itself, so that blocks have at most 1,024 items stands on `Ruleset`.
+//!   can't keep a fact about itself, so that blocks have at most 1,024 items is a fact of `Ruleset`.
 //! - **The causes of a block are asked of the rules as written**, so two blocks with one path are 16 also where the
 //!   statement has too many rules. A rule with too many combinations adds none to its ruleset's count: it is
 //!   refused for its width.

@@ -34,7 +34,7 @@ pub(crate) struct Gathered {
 pub(crate) enum Change {
     /// It defines a macro.
     Defines(Macro),
-    /// It says what a plain `block` does from here on.
+    /// It sets what a plain `block` does from here on.
     Sets(Policy),
     /// It names interfaces whose packets aren't filtered.
     Skips(Vec<InterfaceName>),

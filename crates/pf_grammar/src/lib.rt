@@ -17,25 +17,25 @@
 //!   over.
 //! - **A string with `$` or `#`** is refused with 11 in macro statements alone; elsewhere it is a bad name, 12.
 //! - **A string that spells a reserved word** is refused as the name of an interface.
-//! - **A range of ports may have names at its ends, in any order.** A word with a colon is a range only where it
-//!   stands alone; behind an operator it is a port that is neither number nor name, 13.
-//! - **Types of ICMP**: inside braces any word is a type (a reserved one is then 19); outside braces a reserved
+//! - **A range of ports may have names at its ends, in any order.** A token with a colon is a range only where it is
+//!   the whole test; after an operator it is a port that is neither number nor name, 13.
+//! - **Types of ICMP**: inside braces any word token is a type (a reserved one is then 19); outside braces a reserved
 //!   word ends the statement's options, 12. A type gives the rule the family inet, also where it is no type.
 //! - **14 isn't asked of a rule with more than 65,536 combinations**, where 18 holds.
 //! - **Names of skipped interfaces** are kept as often as they are written.
-//! - **What a shown ruleset with more than 65,531 skipped names comes to**: its one `set skip` line has more than
-//!   65,536 tokens and is refused. The law of the round trip says so by its premise; the form of the line leaves no
+//! - **A shown ruleset with more than 65,531 skipped names isn't read again**: its one `set skip` line has more than
+//!   65,536 tokens and is refused. The law of the round trip excludes it by its premise; the form of the line leaves no
 //!   other way. The same holds of a rule whose block is shown in more tokens than that, which a source of fewer can
 //!   give: a list is shown as one rule for each of its elements.
-//! - **Words for numbers and names** are read by pf_rules for rulesets and for packets alike, from tables
+//! - **Tokens for numbers and names** are read by pf_rules for rulesets and for packets alike, from tables
 //!   that the definition and the code both have as lists.
-//! - **A packet text has no blank at either end**; between its words there may be several spaces or tabs. Its ports
+//! - **A packet text has no blank at either end**; between its tokens there may be several spaces or tabs. Its ports
 //!   have one to five digits and its types one to three, leading zeros allowed.
-//! - **The packet grammar is a relation** too (`IsPacketText`); a law says that what is read is exactly what it
+//! - **The packet grammar is a relation** too (`IsPacketText`); a law states that what is read is exactly what it
 //!   spells.
-//! - **Groups and interfaces of a packet** are plain words, of which the words reserved in profile One are none.
+//! - **Groups and interfaces of a packet** are plain tokens, none of which is a word reserved in profile One.
 //! - **The name of an interface is in its value**, 15 bytes and how many count: no memory is taken for it. A
-//!   packet's text is read word by word, without a list of them.
+//!   packet's text is read token by token, without a list of them.
 //! - **A ruleset has at most 1,024 rules** as a fact of its type, so the place of a rule is a `u32` without a test.
 #![tactic(auto)]
 

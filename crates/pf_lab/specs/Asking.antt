@@ -1,4 +1,4 @@
--- The change that an ask's words ask for.
+-- The change that an ask's arguments ask for.
 use Rattle.std.specs.Prelude.{ℕ, Bool, true, false, List, [], Option, Some, None, Result, Ok, Err, codes}
 use Rattle.std.specs.Prelude.{unwrap_or, if◌then◌else◌}
 use Rattle.clap.specs.Words.{Text, Row, first_of}
@@ -12,7 +12,7 @@ use Rattle.pf_scripts.specs.Ctl.{is_standard, rows_in}
 abbrev pub AskedChange : Type 0
 AskedChange = Result entry.Command ℕ
 
--- an action that is no change is 40, after the faults of the words
+-- an action that is no change is 40, after the faults of the arguments
 abbrev pub change_in : Asked → AskedChange
 change_in (Err fault) = Err (unwrap_or (command_fault_code fault) 0)
 change_in (Ok (Change command)) = Ok command
@@ -41,6 +41,6 @@ abbrev pub change_at : Option (List Row) → Option (List ℕ) → AskedChange
 change_at None text = Err 40
 change_at (Some rows) text = change_of_rows rows text
 
--- what words ask for, the first of which stands for pfctl, with the text behind their line, if one may be there
+-- what the arguments ask for, the first of which stands for pfctl, with the text after their line, if one may be there
 abbrev pub change_of : List Text → Option (List ℕ) → AskedChange
 change_of words text = change_at (rows_in words) text

@@ -35,7 +35,7 @@ abbrev pub mapped : {X Y : Type 0} → (X → Y) → Asked X → Asked Y
 mapped f (Ok x) = Ok (f x)
 mapped f (Err code) = Err code
 
--- a word that is no number is 40; a number past 255 is read as that, which no node has
+-- an argument that is no number is 40; a number past 255 is read as that, which no node has
 abbrev pub node_if : Option ℕ → Asked ℕ
 node_if None = Err 40
 node_if (Some n) = Ok (if nat_lt n 255 then n else 255)
@@ -50,7 +50,7 @@ message_if (Some n) = Ok n
 abbrev pub message_of : Text → Asked ℕ
 message_of word = message_if (number_of word)
 
--- the one word
+-- the only argument
 abbrev pub only : List Text → Asked Text
 only [] = Err 40
 only (w ∷ []) = Ok w
@@ -103,7 +103,7 @@ abbrev pub test_of : List Text → Asked LineValue
 test_of [] = Err 40
 test_of (node ∷ packet) = mapped (λ m. Test m packet) (node_of node)
 
--- a line with these words; text is what is behind it
+-- a line with these arguments; text is what follows it
 abbrev pub line_asked : List Text → List ℕ → Asked LineValue
 line_asked [] text = Err 40
 line_asked (w ∷ []) text = bare_or (bare w)

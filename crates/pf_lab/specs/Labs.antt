@@ -43,7 +43,7 @@ HostsAre hosts g sent w = AreWorld hosts state_of group_of g sent w
 abbrev pub IsWorld : Lab → Group → World Bytes → Type 0
 IsWorld lab g w = HostsAre lab.hosts.items g lab.sent.items w
 
--- A node shows a member that runs: its record, what it learned, and that the record can be told.
+-- A node shows a member that runs: its record, what it learned, and that the record is sound.
 pub record IsShown {R : Type 0} {G : Ghosts R} (s : NodeState Bytes) (n : Node R G) : Type 0 where
   pub up : s.is_up ≡ true
   pub stored : s.stored ≡ (state_in n).stored

@@ -56,8 +56,8 @@ becomes n w e = if is_long e then outcome.Refused 41 else outcome_in n w (event_
 abbrev pub is_bad : (n : ℕ) → World Bytes → LabEvent → Bool
 is_bad n w e = if is_long e then false else is_unknown n w (event_of e)
 
--- What is answered of an event: what becomes of it where it names a member and a message, 81 where it doesn't. Of want
--- of memory nothing is said.
+-- What is returned of an event: what becomes of it where it names a member and a message, 81 where it doesn't. Out of
+-- memory isn't specified.
 abbrev pub Tells : Result Outcome LabFault → (bad : Bool) → (becomes : Outcome) → Type 0
 Tells (Ok o) bad becomes = (bad ≡ false) × (o ≡ becomes)
 Tells (Err fault.BadEvent) bad becomes = bad ≡ true

@@ -176,7 +176,7 @@ run_all v = all_delivered (all_delivered (all_delivered (all_delivered v)))
 
 -- ---- what is shown of nodes
 
--- A node that runs has applied all positions below its front: a script ends where memory runs out before.
+-- A node that runs has applied all positions below its front: a script that is out of memory before that ends.
 -- Example: round 3 front 2 applied 2.
 abbrev pub progress : NodeState Bytes → List ℕ
 progress s =
@@ -208,7 +208,7 @@ of_node v m shows = if nat_le v.members m then refused_line 81 0 else of_running
 abbrev pub learned_lines : NodeState Bytes → List ℕ
 learned_lines s = log_lines s.stored.learned (front s.stored.learned + 64)
 
--- the verdict for a packet's words
+-- the verdict for the packet that the arguments spell
 abbrev pub verdict_line : List Text → NodeState Bytes → List ℕ
 verdict_line packet s = tested (config_at s.stored.learned) packet
 
@@ -238,12 +238,12 @@ done v State = prints v (state_lines v.world v.members)
 done v (Log m) = prints v (of_node v m learned_lines)
 done v Sent = prints (all_shown v) (sent_lines v.world.sent v.shown (length v.world.sent))
 
--- words that ask for nothing print their refusal
+-- arguments that ask for nothing print their refusal
 abbrev pub done_if : LabValue → Asked LineValue → Printed
 done_if v (Ok line) = done v line
 done_if v (Err code) = prints v (refused_line code 0)
 
--- a line with these words; text is what is behind it
+-- a line with these arguments; text is what follows it
 abbrev pub words_done : LabValue → List Text → List ℕ → Printed
 words_done v words text = done_if v (line_asked words text)
 
@@ -261,14 +261,14 @@ at_once p = record { lab = p.lab; waiting = None; output = p.output }
 abbrev pub waits : LabValue → List Text → List ℕ → StepValue
 waits v words text = record { lab = v; waiting = Some (record { words = words; text = text }); output = [] }
 
--- a line's words; an empty line does nothing, and one that isn't UTF-8 is 40
+-- a line's arguments; an empty line does nothing, and one that isn't UTF-8 is 40
 abbrev pub at_words : LabValue → Option (List Text) → StepValue
 at_words v None = at_once (prints v (refused_line 40 0))
 at_words v (Some []) = at_once (prints v [])
 at_words v (Some (w ∷ ws)) =
     if is_followed (w ∷ ws) then waits v (w ∷ ws) [] else at_once (words_done v (w ∷ ws) [])
 
--- a line: of a ruleset up to a line `.`, or one with words
+-- a line: one of a ruleset, up to a line `.`, or one with arguments
 abbrev pub stepped : LabValue → Option WaitingWords → ScriptLine → StepValue
 stepped v None l = at_words v (words_in l.content)
 stepped v (Some w) l =
@@ -305,13 +305,13 @@ abbrev pub printed_by : Option ℕ → List ScriptLine → List ℕ
 printed_by None ls = refused_line 40 0
 printed_by (Some n) ls = printed_from (new_lab n) None ls
 
--- what is printed where the first line has these words; later is what the lines behind it print where it is blank
+-- what is printed where the first line has these arguments; later is what the lines after it print where it is blank
 abbrev pub printed_first : Option (List Text) → (later : List ℕ) → List ScriptLine → List ℕ
 printed_first None later ls = refused_line 40 0
 printed_first (Some []) later ls = later
 printed_first (Some (w ∷ ws)) later ls = printed_by (members_in (w ∷ ws)) ls
 
--- the first line that isn't blank says how many members there are
+-- the first line that isn't blank states how many members there are
 abbrev pub printed_lines : List ScriptLine → List ℕ
 printed_lines [] = refused_line 40 0
 printed_lines (l ∷ ls) = printed_first (words_in l.content) (printed_lines ls) ls

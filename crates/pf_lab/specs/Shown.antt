@@ -38,7 +38,7 @@ abbrev pub accepted_part : Option (ℕ × Lent) → List ℕ
 accepted_part None = codes " none"
 accepted_part (Some a) = ballot_part a.0 ++ entry_part a.1.origin a.1.number
 
--- what a message says; the last three kinds go between a member and somebody outside, so no lab shows them
+-- a message's fields; the last three kinds go between a member and a client, so no lab shows them
 abbrev pub message_parts : Message → List ℕ
 message_parts (prepare b p) = ballot_part b ++ position_part p
 message_parts (promise b p a) = ballot_part b ++ position_part p ++ accepted_part a
@@ -53,7 +53,7 @@ message_parts (ask_refused t c) = []
 message_parts (prepare_all b p) = ballot_part b ++ position_part p
 message_parts (promise_all b p top a) = ballot_part b ++ position_part p ++ accepted_part a ++ codes " t" ++ decimal top
 
--- K KIND FROM>TO and what it says
+-- K KIND FROM>TO and its fields
 abbrev pub message_line : (k from to : ℕ) → Message → List ℕ
 message_line k from to m =
     line (decimal k ++ codes " " ++ kind_word m ++ codes " " ++ decimal from ++ codes ">" ++ decimal to ++

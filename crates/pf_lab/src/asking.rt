@@ -1,4 +1,4 @@
-//! The words of an ask.
+//! The arguments of an ask.
 
 ghost use Rattle.std.specs.Prelude.{◌≡◌, map};
 ghost use Rattle.std.specs.Option.{option_copied};
@@ -14,7 +14,7 @@ use pf_arguments::{Action, Command, from_matches};
 use pf_scripts::{file_in, is_standard, matches_in};
 use std::alloc::Global;
 
-/// The change that matches ask for; any other action is 40, after the faults of the words.
+/// The change that matches ask for; any other action is 40, after the faults of the arguments.
 fn change_in(alloc: Global, matches: &ArgMatches<'_>, text: &[u8]) -> Result<Command, LineFault>
     ensures { Reads command_value result (change_in (asked (given_in (rows_of (found_of matches.now))) text.now)) }
 {
@@ -38,7 +38,7 @@ fn is_allowed(file: Option<&str>, text: Option<&[u8]>) -> bool
     }
 }
 
-/// The change that pfctl's words ask for; the first word stands for pfctl itself. `text` is what is behind the
+/// The change that pfctl's arguments ask for; the first argument stands for pfctl itself. `text` is what follows the
 /// line, none where no text may.
 pub(crate) fn command_in(
     alloc: Global,

@@ -10,8 +10,8 @@ pub enum LabAction {
     Ask(u8, Command),
     /// The member's clock ticks.
     Tick(u8),
-    /// The message of this number comes to its addressee. Messages between members are numbered from 0 in the order in
-    /// which they were sent.
+    /// The message of this number is delivered to its addressee. Messages between members are numbered from 0 in the
+    /// order in which they were sent.
     Deliver(usize),
 }
 
@@ -44,7 +44,7 @@ pub enum Outcome {
 /// Why an event doesn't happen. The lab is the same world as before.
 #[derive(Clone, Copy, Debug, PartialEq, Eq, Error)]
 pub enum LabFault {
-    /// Memory is wanting.
+    /// Out of memory.
     #[error("memory")]
     Memory,
     /// 81: the event names no member, or no message that was sent.

@@ -8,13 +8,13 @@ use std::alloc::{AllocError, AllocFailed};
 /// Why a line gives nothing.
 #[derive(Clone, Copy, PartialEq, Eq)]
 pub(crate) enum LineFault {
-    /// Memory is wanting: the script isn't gone on with.
+    /// Out of memory: the script ends.
     Memory,
     /// The number of the refusal, which is printed.
     Refused(u8),
 }
 
-/// The number of an unknown line, and of words that don't go together.
+/// The number of an unknown line, and of arguments that don't go together.
 pub(crate) const UNKNOWN: LineFault = LineFault::Refused(40);
 
 /// The number where no such node or message is.

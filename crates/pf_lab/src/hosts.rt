@@ -65,7 +65,7 @@ pub(crate) fn empty_at(hosts: &mut Vec<Host>, m: usize, up: bool)
     hosts[m].empty(up);
 }
 
-/// The member `m` stops before what comes to it changes anything.
+/// The member `m` stops before its input changes anything.
 pub(crate) fn stop_before_at(hosts: &mut Vec<Host>, m: u8) -> Result<Outcome, LabFault>
     ensures happens { (g : Group) (w : World Bytes) (a : Action Bytes) (x : Input Bytes)
         (sent : List datagrams.Datagram) →

@@ -125,7 +125,7 @@ impl Lab {
 
     /// The event happens as in the world. An ask whose command is too long is no event: it is refused with 41.
     ///
-    /// `BadEvent` exactly where the event names no member or no message that was sent, unless memory runs out first.
+    /// `BadEvent` exactly where the event names no member or no message that was sent, unless out of memory first.
     /// It and `Memory` leave the same world: only what a tick applied before stays applied.
     pub fn step(&mut self, event: &LabEvent) -> Result<Outcome, LabFault>
         ensures happens { (g : Group) (w : World Bytes) → IsWorld self.old g w →
@@ -187,8 +187,8 @@ impl Lab {
 /// The world after these events, one after another: what was ever learned there satisfies the agreement, and members
 /// that have applied equally many positions have one configuration, and give one verdict for every packet.
 ///
-/// `BadEvent` exactly where one of the events, in its turn, names no member or no message that was sent, unless memory
-/// is wanting first.
+/// `BadEvent` exactly where one of the events, in its turn, names no member or no message that was sent, unless it is
+/// out of memory first.
 pub fn lab(alloc: Global, members: u8, events: &[LabEvent]) -> Result<Lab, LabFault>
     requires some { 1 ≤ members }
     requires few { members ≤ MEMBERS }

@@ -5,7 +5,7 @@
 //!
 //! - [`Lab`]: `step` makes one event happen, [`lab`] a list of them. `sent`, `node` and `ever_learned` show it.
 //! - [`lab_script`]: what a script of events prints.
-//! - `specs/Labs` says which events of px_model's world these are, and when a lab is a world; `specs/Scripts` what a
+//! - `specs/Labs` states which events of px_model's world these are, and when a lab is a world; `specs/Scripts` what a
 //!   script prints.
 //!
 //! Within: `numbers`, `asking` and `reading` read a script's line, `fault` is why one is refused, `bench` is the lab
@@ -14,14 +14,14 @@
 //!
 //! # Why
 //!
-//! - A member with its record (px_replica) stands apart from the node: it knows no filter, so its proofs don't wait
+//! - A member with its record (px_replica) is separate from the node: it knows no filter, so its proofs don't wait
 //!   for the grammar's.
-//! - An entry that a record has and that has no spelling is answered with 72, at `open` and at each slot that is
-//!   read: a keeper's clauses say nothing of commands, and what can't be spelled can't be told.
+//! - An entry that a record has and that has no spelling is answered with 72, at `open` and at each slot that is read:
+//!   a store's clauses state nothing of commands, and what can't be spelled can't be sent.
 //! - `open` reads every learned entry, up to one more than the last, so that it is a restart for any record; one
 //!   past the last position is 72.
 //! - **What was ever learned** is lent from the members' records, those of stopped members too: `Lab::ever_learned`
-//!   says which entry a member learned at a position. No list is kept beside them: what a member ever learned is in
+//!   shows which entry a member learned at a position. No list is kept beside them: what a member ever learned is in
 //!   its record, and nothing else is there as learned (`Kept`), so a list would hold every entry twice.
 //! - **A run of three nodes over databases is a row of rows_stores**, beside those of records: a crate that links
 //!   SQLite pays for that before its first function, and a second one would pay it once more.
@@ -31,27 +31,27 @@
 //!   In a lab it is refused before 81.
 //! - A lab makes room for fifteen messages before it calls a node, which sends no more in a step.
 //! - The configuration of an entry is the effect of what its own bytes spell, origin and number included.
-//! - **What a call means is one definition** (`Call`), which the clauses of a member and of a node cite, and which
-//!   a turn hands on as it is. So whoever reads one call has read all, and what happens to a node in any number of
+//! - **What a call means is one definition** (`Call`), which the clauses of a member and of a node cite, and which a
+//!   turn passes on as it is. So those who read one call have read all, and what happens to a node in any number of
 //!   turns is a list of them.
-//! - **What was asked of a cluster is known by its members' numbers**: a command that comes was accepted where the
-//!   member's next number went up, in a call that answered or in one that a stop cut short. So the law speaks of
-//!   the history's own asks, and no node has to say what it was asked.
-//! - `open` has no clause on when 70 comes of a record of which a call had failed before: who opens has a fresh
-//!   one.
+//! - **What was asked of a cluster is known by its members' numbers**: a command that arrives was accepted where the
+//!   member's next number went up, in a call that returned or in one that a stop cut short. So the law is about the
+//!   history's own asks, and no node has to report what it was asked.
+//! - `open` has no clause on when it returns 70 for a record of which a call had failed before: its callers have a
+//!   fresh one.
 //! - **What a script prints is a function of the script.** Which positions a node has applied is no part of the world:
-//!   a datagram is taken even where the application finds no memory. So a script in which a node is shown that has
-//!   applied less than it learned ends, as any other does where memory runs out.
-//! - The first line that isn't blank says how many members there are. Without one it is 40.
+//!   a datagram is accepted even where the application is out of memory. So a script in which a node is shown that has
+//!   applied less than it learned ends, as any other does that is out of memory.
+//! - The first line that isn't blank states how many members there are. Without one it is 40.
 //! - Numbers are digits, leading zeros too. One that doesn't fit is read as the greatest that does, which names no
 //!   node and no message, and so is 81. `members` with such a number is 40.
-//! - A ruleset follows an ask's line with `-f -` whatever else is wrong with it, of which the first word may be no
-//!   node; the words are then read as pfctl's, `ask` in its place. A line that isn't UTF-8 is one unknown line.
-//! - Of an ask the faults of its words come before all else, those of an action that is no change last among them;
+//! - A ruleset follows an ask's line with `-f -` whatever else is wrong with the line; its first argument may be no
+//!   node. The arguments are then read as pfctl's, `ask` in its place. A line that isn't UTF-8 is one unknown line.
+//! - Of an ask the faults of its arguments come before all else, those of an action that is no change last among them;
 //!   then an unknown node, then that the node is stopped, then 60 and 62. Of `test` and `log`: an unknown node,
 //!   `stopped`, 30.
-//! - Words under a stop that make no event print their refusal, and nothing stops. No text may be behind them, so a
-//!   file is 40 there, and the lines that follow are lines.
+//! - Arguments under a stop that make no event print their refusal, and nothing stops. No text may follow them, so a
+//!   file is 40 there, and the lines that follow are lines of the script.
 //! - A stop of an ask prints nothing, whatever becomes of the ask. `tick` at a stopped node prints nothing.
 //! - **What was delivered is kept as a number below which all messages were, and a list of others.** A pass begins
 //!   at that number and leaves the list empty, so a lab that runs after each event costs nothing for the messages that

@@ -19,7 +19,7 @@ use px_replica::Datagram;
 use px_wire::{Membership, MessageView, decode};
 use std::alloc::{AllocError, Global};
 
-/// The word for a message's kind.
+/// The name of a message's kind.
 fn kind_of(message: &MessageView<'_>) -> &'static str
     ensures { result.now ≡ kind_word (message_of message.now) }
 {
@@ -82,7 +82,7 @@ fn push_accepted(
     }
 }
 
-/// What a message says, each part behind a blank. No member sends another what comes from outside or goes there.
+/// A message's fields, each after a blank. No member sends another a message that is for clients or from them.
 fn push_parts(alloc: Global, out: &mut String, message: &MessageView<'_>) -> Result<(), AllocError>
     ensures { OnOk result (string_bytes out.new ≡ string_bytes out.old ++ message_parts (message_of message.now)) }
 {
@@ -142,7 +142,7 @@ fn push_parts(alloc: Global, out: &mut String, message: &MessageView<'_>) -> Res
     }
 }
 
-/// `K KIND FROM>TO`, and what the message says.
+/// `K KIND FROM>TO`, and the message's fields.
 fn push_message(
     alloc: Global,
     out: &mut String,

@@ -16,7 +16,7 @@ fn are_digits(text: &[u8]) -> bool
     text.iter().all(|b| b.is_ascii_digit())
 }
 
-/// Whether the word is decimal digits.
+/// Whether the argument is decimal digits.
 #[tactic(auto, using(crate::proofs::Digits::digits_all))]
 fn is_number(word: &str) -> bool
     ensures { result ≡ is_number word.now }
@@ -24,8 +24,8 @@ fn is_number(word: &str) -> bool
     !word.is_empty() && are_digits(word.as_bytes())
 }
 
-/// The number that the word says, leading zeros read; none where it is no number. One past 2^64-1 is read as that,
-/// which no message has.
+/// The number that the argument spells, leading zeros read; none where it is no number. One past 2^64-1 is read as
+/// that, which no message has.
 #[tactic(auto, unfolding(crate::specs::Numbers::number_of))]
 pub(crate) fn number_in(word: &str) -> Option<u64>
     ensures { result ≡ number_of word.now }
@@ -39,7 +39,7 @@ pub(crate) fn number_in(word: &str) -> Option<u64>
     }
 }
 
-/// The node that the word names. A number past 255 is read as that, which no node has.
+/// The node that the argument names. A number past 255 is read as that, which no node has.
 pub(crate) fn node_in(word: &str) -> Result<u8, LineFault>
     ensures { Reads (λ m. m) result (node_of word.now) }
 {
@@ -55,7 +55,7 @@ pub(crate) fn node_in(word: &str) -> Result<u8, LineFault>
     }
 }
 
-/// The message that the word names.
+/// The message that the argument names.
 pub(crate) fn message_in(word: &str) -> Result<usize, LineFault>
     ensures { Reads (λ k. k) result (message_of word.now) }
 {

@@ -11,7 +11,7 @@ use crate::bench::Bench;
 use crate::event::{LabAction, LabEvent, LabFault, Outcome};
 use std::alloc::AllocError;
 
-/// Whether memory ran out.
+/// Whether it was out of memory.
 fn unless_memory(outcome: Result<Outcome, LabFault>) -> Result<(), AllocError>
     ensures { OnOk result (outcome ≢ Err LabFault.Memory) }
 {

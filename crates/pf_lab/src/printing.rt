@@ -1,11 +1,11 @@
-//! Numbers with a word before them.
+//! Numbers with a name before them.
 
 ghost use Rattle.std.specs.Prelude.{◌≡◌, ◌++◌, OnOk, string_bytes, decimal};
 
 use pf_scripts::push_number;
 use std::alloc::{AllocError, Global};
 
-/// Puts a number behind the text, and its word before it.
+/// Appends a name and its number to the text.
 pub(crate) fn push_named(
     alloc: Global,
     out: &mut String,

@@ -28,7 +28,7 @@ pub(crate) enum LabLine<'w, 'a> {
     Sent,
 }
 
-/// The one word.
+/// The only argument.
 fn only<'a>(words: &[&'a str]) -> Result<&'a str, LineFault>
     ensures { Reads (λ w. w.now) result (only (map (λ w. w.now) words.now)) }
 {
@@ -98,7 +98,7 @@ fn test_in<'w, 'a>(words: &'w [&'a str]) -> Result<LabLine<'w, 'a>, LineFault>
     }
 }
 
-/// What a line of one word asks for, none where it is no such word.
+/// What a line without arguments asks for, by its keyword; none where there is no such keyword.
 fn bare<'w, 'a>(word: &str) -> Option<LabLine<'w, 'a>>
     ensures { option_map line_value result ≡ bare word.now }
 {
@@ -114,7 +114,7 @@ fn bare<'w, 'a>(word: &str) -> Option<LabLine<'w, 'a>>
     None
 }
 
-/// What a line with these words asks for; `text` is what is behind it.
+/// What a line with these arguments asks for; `text` is what follows it.
 pub(crate) fn line_in<'w, 'a>(
     alloc: Global,
     words: &'w [&'a str],

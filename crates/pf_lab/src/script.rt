@@ -18,7 +18,7 @@ use std::alloc::{AllocError, Global};
 /// How many members there are at most.
 const MEMBERS: u64 = 15;
 
-/// How many members the line `members N` names; none for other words, or unless there are 1 to 15.
+/// How many members the line `members N` names; none for other arguments, or unless there are 1 to 15.
 fn members_in(words: &[&str]) -> Option<u8>
     ensures value { result ≡ members_in (map (λ w. w.now) words.now) }
     ensures range { IfSome result (λ n. (1 ≤ n) × (n ≤ MEMBERS)) }
@@ -36,7 +36,7 @@ fn members_in(words: &[&str]) -> Option<u8>
     Some(members as u8)
 }
 
-/// How many members the first line says that isn't blank, and what is behind it; none where it doesn't.
+/// How many members the first line that isn't blank names, and what follows it; none where it names none.
 fn begun(alloc: Global, script: &[u8]) -> Result<Option<(u8, &[u8])>, AllocError>
     ensures range { IfOk result (λ o. IfSome o (λ b. (1 ≤ b.0) × (b.0 ≤ MEMBERS))) }
     ensures some { IfOk result (λ o. IfSome o (λ b.
@@ -112,7 +112,7 @@ fn run_lines(alloc: Global, members: u8, behind: &[u8], out: &mut String) -> Res
 
 /// What a script of a lab's events prints.
 ///
-/// `Err` where memory runs out, also where a node that is shown hasn't applied what it learned for want of it.
+/// `Err` where it is out of memory, also where a node that is shown hasn't applied what it learned for that reason.
 #[tactic(auto, unfolding(crate::specs::Scripts::printed))]
 pub fn lab_script(alloc: Global, script: &[u8]) -> Result<String, AllocError>
     ensures { IfOk result (λ text. string_bytes text ≡ printed script.now) }

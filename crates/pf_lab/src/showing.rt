@@ -50,7 +50,7 @@ impl Lab {
         }
     }
 
-    /// What the members ever learned, those that are stopped too. Takes no memory.
+    /// What the members ever learned, those that are stopped too. Allocates nothing.
     pub fn ever_learned(&self) -> EverLearned<'_>
         ensures hosts { result.hosts.now ≡ self.now.hosts.items }
         ensures ever { (n : ℕ) → 1 ≤ n → n ≤ MEMBERS → (events : List (Event Bytes)) →

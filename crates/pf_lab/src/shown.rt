@@ -27,7 +27,7 @@ use std::alloc::{AllocError, Global};
 /// Nothing is learned that many positions or more past a node's front.
 const WINDOW: u32 = 64;
 
-/// ` round R front F applied A`; memory ran out where less is applied than the front.
+/// ` round R front F applied A`; out of memory where less is applied than the front.
 fn push_progress(
     alloc: Global,
     out: &mut String,
@@ -109,7 +109,7 @@ fn push_learned_by(
     }
 }
 
-/// The configuration of a node that has applied all below its front; memory ran out where it hasn't.
+/// The configuration of a node that has applied all below its front; out of memory where it hasn't.
 #[tactic(auto, using(crate::proofs::Lines::config_is))]
 fn configuration(node: &Node<MemoryRecords>) -> Result<&Config, AllocError>
     ensures { IfOk result (λ c. c.now ≡ config_at (learned_by node.now)) }

@@ -34,7 +34,7 @@ fn run_line(
     }
 }
 
-/// Does what a line with words asks for, or prints its refusal; `text` is what is behind it.
+/// Runs what a line's arguments ask for, or prints its refusal; `text` is what follows it.
 pub(crate) fn run_words(
     alloc: Global,
     bench: &mut Bench,
@@ -53,7 +53,7 @@ pub(crate) fn run_words(
     }
 }
 
-/// Whether a ruleset follows a line with these words: one of an ask, `ask` in pfctl's place.
+/// Whether a ruleset follows a line with these arguments: one of an ask, `ask` in pfctl's place.
 fn is_followed(alloc: Global, words: &[&str]) -> Result<bool, AllocError>
     ensures { IfOk result (λ b. b ≡ is_followed (map (λ w. w.now) words.now)) }
 {
@@ -69,7 +69,7 @@ fn is_followed(alloc: Global, words: &[&str]) -> Result<bool, AllocError>
     }
 }
 
-/// Does a line with words, unless a ruleset follows it.
+/// Runs a line with these arguments, unless a ruleset follows it.
 fn begin<'a>(
     alloc: Global,
     bench: &mut Bench,
@@ -97,7 +97,7 @@ fn begin<'a>(
     Ok(None)
 }
 
-/// Does a line: one of a ruleset, or one with words. Answers what waits for its text then.
+/// Runs a line: one of a ruleset, or one with arguments. Returns the line that waits for its text then.
 pub(crate) fn step<'a>(
     alloc: Global,
     bench: &mut Bench,

@@ -77,7 +77,7 @@ stretched_next k n old new was (inl is) = let l : length new ≡ length old = ap
 stretched_next k n old new was (inr (is, under)) =
     let l : length new ≡ length old + 1 = ap length is ∙ length-append old (n ∷ []) in omega (arith, under, l)
 
--- what is said of a log holds of one that is the same below all of them
+-- what holds of a log holds of one that is the same below all of them
 pub bounds_same : (log more : Log Bytes) (origin k : ℕ) (bounds : List ℕ) → ((p : ℕ) → p < k → more p ≡ log p) →
     256 * length bounds ≤ k → AreBounds log origin bounds → AreBounds more origin bounds
 bounds_same log more origin k bounds same under h i in_range =

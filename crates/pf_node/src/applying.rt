@@ -53,7 +53,7 @@ fn apply_entry(alloc: Global, config: &mut Config, entry: &Entry) -> Result<Outc
     }
 }
 
-/// Applies the learned entries up to the front. Where memory runs out it stops between two entries. Outcomes are kept
+/// Applies the learned entries up to the front. When out of memory it stops between two entries. Outcomes are kept
 /// as far as memory serves.
 #[tactic(auto, using(crate::proofs::Following::after_next, crate::proofs::Following::learned_below, crate::proofs::Recording::recorded_next))]
 pub(crate) fn take_up<R: Records>(

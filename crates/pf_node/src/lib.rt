@@ -3,8 +3,8 @@
 //! # Organization
 //!
 //! - [`Node`]: `ask`, `tick` and `receive` are steps of the agreement, and apply what was learned; `verdict` answers
-//!   packets; `outcome` says what came of the command at a position, `position_of` where a request was learned.
-//! - `specs/Applied` is the configuration of a log, `specs/Outcomes` what came of its commands; what a call makes
+//!   packets; `outcome` returns what came of the command at a position, `position_of` where a request was learned.
+//! - `specs/Applied` is the configuration of a log, `specs/Outcomes` what came of its commands; what a call does
 //!   is in px_replica's `specs/Made`.
 //!
 //! The configuration is always that after the first `applied` learned entries.

@@ -36,7 +36,7 @@ impl<R: Records> Node<R> {
     /// Takes a command in: the number that its entry got. Nothing is sent.
     ///
     /// `TooLong` where no entry of the command has a spelling, else `Full` where 64 entries wait, else `PositionsSpent`
-    /// where every position is learned or every number used: then, and where memory runs out, all is as it was.
+    /// where every position is learned or every number used: then, and when out of memory, all is as it was.
     /// `Store` and `BadStore` are the record's; after either the node is failed, and answers `Failed` before all else.
     pub fn ask(&mut self, command: &Command) -> Result<u64, NodeFault>
         ensures call { Call (replica_of self.old) (replica_of self.new) (Asks (bytes_of command.now)) [] []
@@ -258,7 +258,7 @@ impl<R: Records> Node<R> {
         self.replica.has_failed()
     }
 
-    /// A restart in place: all is let go but the record, what is learned and what is applied. Takes no memory.
+    /// A restart in place: all is let go but the record, what is learned and what is applied. Allocates nothing.
     pub fn forget(&mut self)
         ensures volatile { (state_in self.new).volatile ≡ nothing_volatile }
         ensures records { records_of self.new ≡ records_of self.old }

@@ -36,7 +36,7 @@ impl Outcomes {
         }
     }
 
-    /// Keeps one more, and lets the eldest go where there are too many. Where memory runs out all are let go.
+    /// Keeps one more, and lets the eldest go where there are too many. When out of memory all are let go.
     pub(crate) fn put(&mut self, outcome: Outcome)
         ensures { (self.new.kept.items ≡ outcome ∷ take 4095 self.old.kept.items) ⊎ (self.new.kept.items ≡ []) }
     {

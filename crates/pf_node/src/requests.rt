@@ -37,7 +37,7 @@ impl Numbers {
         }
     }
 
-    /// A request is applied, so that all below `end` are. Where memory runs out a stretch has no bound, or that of more
+    /// A request is applied, so that all below `end` are. When out of memory a stretch has no bound, or that of more
     /// positions.
     pub(crate) fn put(&mut self, end: u32, origin: u8, number: u64)
         ensures origin { self.new.origin ≡ self.old.origin }

@@ -15,7 +15,7 @@ use px_records::Records;
 use px_replica::Replica;
 use std::alloc::Global;
 
-/// A member of the cluster. Its configuration is always that after the first learned entries, as many as are applied.
+/// A member of the cluster. Its configuration is always that after the first `applied` learned entries.
 pub struct Node<R: Records> {
     pub(crate) replica: Replica<R>,
     pub(crate) config: Config,
@@ -35,7 +35,7 @@ pub struct Node<R: Records> {
 impl<R: Records> Node<R> {
     ghost use Rattle.pf_node.specs.Nodes.{records_of};
 
-    /// Gives the record back. Takes no memory.
+    /// Gives the record back. Allocates nothing.
     pub fn close(self) -> R
         ensures { result ≡ records_of self }
     {

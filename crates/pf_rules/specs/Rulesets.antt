@@ -7,7 +7,7 @@ use Rattle.pf_rules.specs.declared.ruleset.Ruleset.{Ruleset}
 use Rattle.pf_rules.specs.declared.ruleset.TableDef.{TableDef}
 use Rattle.pf_rules.specs.declared.ruleset.TableEntry.{TableEntry}
 
--- what a ruleset says of a table: its flags, and its entries where they are listed
+-- a table of a ruleset: its flags, and its entries where they are listed
 -- Example: table <t> persist.
 pub record TableValue : Type 0 where
   pub name : Name
@@ -21,7 +21,7 @@ pub record RulesetValue : Type 0 where
   pub tables : List TableValue
   pub items : List ItemValue
 
--- what the code's table says: its name, its flags, and its entries where they are listed
+-- the value of the code's table: its name, its flags, and its entries where they are listed
 abbrev pub table_of : TableDef → TableValue
 table_of t = record {
   name = t.name;

@@ -1,4 +1,4 @@
--- Words that stand for numbers, for flags and for names.
+-- Tokens that stand for numbers, for flags and for names.
 use Rattle.std.specs.Prelude.{ℕ, ◌+◌, ◌*◌, ◌-◌, ◌&&◌, ◌||◌, ◌==◌, Bool, true, false, List, []}
 use Rattle.std.specs.Prelude.{◌∷◌, length, Option, Some, None, nat_le, nat_lt, not, bytes_eq, codes, fold}
 use Rattle.std.specs.Prelude.{if◌then◌else◌}
@@ -18,7 +18,7 @@ decimal_value digits = fold (λ n d. 10 * n + (d - 48)) 0 digits
 abbrev pub is_decimal : ℕ → List ℕ → Bool
 is_decimal most text = nat_lt 0 (length text) && nat_le (length text) most && list_all is_ascii_digit text
 
--- one to that many digits, whose number is at most this; leading zeros may stand within the digits
+-- one to that many digits, whose number is at most this; leading zeros may be among the digits
 unfoldable pub number_of : ℕ → ℕ → List ℕ → Option ℕ
 number_of digits most text = if is_decimal digits text && nat_le (decimal_value text) most
     then Some (decimal_value text) else None
@@ -105,7 +105,7 @@ flags_of text = if are_letters text then Some (flags_with text) else None
 
 -- ---- names
 
--- the words which both profiles keep for themselves
+-- the reserved words of both profiles
 abbrev pub common_reserved : List (List ℕ)
 common_reserved =
     codes "pass" ∷ codes "block" ∷ codes "drop" ∷ codes "return" ∷ codes "in" ∷ codes "out" ∷
@@ -117,11 +117,11 @@ common_reserved =
     ∷ codes "block-policy" ∷ codes "table" ∷ codes "persist" ∷ codes "const" ∷ codes "counters" ∷
     codes "anchor" ∷ []
 
--- the text is one of the words
+-- the text is one of these words
 abbrev pub is_among : List (List ℕ) → List ℕ → Bool
 is_among words text = list_any (λ word. bytes_eq text word) words
 
--- profile Two has one word more
+-- profile Two reserves one word more
 unfoldable pub is_reserved : Profile → List ℕ → Bool
 is_reserved One text = is_among common_reserved text
 is_reserved Two text = is_among common_reserved text || bytes_eq text (codes "icmp-type")

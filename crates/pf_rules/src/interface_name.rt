@@ -8,7 +8,7 @@ use crate::names::is_interface_text;
 use std::marker::Model;
 
 /// The name of an interface or of a group of them: a letter, and up to 14 letters, digits, `_`, `-` and `.`
-/// (pf.conf(5), `on`). It is seen as its bytes, which are in it: no memory is taken for it.
+/// (pf.conf(5), `on`). It is seen as its bytes, which are in it: nothing is allocated for it.
 pub struct InterfaceName {
     bytes: [u8; 15],
     len: u8,

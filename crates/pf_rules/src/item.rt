@@ -49,7 +49,7 @@ impl Drop for AnchorHeading {
 /// A rule that evaluates anchors (pf.conf(5), ANCHORS).
 #[cycle(item)]
 pub struct AnchorRule {
-    /// What it says without its block.
+    /// The anchor rule without its block.
     pub heading: AnchorHeading,
     /// The rules that it carries for its anchor, if it carries a block. They are shared, so that a load copies none.
     pub block: Option<Rc<Vec<Item>>>,

@@ -9,13 +9,13 @@
 //!   anchor.
 //! - [`parse_protocol`], [`parse_port`], [`parse_icmp_type`] and [`parse_decimal`] read numbers, or names that stand
 //!   for them; [`parse_flags`] reads the letters of [`TcpFlags`].
-//! - [`is_same_word`] compares words; [`is_reserved`] distinguishes the grammar's words from names;
-//!   [`is_interface_name`], [`is_table_name`] and [`is_anchor_text`] say what forms names have.
+//! - [`is_same_word`] compares keywords; [`is_reserved`] distinguishes reserved words from names;
+//!   [`is_interface_name`], [`is_table_name`] and [`is_anchor_text`] test the forms of names.
 //!
 //! # Why
 //!
-//! - These values know nothing of how they are read or shown, so what rests on them is proved beside the grammar.
-//! - **Words are compared byte for byte** (`is_same_word`, inlined), their lengths first. std's `==` on slices costs
+//! - These values don't depend on how they are read or shown, so what depends on them is proved beside the grammar.
+//! - **Keywords are compared byte for byte** (`is_same_word`, inlined), their lengths first. std's `==` on slices costs
 //!   some hundred instructions for four equal bytes, and `starts_with` as much.
 #![tactic(auto)]
 

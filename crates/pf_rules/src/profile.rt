@@ -1,6 +1,6 @@
 //! Profiles of the grammar.
 
-/// Which words a ruleset may use. Rulesets of a log keep the profile that they were written for.
+/// Which keywords a ruleset may use. Rulesets of a log keep the profile that they were written for.
 #[derive(Clone, Copy, PartialEq, Eq)]
 pub enum Profile {
     /// The grammar without types of ICMP.

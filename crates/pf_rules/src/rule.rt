@@ -14,7 +14,7 @@ pub enum Action {
     Return,
 }
 
-/// What a packet must be for a rule to match. Where nothing is said every packet will do.
+/// What a packet must be for a rule to match. Where no condition is given, every packet matches.
 pub struct Conditions {
     pub direction: Option<Direction>,
     pub interface: Option<Interface>,

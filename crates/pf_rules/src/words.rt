@@ -1,4 +1,4 @@
-//! Words that stand for numbers, for flags and for names.
+//! Tokens that stand for numbers, for flags and for names.
 
 ghost use Rattle.std.specs.Prelude.{◌≡◌, ◌≤◌, bytes_eq, codes, length, map, true, IfSome};
 ghost use Rattle.std.specs.List.{list_all};
@@ -48,7 +48,7 @@ const SERVICES: [(&str, u16); 15] = [
 /// Types of ICMP that have a name (RFC 792).
 const ICMP_TYPES: [(&str, u8); 2] = [("echoreq", 8), ("echorep", 0)];
 
-/// The words that both profiles keep for themselves.
+/// The reserved words of both profiles.
 const RESERVED: [&str; 29] = [
     "pass",
     "block",
@@ -101,7 +101,7 @@ fn are_digits(text: &[u8]) -> bool
     text.iter().all(|b| b.is_ascii_digit())
 }
 
-/// A number of one to that many digits, at most this. Leading zeros may stand within the digits.
+/// A number of one to that many digits, at most this. Leading zeros may be among the digits.
 #[tactic(auto, unfolding(crate::specs::Words::number_of))]
 pub fn parse_decimal(text: &[u8], digits: usize, most: u16) -> Option<u16>
     requires { digits ≤ 5 }
@@ -119,8 +119,8 @@ pub fn parse_decimal(text: &[u8], digits: usize, most: u16) -> Option<u16>
     }
 }
 
-/// Whether the text is this word, byte for byte. Words are short: each byte is asked for itself, and where the word is
-/// known when this is compiled, so is their number.
+/// Whether the text is this keyword, byte for byte. Keywords are short: each byte is compared by itself, and where the
+/// keyword is known at compile time, so is the number of bytes.
 #[inline(always)]
 pub fn is_same_word(text: &[u8], word: &[u8]) -> bool
     ensures { result ≡ bytes_eq text.now word.now }
@@ -252,7 +252,7 @@ pub fn parse_flags(text: &[u8]) -> Option<TcpFlags>
     })
 }
 
-/// Whether the text is one of the words.
+/// Whether the text is one of these words.
 fn is_among(words: &[&str], text: &[u8]) -> bool
     ensures { result ≡ is_among (map (λ w. w.now) words.now) text.now }
 {
@@ -274,7 +274,7 @@ fn ends_like_reserved(text: &[u8]) -> bool
     }
 }
 
-/// Whether the profile keeps the word for itself.
+/// Whether the profile reserves the word.
 #[tactic(auto, using(crate::proofs::Reserved::unending), unfolding(crate::specs::Words::is_reserved))]
 pub fn is_reserved(profile: Profile, text: &[u8]) -> bool
     ensures { result ≡ is_reserved profile text.now }

@@ -44,19 +44,19 @@ abbrev pub change_line : Bool → Result Effect RefusedCommand → List ℕ
 change_line counts (Ok e) = counts_line counts e.added e.removed
 change_line counts (Err r) = refused_line r.code r.line
 
--- ---- what a line of pfctl's words asks for
+-- ---- what a line of pfctl's arguments asks for
 
 -- the file of -f is standard input, or there is none
 abbrev pub is_standard : Option Text → Bool
 is_standard None = true
 is_standard (Some file) = bytes_eq file (codes "-")
 
--- what words have, pfctl itself first; none where they aren't understood
+-- what the arguments give, pfctl itself first; none where they aren't understood
 abbrev pub rows_unless : Kinds → List Row → Option (List Row)
 rows_unless [] rows = Some rows
 rows_unless (k ∷ ks) rows = None
 
--- what is given for each option, none where the words aren't pfctl's
+-- what is given for each option, none where the arguments aren't pfctl's
 unfoldable pub rows_in : List Text → Option (List Row)
 rows_in words = rows_unless (fault_of pfctl_app words) (matches_of pfctl_app words)
 
@@ -71,12 +71,12 @@ abbrev pub rows_asked : List ℕ → List Row → Result ActionValue ℕ
 rows_asked text rows =
     if is_standard (first_of (codes "file") rows) then numbered (asked (given_in rows) text) else Err 40
 
--- the same of words; those that aren't pfctl's are 40
+-- the same of arguments; those that aren't pfctl's are 40
 abbrev pub asked_at : List ℕ → Option (List Row) → Result ActionValue ℕ
 asked_at text None = Err 40
 asked_at text (Some rows) = rows_asked text rows
 
--- the action that words ask for, with the text of their file, or the number of the refusal
+-- the action that arguments ask for, with the text of their file, or the number of the refusal
 abbrev pub action_in : List Text → List ℕ → Result ActionValue ℕ
 action_in words text = asked_at text (rows_in words)
 
@@ -105,7 +105,7 @@ looked c text (Ok (Change command)) = Asks command
 looked c text (Ok (CheckOnly p)) = checked (reading (place_at p) Two text)
 looked c text (Ok action) = shown (listed c action)
 
--- words with the text of their file
+-- arguments with the text of their file
 -- Source: pfctl(8). Example: pfctl -F rules asks for a change.
 abbrev pub words_read : Configuration → List Text → List ℕ → WordsValue
 words_read c words text = looked c text (action_in words text)
@@ -127,7 +127,7 @@ done_with c (Asks command) = prints (after_command c command) (change_line (is_c
 done_with c (Refuses code at) = prints c (refused_line code at)
 done_with c (Shows output) = prints c output
 
--- a line of pfctl's words, with the text of their file
+-- a line of pfctl's arguments, with the text of their file
 abbrev pub pfctl : Configuration → List Text → List ℕ → Outcome
 pfctl c words text = done_with c (words_read c words text)
 
@@ -138,19 +138,19 @@ abbrev pub is_input : Option Text → Bool
 is_input None = false
 is_input (Some file) = bytes_eq file (codes "-")
 
--- a ruleset follows: -f - is given, or stands so among words that can't be read
+-- a ruleset follows: -f - is given, or is among arguments that can't be read
 abbrev pub takes_text_by : List Text → Option (List Row) → Bool
 takes_text_by words None = stand_together (codes "-f") (codes "-") words
 takes_text_by words (Some rows) = is_input (first_of (codes "file") rows)
 
--- a ruleset follows where the file is standard input; of words that aren't understood, where -f and - stand side by
+-- a ruleset follows where the file is standard input; of arguments that aren't understood, where -f and - are side by
 -- side
 abbrev pub takes_text : List Text → Bool
 takes_text words = takes_text_by words (rows_in words)
 
 -- ---- line by line
 
--- words that wait for the end of their text, and the text so far
+-- arguments that wait for the end of their text, and the text so far
 pub record WaitingWords : Type 0 where
   pub words : List Text
   pub text : List ℕ
@@ -165,7 +165,7 @@ pub record StepValue : Type 0 where
 abbrev pub done : Outcome → StepValue
 done outcome = record { configuration = outcome.configuration; waiting = None; output = outcome.output }
 
--- a line of pfctl's words: it is run at once, or waits for its text
+-- a line of pfctl's arguments: it is run at once, or waits for its text
 abbrev pub pfctl_line : Configuration → List Text → StepValue
 pfctl_line c words =
     if takes_text words then record {
@@ -193,7 +193,7 @@ at_words c (Some (w ∷ ws)) =
     else if bytes_eq w (codes "test") then done (prints c (tested c ws))
     else done (prints c (refused_line 40 0))
 
--- a line: of a ruleset up to a line `.`, or one with words
+-- a line: one of a ruleset, up to a line `.`, or one with arguments
 abbrev pub stepped : Configuration → Option WaitingWords → ScriptLine → StepValue
 stepped c None l = at_words c (words_in l.content)
 stepped c (Some w) l =

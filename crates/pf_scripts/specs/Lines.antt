@@ -25,7 +25,7 @@ lines (b ∷ bytes) = if b == 10 then record { content = []; has_newline = true 
 abbrev pub bytes_of : ScriptLine → List ℕ
 bytes_of l = if l.has_newline then l.content ++ 10 ∷ [] else l.content
 
--- words, if each is UTF-8
+-- the arguments, if each is UTF-8
 abbrev pub words_if : List (List ℕ) → Option (List (List ℕ))
 words_if words = if list_all is_utf8 words then Some words else None
 
@@ -46,19 +46,19 @@ refused_line code at =
     if at == 0 then line (codes "refused " ++ decimal code)
     else line (codes "refused " ++ decimal code ++ codes " line " ++ decimal at)
 
--- words with a blank between them
+-- arguments with a blank between them
 abbrev pub spaced : List (List ℕ) → List ℕ
 spaced [] = []
 spaced (w ∷ []) = w
 spaced (w ∷ v ∷ ws) = w ++ 32 ∷ spaced (v ∷ ws)
 
--- the first word is this one, and the next the other
+-- the first argument is this one, and the next the other
 abbrev pub begins_pair : List ℕ → List ℕ → List (List ℕ) → Bool
 begins_pair a b [] = false
 begins_pair a b (w ∷ []) = false
 begins_pair a b (w ∷ v ∷ ws) = bytes_eq w a && bytes_eq v b
 
--- one word stands directly before the other
+-- one argument is directly before the other
 abbrev pub stand_together : List ℕ → List ℕ → List (List ℕ) → Bool
 stand_together a b [] = false
 stand_together a b (w ∷ ws) = begins_pair a b (w ∷ ws) || stand_together a b ws

@@ -1,4 +1,4 @@
--- The change that a line of pfctl's words asks for, and what the code's values stand for.
+-- The change that a line of pfctl's arguments asks for, and what the code's values stand for.
 use Rattle.std.specs.Prelude.{◌≡◌, ℕ, false, List, Result, Ok, Err, String, string_bytes}
 use Rattle.clap.specs.Words.{Text}
 use Rattle.pf_entry.specs.Entry.{Command}
@@ -16,13 +16,13 @@ change_of (Err code) = Err code
 change_of (Ok (Change command)) = Ok command
 change_of (Ok action) = Err 40
 
--- the change that words ask for, with the text of their file, or the number of the refusal
+-- the change that arguments ask for, with the text of their file, or the number of the refusal
 abbrev pub change_in : List Text → List ℕ → Result Command ℕ
 change_in words text = change_of (action_in words text)
 
 -- ---- the code's values
 
--- what read words in code stand for
+-- the value of read arguments in code
 abbrev pub words_value : WordsRead → WordsValue
 words_value (rust.Change command) = Asks (command_value command)
 words_value (rust.Refused code at) = Refuses code at
@@ -34,7 +34,7 @@ AsksShort (rust.Change command) = is_too_long (command_value command) ≡ false
 AsksShort (rust.Refused code at) = Unit {0}
 AsksShort (rust.Output output) = Unit {0}
 
--- what is asked for, or its refusal; nothing is said of out of memory
+-- what is asked for, or its refusal; out of memory isn't specified
 abbrev pub IsAskedAs : {Z V : Type 0} → Result Z ChangeFault → (Z → V) → Result V ℕ → Type 0
 IsAskedAs (Ok x) value asked = asked ≡ Ok (value x)
 IsAskedAs (Err fault.Memory) value asked = Unit {0}

@@ -1,4 +1,4 @@
-//! What a line of pfctl's words does.
+//! What a line of pfctl's arguments does.
 
 ghost use Rattle.std.specs.Prelude.{◌≡◌, ◌++◌, OnOk, map, false, string_bytes};
 ghost use Rattle.std.specs.Option.{option_copied};
@@ -57,7 +57,7 @@ pub fn push_counts(
     out.push('\n')
 }
 
-/// Applies a command as it is in an entry's bytes, and says what comes of it.
+/// Applies a command as it is in an entry's bytes, and prints the result.
 #[tactic(auto, using(crate::proofs::Acted::applied_does, crate::proofs::Acted::refused_does))]
 fn run_view(
     alloc: Global,
@@ -123,7 +123,7 @@ pub(crate) fn run_matches(
     }
 }
 
-/// Does what a line of pfctl's words asks for, `pfctl` itself first, with the text of its file.
+/// Does what a line of pfctl's arguments asks for, `pfctl` itself first, with the text of its file.
 pub(crate) fn run_words(
     alloc: Global,
     config: &mut Config,

@@ -2,15 +2,15 @@
 //!
 //! # Organization
 //!
-//! - [`ctl`]: what a script of pfctl's words and packets prints.
-//! - [`read_words`]: what a line of pfctl's words gives where nothing is changed; [`read_change`]: the change that
+//! - [`ctl`]: what a script of pfctl's arguments and packets prints.
+//! - [`read_words`]: what a line of pfctl's arguments gives where nothing is changed; [`read_change`]: the change that
 //!   it asks for; [`list`]: what an action lists.
 //! - For scripts of other kinds: [`cut_line`] and [`words_in`] cut; [`takes_text`] and [`Waiting`] are of the text
-//!   behind a line of pfctl's words, [`matches_in`], [`file_in`] and [`is_standard`] of those words; [`push_line`],
-//!   [`push_number`], [`push_counts`], [`push_refusal`] and [`test_packet`] print.
+//!   after a line of pfctl's arguments, [`matches_in`], [`file_in`] and [`is_standard`] of those arguments;
+//!   [`push_line`], [`push_number`], [`push_counts`], [`push_refusal`] and [`test_packet`] print.
 //!
-//! Within: `lines` cuts scripts and lines, `order` and `listing` are what is listed, `pfctl` is a line of pfctl's words
-//! as `clap` reads it, `reading` what it asks for, `acting` what it does, `stepping` a line of a script.
+//! Within: `lines` cuts scripts and lines, `order` and `listing` are what is listed, `pfctl` is a line of pfctl's
+//! arguments as `clap` reads it, `reading` what it asks for, `acting` what it does, `stepping` a line of a script.
 #![tactic(auto)]
 
 mod acting;

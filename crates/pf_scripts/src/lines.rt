@@ -69,7 +69,7 @@ pub fn push_bytes(text: &mut Vec<u8>, line: Line<'_>) -> Result<(), AllocError>
     Ok(())
 }
 
-/// A word as text, none where it isn't UTF-8.
+/// An argument as text, none where it isn't UTF-8.
 #[tactic(auto, using(crate::proofs::LinesCut::utf8_text, crate::proofs::LinesCut::no_text))]
 fn text_of(word: &[u8]) -> Option<&str>
     ensures { option_map (λ s. s.now) result ≡ (if is_utf8 word.now then Some word.now else None) }
@@ -80,7 +80,7 @@ fn text_of(word: &[u8]) -> Option<&str>
     }
 }
 
-/// The words as text, none where one of them isn't UTF-8.
+/// The arguments as text, none where one of them isn't UTF-8.
 pub fn texts<'a>(alloc: Global, found: &[&'a [u8]]) -> Result<Option<Vec<&'a str>>, AllocError>
     ensures { IfOk result (λ words. option_map (λ v. map (λ w. w.now) v.items) words
         ≡ words_if (map (λ w. w.now) found.now)) }
@@ -95,7 +95,7 @@ pub fn texts<'a>(alloc: Global, found: &[&'a [u8]]) -> Result<Option<Vec<&'a str
     Ok(Some(texts))
 }
 
-/// The words in a line, between blanks; none where one of them isn't UTF-8.
+/// The arguments in a line, between blanks; none where one of them isn't UTF-8.
 #[tactic(auto, unfolding(crate::specs::Lines::words_in))]
 pub fn words_in<'a>(alloc: Global, line: &'a [u8]) -> Result<Option<Vec<&'a str>>, AllocError>
     ensures { IfOk result (λ words. option_map (λ v. map (λ w. w.now) v.items) words ≡ words_in line.now) }
@@ -120,7 +120,7 @@ pub fn spaced(alloc: Global, words: &[&str]) -> Result<String, AllocError>
     Ok(text)
 }
 
-/// Whether the first word is this one and the next the other.
+/// Whether the first argument is this one and the next the other.
 fn begins_pair(first: &str, second: &str, words: &[&str]) -> bool
     ensures { result ≡ begins_pair first.now second.now (map (λ w. w.now) words.now) }
 {
@@ -131,7 +131,7 @@ fn begins_pair(first: &str, second: &str, words: &[&str]) -> bool
     }
 }
 
-/// Whether one word stands directly before the other.
+/// Whether one argument is directly before the other.
 pub(crate) fn stand_together(first: &str, second: &str, words: &[&str]) -> bool
     ensures { result ≡ stand_together first.now second.now (map (λ w. w.now) words.now) }
 {

@@ -1,4 +1,4 @@
-//! A line of pfctl's words, as `clap` reads it.
+//! A line of pfctl's arguments, as `clap` reads it.
 
 ghost use Rattle.std.specs.Prelude.{◌≡◌, IfOk, map, codes, option_map, false};
 ghost use Rattle.std.specs.Option.{option_copied};
@@ -21,7 +21,7 @@ fn command<'a>(alloc: Global) -> Result<Command<'a>, AllocError>
     pfctl_args(alloc, Command::new(alloc, "pfctl"))
 }
 
-/// The matches of a line's words, none where `clap` refuses them.
+/// The matches of a line's arguments, none where `clap` refuses them.
 pub fn matches_in<'a>(
     alloc: Global,
     words: &'a [&'a str],
@@ -68,7 +68,7 @@ pub fn file_in<'a>(matches: &ArgMatches<'a>) -> Option<&'a str>
     matches.get_str("file")
 }
 
-/// Whether a ruleset follows words that have these matches, `None` where `clap` refused the words.
+/// Whether a ruleset follows arguments with these matches, `None` where `clap` refused the arguments.
 pub(crate) fn takes_text_by(words: &[&str], matches: Option<&ArgMatches<'_>>) -> bool
     ensures { result ≡ takes_text_by (map (λ w. w.now) words.now) (rows_matched (option_copied matches.entry)) }
 {
@@ -78,7 +78,7 @@ pub(crate) fn takes_text_by(words: &[&str], matches: Option<&ArgMatches<'_>>) ->
     }
 }
 
-/// Whether a ruleset follows the words, up to a line `.`.
+/// Whether a ruleset follows the arguments, up to a line `.`.
 pub fn takes_text(alloc: Global, words: &[&str]) -> Result<bool, AllocError>
     ensures { IfOk result (λ b. b ≡ takes_text (map (λ w. w.now) words.now)) }
 {

@@ -1,4 +1,4 @@
-//! What a line of pfctl's words asks for, and what it gives where nothing is changed.
+//! What a line of pfctl's arguments asks for, and what it gives where nothing is changed.
 
 ghost use Rattle.std.specs.Prelude.{◌≡◌, IfOk, Ok, map};
 ghost use Rattle.std.specs.Option.{option_copied};
@@ -23,7 +23,7 @@ use pf_grammar::{ParseFault, Place, Profile, parse};
 use pf_rules::Name;
 use std::alloc::{AllocError, Global};
 
-/// The action that matches ask for, with the text of the file; matches are `None` where `clap` refused the words.
+/// The action that matches ask for, with the text of the file; matches are `None` where `clap` refused the arguments.
 #[tactic(auto, using(crate::proofs::Acted::fault_numbered))]
 fn action_of(
     alloc: Global,
@@ -116,11 +116,11 @@ pub(crate) fn read_matches(
     }
 }
 
-/// What a line of pfctl's words comes to at a configuration, `pfctl` itself first, with the text of its file; nothing
+/// What a line of pfctl's arguments gives at a configuration, `pfctl` itself first, with the text of its file; nothing
 /// is changed.
 ///
-/// Words of a change answer the command, and nothing is made of it. All others answer what they print: what is listed
-/// (pfctl(8), `-s` and `-T`), or their refusal.
+/// The arguments of a change return the command, which isn't executed. All others return what they print: what is
+/// listed (pfctl(8), `-s` and `-T`), or their refusal.
 pub fn read_words(
     alloc: Global,
     config: &Config,
@@ -136,7 +136,7 @@ pub fn read_words(
     read_matches(alloc, config, matches.as_ref(), text)
 }
 
-/// The change that a line of pfctl's words asks for, `pfctl` itself first, with the text of its file.
+/// The change that a line of pfctl's arguments asks for, `pfctl` itself first, with the text of its file.
 pub fn read_change(alloc: Global, words: &[&str], text: &[u8]) -> Result<Command, ChangeFault>
     ensures { IsAskedAs result command_value (change_in (map (λ w. w.now) words.now) text.now) }
 {

@@ -32,9 +32,9 @@ fn finish(
 
 /// What a script prints over an empty configuration.
 ///
-/// A line is `pfctl` and its words, or `test` and a packet's; an empty one is passed over, any other prints `refused
+/// A line is `pfctl` and its arguments, or `test` and a packet's; an empty one is skipped, any other prints `refused
 /// 40`. A line of pfctl's with `-f -` is followed by its text, up to a line `.` or the end of the script. A change
-/// prints `ok`, one by `-T` the counts behind it, a listing its lines, and a refusal `refused CODE`, of a ruleset
+/// prints `ok`, one by `-T` the counts after it, a listing its lines, and a refusal `refused CODE`, of a ruleset
 /// `refused CAUSE line L`; the script then goes on.
 #[tactic(auto, unfolding(crate::specs::Ctl::printed))]
 pub fn ctl(alloc: Global, script: &[u8]) -> Result<String, AllocError>

@@ -14,7 +14,7 @@ use pf_config::Config;
 use pf_eval::{PacketFault, parse_packet, show_verdict, verdict};
 use std::alloc::{AllocError, Global};
 
-/// Puts the verdict for a packet behind the output, 30 where the words are none.
+/// Appends the verdict for a packet to the output, 30 where the arguments spell no packet.
 #[tactic(auto, unfolding(crate::specs::Ctl::tested))]
 pub fn test_packet(
     alloc: Global,
@@ -36,7 +36,7 @@ pub fn test_packet(
     }
 }
 
-/// Does a line of pfctl's words, unless a ruleset follows it.
+/// Runs a line of pfctl's arguments, unless a ruleset follows it.
 fn run_pfctl<'a>(
     alloc: Global,
     config: &mut Config,
@@ -59,7 +59,7 @@ fn run_pfctl<'a>(
     }))
 }
 
-/// Does a line with words.
+/// Runs a line with these arguments.
 fn run_line<'a>(
     alloc: Global,
     config: &mut Config,
@@ -90,7 +90,7 @@ fn run_line<'a>(
     }
 }
 
-/// Does a line: one of a ruleset, or one with words. Answers what waits for its text then.
+/// Runs a line: one of a ruleset, or one with arguments. Returns the line that waits for its text then.
 pub(crate) fn step<'a>(
     alloc: Global,
     config: &mut Config,

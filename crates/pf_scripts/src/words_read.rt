@@ -1,9 +1,9 @@
-//! What words give where nothing is changed.
+//! What arguments give where nothing is changed.
 
 use pf_arguments::Command;
 use std::alloc::{AllocError, AllocFailed};
 
-/// What a line of pfctl's words gives where nothing is changed.
+/// What a line of pfctl's arguments gives where nothing is changed.
 #[derive(Drop)]
 pub enum WordsRead {
     /// It asks for this change, which isn't made.
@@ -14,12 +14,12 @@ pub enum WordsRead {
     Output(String),
 }
 
-/// Why words ask for no change.
+/// Why arguments ask for no change.
 #[derive(Clone, Copy, PartialEq, Eq)]
 pub enum ChangeFault {
-    /// Memory is wanting.
+    /// Out of memory.
     Memory,
-    /// The number of the refusal: 40 of the words, or where they ask for no change, 24 of a path, 1 to 3 of an address,
-    /// 41 of a command that is too long.
+    /// The number of the refusal: 40 of the arguments, or where they ask for no change, 24 of a path, 1 to 3 of an
+    /// address, 41 of a command that is too long.
     Refused(u8),
 }

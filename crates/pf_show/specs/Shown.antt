@@ -1,4 +1,4 @@
--- How a ruleset is shown: a line for each part, its words between single blanks.
+-- How a ruleset is shown: a line for each part, its tokens between single blanks.
 use Rattle.std.specs.Prelude.{ℕ, Bool, true, false, List, [], ◌∷◌, ◌++◌, Option, Some, None, codes, decimal}
 use Rattle.std.specs.Prelude.{map, if◌then◌else◌}
 use Rattle.pf_addr.specs.Shown.{shown_addr, shown_prefix}
@@ -28,7 +28,7 @@ use Rattle.pf_rules.specs.Names.{Name, begins_below}
 use Rattle.pf_rules.specs.Rulesets.{RulesetValue, TableValue}
 use Rattle.pf_rules.specs.declared.ruleset.TableEntry.{TableEntry}
 
--- the bytes of a line that stand together, without a blank between them
+-- a token of a line: its bytes, without a blank between them
 abbrev pub Part : Type 0
 Part = List ℕ
 
@@ -110,7 +110,7 @@ abbrev pub port_parts : Option PortTest → List Part
 port_parts None = []
 port_parts (Some test) = codes "port" ∷ test_parts test
 
--- the word from or to, the host, and the port, if there is a test of it
+-- the keyword from or to, the host, and the port, if there is a test of it
 abbrev pub end_parts : List ℕ → Host → Option PortTest → List Part
 end_parts word h port = word ∷ (host_parts h ++ port_parts port)
 
@@ -189,7 +189,7 @@ slashed [] = []
 slashed (name ∷ []) = name
 slashed (name ∷ other ∷ names) = name ++ 47 ∷ slashed (other ∷ names)
 
--- behind `/*` stand the anchors directly attached
+-- `/*` stands for the anchors directly attached
 abbrev pub children_text : Bool → List ℕ
 children_text true = codes "/*"
 children_text false = []
@@ -273,12 +273,12 @@ abbrev pub entries_parts : Option (List TableEntry) → List Part
 entries_parts None = []
 entries_parts (Some entries) = codes "{" ∷ (map entry_part entries ++ codes "}" ∷ [])
 
--- the word, if it is said
+-- the keyword, if it is given
 abbrev pub word_parts : Bool → List ℕ → List Part
 word_parts true word = word ∷ []
 word_parts false word = []
 
--- a table: its name, persist and const where they are said, and its entries where they are listed
+-- a table: its name, persist and const where they are given, and its entries where they are listed
 unfoldable pub table_parts : TableValue → List Part
 table_parts t = codes "table" ∷ table_sign t.name ∷ (word_parts t.persist (codes "persist") ++
     (word_parts t.is_const (codes "const") ++ entries_parts t.entries))

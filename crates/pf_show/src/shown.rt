@@ -1,4 +1,4 @@
-//! A ruleset as text: a line for each part, its words between single blanks.
+//! A ruleset as text: a line for each part, its tokens between single blanks.
 
 ghost use Rattle.std.specs.Prelude.{◌≡◌, Some, IfOk, map, string_bytes};
 ghost use Rattle.pf_rules.specs.Rulesets.{ruleset_of};
@@ -51,7 +51,7 @@ impl fmt::Display for DirectionPart {
     }
 }
 
-/// `quick` behind a blank, if it is said.
+/// `quick` behind a blank, if it is given.
 #[derive(Clone, Copy)]
 pub(crate) struct QuickPart(pub(crate) bool);
 
@@ -67,7 +67,7 @@ impl fmt::Display for QuickPart {
     }
 }
 
-/// An interface behind its word, if there is one.
+/// An interface after its keyword, if there is one.
 #[derive(Clone, Copy)]
 struct InterfaceParts<'a>(&'a Option<Interface>);
 
@@ -99,7 +99,7 @@ impl fmt::Display for FamilyPart {
     }
 }
 
-/// The number of a protocol behind its word, if there is one.
+/// The number of a protocol after its keyword, if there is one.
 #[derive(Clone, Copy)]
 struct ProtocolParts(Option<u8>);
 
@@ -165,7 +165,7 @@ impl fmt::Display for TestParts {
     }
 }
 
-/// A test on ports behind its word, if there is one.
+/// A test on ports after its keyword, if there is one.
 #[derive(Clone, Copy)]
 struct PortParts(Option<PortTest>);
 
@@ -201,7 +201,7 @@ fn is_any(end: End<'_>) -> bool
     }
 }
 
-/// One end of a rule behind its word.
+/// One end of a rule after its keyword.
 #[derive(Clone, Copy)]
 struct SourceParts<'a>(End<'a>);
 
@@ -217,7 +217,7 @@ impl fmt::Display for SourceParts<'_> {
     }
 }
 
-/// The other end of a rule behind its word.
+/// The other end of a rule after its keyword.
 #[derive(Clone, Copy)]
 struct DestinationParts<'a>(End<'a>);
 
@@ -272,7 +272,7 @@ impl fmt::Display for EndsParts<'_> {
     }
 }
 
-/// The number of a type of ICMP behind its word, if there is one.
+/// The number of a type of ICMP after its keyword, if there is one.
 #[derive(Clone, Copy)]
 struct TypeParts(Option<u8>);
 
@@ -318,7 +318,7 @@ impl fmt::Display for ConditionTexts<'_> {
     }
 }
 
-/// The conditions that stand from the interface to the type of ICMP.
+/// The conditions from the interface to the type of ICMP.
 #[derive(Clone, Copy)]
 pub(crate) struct ConditionParts<'a>(pub(crate) &'a Conditions);
 
@@ -376,7 +376,7 @@ impl fmt::Display for FlagsText {
     }
 }
 
-/// What is asked of the flags behind its word: always of a rule that passes, else where something is asked.
+/// What is tested of the flags, after its keyword: always for a rule that passes, else where something is tested.
 #[derive(Clone, Copy)]
 pub(crate) struct FlagsParts {
     pub(crate) action: Action,
@@ -398,7 +398,7 @@ impl fmt::Display for FlagsParts {
     }
 }
 
-/// Whether a state would be kept, said of a rule that passes.
+/// Whether a state would be kept, shown for a rule that passes.
 #[derive(Clone, Copy)]
 struct StateParts {
     action: Action,

@@ -58,7 +58,7 @@ impl fmt::Display for EntriesParts<'_> {
     }
 }
 
-/// A word behind a blank, if it is said.
+/// A keyword after a blank, if it is given.
 #[derive(Clone, Copy)]
 struct WordPart<'a> {
     said: bool,

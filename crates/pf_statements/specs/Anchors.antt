@@ -1,4 +1,4 @@
--- What an anchor rule says up to its block, production by production (pf.conf(5), ANCHORS).
+-- An anchor rule up to its block, production by production (pf.conf(5), ANCHORS).
 use Rattle.std.specs.Prelude.{Bool, List, Option, Some, None, codes, if◌then◌else◌}
 use Rattle.pf_rules.specs.declared.profile.Profile.{Profile}
 use Rattle.pf_tokens.specs.Tokens.{Token}

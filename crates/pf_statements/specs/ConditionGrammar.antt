@@ -1,5 +1,5 @@
--- The grammar of what a rule says of packets, production by production (pf.conf(5), GRAMMAR): which tokens spell which
--- value. It knows nothing of how a ruleset is read.
+-- The grammar of a rule's conditions on packets, production by production (pf.conf(5), GRAMMAR): which tokens spell
+-- which value. It doesn't depend on how a ruleset is read.
 use Rattle.std.specs.Prelude.{◌≡◌, ℕ, ◌+◌, Bool, true, false, List, [], ◌∷◌, ◌++◌, Option, Some}
 use Rattle.std.specs.Prelude.{None, Ok, max, codes}
 use Rattle.pf_addr.specs.Blocks.{Block, Span, span_of}
@@ -33,7 +33,7 @@ use Rattle.pf_rules.specs.Words.{is_reserved, is_interface_name, is_table_name, 
 use Rattle.pf_rules.specs.Words.{flags_of, no_flags, is_within}
 use Rattle.pf_statements.specs.Conditions.{one_port, two_ports, lone_test, Ends, any_end, any_host, CommonText}
 
--- a word that stands for itself
+-- a keyword, which spells itself
 abbrev pub key : List ℕ → List Token
 key word = Word word ∷ []
 
@@ -161,7 +161,7 @@ pub data IsFlags : List Token → FlagTest → Type 0 where
 pub data IsType : List Token → WrittenType → Type 0 where
   TypeWord : (word : List ℕ) → IsType (key word) (record { number = icmp_type_of word })
 
--- TYPE | list(TYPE); a type that stands alone isn't a reserved word
+-- TYPE | list(TYPE); a type without braces isn't a reserved word
 pub data IsTypes (profile : Profile) : List Token → Elements WrittenType → Type 0 where
   TypeAlone : (word : List ℕ) → is_reserved profile word ≡ false →
       IsTypes profile (key word) (record { items = record { number = icmp_type_of word } ∷ []; deepest = 0 })

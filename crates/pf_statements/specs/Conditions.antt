@@ -1,4 +1,4 @@
--- What a rule says of packets, production by production (pf.conf(5), GRAMMAR).
+-- A rule's conditions on packets, production by production (pf.conf(5), GRAMMAR).
 use Rattle.std.specs.Prelude.{ℕ, zero, suc, ◌&&◌, ◌==◌, Bool, true, false, List, [], ◌∷◌, drop, length}
 use Rattle.std.specs.Prelude.{Option, Some, None, is_some, not, codes, if◌then◌else◌}
 use Rattle.std.specs.List.{list_any}
@@ -142,7 +142,7 @@ host_at profile ts =
 
 -- ---- ports
 
--- the two parts of a word with exactly one colon, and something on both sides
+-- the two parts of a token with exactly one colon, and something on both sides
 abbrev pub colon_parts : (List ℕ × Option (List ℕ)) → Option (List ℕ × List ℕ)
 colon_parts ([], more) = None
 colon_parts (b ∷ bytes, None) = None
@@ -161,12 +161,12 @@ abbrev pub one_port : (ℕ → PortTest) → Option ℕ → Option PortTest
 one_port test None = None
 one_port test (Some a) = Some (test a)
 
--- a word that stands alone: a range where it has a colon, else a port
+-- a token alone: a range where it has a colon, else a port
 abbrev pub lone_word : List ℕ → Option (List ℕ × List ℕ) → Option PortTest
 lone_word word None = one_port Equal (port_of word)
 lone_word word (Some (a, b)) = two_ports FromTo (port_of a) (port_of b)
 
--- the test that a word alone spells, none where a port in it is neither number nor name
+-- the test that a token alone spells, none where a port in it is neither number nor name
 unfoldable pub lone_test : List ℕ → Option PortTest
 lone_test word = lone_word word (colon_parts (cut_at 58 word))
 
@@ -220,12 +220,12 @@ ports_at profile ts = behind_word (codes "port") (some_at (port_at profile)) ts
 
 -- ---- the two ends
 
--- one end, source or destination, as it is written: its hosts, and its ports where they are said
+-- one end, source or destination, as it is written: its hosts, and its ports where they are given
 pub record Ends : Type 0 where
   pub hosts : Elements Host
   pub ports : Option (Elements WrittenPort)
 
--- any host, said in no list
+-- any host, written in no list
 abbrev pub any_host : Elements Host
 any_host = record { items = host.Any ∷ []; deepest = 0 }
 
@@ -283,7 +283,7 @@ flags_at ts = if begins (codes "any") ts then Some (flags.Any, drop 1 ts) else (
 unfoldable pub type_at : Profile → List Token → Read WrittenType
 type_at profile ts = word_at ts >>= λ word. Some (record { number = icmp_type_of word.0 }, word.1)
 
--- a type that stands alone isn't a reserved word
+-- a type without braces isn't a reserved word
 unfoldable pub types_at : Profile → List Token → Read (Elements WrittenType)
 types_at profile ts =
     if begins_symbol mark.Open ts then some_at (type_at profile) ts
@@ -323,7 +323,7 @@ common_at profile ts = do
     ends.1,
   )
 
--- all that a rule or an anchor rule says of the packets that it matches
+-- all conditions of a rule or an anchor rule on the packets that it matches
 pub record ConditionsText : Type 0 where
   pub direction : Option Direction
   pub common : CommonText

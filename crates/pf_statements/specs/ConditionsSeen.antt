@@ -26,7 +26,7 @@ common_of c = record {
   destination = ends_of c.destination;
 }
 
--- the same of all that a rule or an anchor rule says of packets
+-- the same of all conditions of a rule or an anchor rule on packets
 abbrev pub conditions_of : WrittenConditions → ConditionsText
 conditions_of c = record {
   direction = c.direction;

@@ -32,7 +32,7 @@ use Rattle.pf_rules.specs.declared.ruleset.TableEntry.{TableEntry}
 use Rattle.pf_addr.specs.Blocks.{Block}
 use Rattle.pf_tokens.specs.declared.symbol.Symbol.TheVariants as mark
 
--- ---- the words at the front of a rule
+-- ---- the keywords at the front of a rule
 
 -- "drop" | "return"
 pub data IsPolicy : List Token → Policy → Type 0 where
@@ -64,7 +64,7 @@ pub data IsKeep : List ℕ → Bool → Type 0 where
   NoWord : IsKeep (codes "no") false
   KeepWord : IsKeep (codes "keep") true
 
--- {option}, each once at most, in any order, from the options that are said before to all that are said
+-- {option}, each once at most, in any order, from the options that are given before to all that are given
 -- option = "flags" flags | "no" "state" | "keep" "state" | "icmp-type" types, the last in profile Two alone
 pub data IsOptions (profile : Profile) : Options → List Token → Options → Type 0 where
   NoOption : (said : Options) → IsOptions profile said [] said
@@ -112,7 +112,7 @@ pub data IsTarget (profile : Profile) : List Token → Target → Type 0 where
   TargetString : (text : List ℕ) (target : Target) → target_of text ≡ Some target →
       IsTarget profile (Quoted text ∷ []) target
 
--- anchor = "anchor" ANAME [way] ["quick"] common [flags], behind the first word
+-- anchor = "anchor" ANAME [way] ["quick"] common [flags], after the first keyword
 pub record IsAnchor (profile : Profile) (tokens : List Token) (a : AnchorText) : Type 0 where
   pub target : List Token
   pub direction : List Token
@@ -187,7 +187,8 @@ pub data AreEntries : List Token → Elements TableEntry → Type 0 where
       AreEntries (sign mark.Open ++ (within ++ sign mark.Close)) no_entries
   SomeEntries : (ts : List Token) (list : Elements TableEntry) → IsList IsEntry ts list → AreEntries ts list
 
--- {"persist" | "const" | "counters" | "{" "}" | list(["!"] prefix)}, the entries once at most, from what is said before
+-- {"persist" | "const" | "counters" | "{" "}" | list(["!"] prefix)}, the entries once at most, from what is given
+-- before
 pub data AreTableOptions : TableText → List Token → TableText → Type 0 where
   NoTableOption : (said : TableText) → AreTableOptions said [] said
   PersistOption : (said all : TableText) (us : List Token) →

@@ -5,7 +5,7 @@ use Rattle.pf_tokens.specs.declared.symbol.Symbol.TheVariants.{Close}
 use Rattle.pf_tokens.specs.Tokens.{Token, is_newline}
 use Rattle.pf_tokens.specs.Productions.{Read, ◌>>=◌, is_end, is_symbol}
 
--- {option} to the end of the statement, each beside what is said before it; no more than n are read
+-- {option} to the end of the statement, each added to the options before it; no more than n are read
 unfoldable pub to_end : {X : Type 0} → (X → List Token → Read X) → ℕ → X → List Token → Option X
 to_end option zero x ts = None
 to_end option (suc n) x ts = if is_end ts then Some x else (option x ts >>= λ r. to_end option n r.0 r.1)
@@ -15,7 +15,7 @@ abbrev pub is_over : List Token → Bool
 is_over [] = true
 is_over (t ∷ ts) = is_newline t || is_symbol Close t
 
--- {option} up to where the rule is over, each beside what is said before it; no more than n are read
+-- {option} up to where the rule is over, each added to the options before it; no more than n are read
 unfoldable pub until_over : {X : Type 0} → (X → List Token → Read X) → ℕ → X → List Token → Read X
 until_over option zero x ts = None
 until_over option (suc n) x ts = if is_over ts then Some (x, ts)

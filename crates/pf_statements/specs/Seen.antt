@@ -68,7 +68,7 @@ statement_of (statements.Rules text) = Rules (text_of text)
 statement_of (statements.Anchors text) = Anchors (anchor_text_of text)
 statement_of (statements.Blocks heading items) = AnchorBlocks (heading_text_of heading) (item_texts_of items.items)
 
--- the whole statement spells the value, or doesn't; unless memory ran out
+-- the whole statement spells the value, or doesn't; unless out of memory
 abbrev pub Spells : {X Y : Type 0} → (X → Y) → Result X Stop → Option Y → Type 0
 Spells view (Ok x) read = read ≡ Some (view x)
 Spells view (Err stops.Memory) read = Unit {0}

@@ -1,4 +1,4 @@
--- What a statement says, production by production (pf.conf(5), GRAMMAR).
+-- A statement, production by production (pf.conf(5), GRAMMAR).
 use Rattle.std.specs.Prelude.{ℕ, zero, suc, ◌&&◌, Bool, true, false, List, [], ◌∷◌, drop, length}
 use Rattle.std.specs.Prelude.{Option, Some, None, is_some, codes, if◌then◌else◌}
 use Rattle.pf_rules.specs.declared.profile.Profile.{Profile}
@@ -23,29 +23,29 @@ use Rattle.pf_statements.specs.Tables.{TableText, table_of}
 
 -- ---- options
 
--- the options of a rule that are read: flags, state and types of ICMP, each where it was said
+-- the options of a rule that are read: flags, state and types of ICMP, each where it was given
 pub record Options : Type 0 where
   pub flags : Option FlagTest
   pub state : Option Bool
   pub types : Option (Elements WrittenType)
 
--- no option was said
+-- no option was given
 abbrev pub no_options : Options
 no_options = record { flags = None; state = None; types = None }
 
--- flags, said once
+-- flags, given once
 unfoldable pub flags_option : Options → List Token → Read Options
 flags_option o ts = if is_some o.flags then None else (flags_at ts >>= λ test. Some (
   record o { flags = Some test.0 },
   test.1,
 ))
 
--- ("no" | "keep") "state", said once
+-- ("no" | "keep") "state", given once
 unfoldable pub state_option : Options → Bool → List Token → Read Options
 state_option o keep ts = if is_some o.state then None
     else if_so (begins (codes "state") ts) (record o { state = Some keep }, drop 1 ts)
 
--- "icmp-type" types, said once
+-- "icmp-type" types, given once
 unfoldable pub types_option : Profile → Options → List Token → Read Options
 types_option profile o ts = if is_some o.types then None
     else (types_at profile ts >>= λ types. Some (record o { types = Some types.0 }, types.1))
@@ -213,7 +213,7 @@ skip_set profile ts =
     if begins (codes "on") ts then (all_read (some_at (interface_name_at profile) (drop 1 ts)) >>= λ names.
     Some (SetSkip names)) else None
 
--- set = "set" "block-policy" .. | "set" "skip" "on" .., behind the first word
+-- set = "set" "block-policy" .. | "set" "skip" "on" .., after the first keyword
 unfoldable pub setting_of : Profile → List Token → Option Setting
 setting_of profile ts =
     if begins (codes "block-policy") ts then policy_set (policy_at (drop 1 ts))

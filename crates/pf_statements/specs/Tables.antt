@@ -1,4 +1,4 @@
--- What a table statement says, production by production (pf.conf(5), TABLES).
+-- A table statement, production by production (pf.conf(5), TABLES).
 use Rattle.std.specs.Prelude.{suc, ◌&&◌, Bool, true, false, List, [], drop, length, Option, Some, None}
 use Rattle.std.specs.Prelude.{is_some, not, codes, if◌then◌else◌}
 use Rattle.pf_rules.specs.declared.profile.Profile.{Profile}
@@ -18,7 +18,7 @@ pub record TableText : Type 0 where
   pub is_const : Bool
   pub entries : Option (Elements TableEntry)
 
--- a table of this name, of which nothing more was said
+-- a table of this name, of which nothing more was given
 abbrev pub new_table : Name → TableText
 new_table name = record { name = name; persist = false; is_const = false; entries = None }
 
@@ -61,8 +61,8 @@ table_option profile t ts =
     else (if begins (codes "counters") ts then Some (t, drop 1 ts)
     else listed_option profile t ts))
 
--- table = "table" "<" TNAME ">" {"persist" | "const" | "counters" | "{" "}" | list(["!"] prefix)}, behind the first
--- word
+-- table = "table" "<" TNAME ">" {"persist" | "const" | "counters" | "{" "}" | list(["!"] prefix)}, after the first
+-- keyword
 -- Example: table <t> const { 10/8, !10.1/16 }.
 unfoldable pub table_of : Profile → List Token → Option TableText
 table_of profile ts = table_at profile ts >>= λ name. to_end (table_option profile) (suc (length name.1))

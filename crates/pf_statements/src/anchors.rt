@@ -16,7 +16,7 @@ use pf_rules::{FlagTest, Profile, Target};
 use pf_tokens::{Parser, Stop};
 use std::alloc::Global;
 
-/// The flags behind their word, if it comes next.
+/// The flags after their keyword, if it comes next.
 #[tactic(auto, unfolding(pf_tokens::specs::Productions::option_at, crate::specs::Anchors::said_flags))]
 fn read_said_flags<'t: 's, 's>(parser: &mut Parser<'t, 's>) -> Result<Option<FlagTest>, Stop>
     ensures read { Parses (λ flags. flags) result (left parser.new) (said_flags (left parser.old)) }
@@ -31,7 +31,7 @@ fn read_said_flags<'t: 's, 's>(parser: &mut Parser<'t, 's>) -> Result<Option<Fla
     }
 }
 
-/// The name, if it is said.
+/// The name, if it is given.
 #[tactic(auto, unfolding(crate::specs::Anchors::optional_target_at))]
 fn read_optional_target<'t: 's, 's>(
     alloc: Global,
@@ -49,7 +49,7 @@ fn read_optional_target<'t: 's, 's>(
     Ok(Some(target))
 }
 
-/// An anchor rule behind its first word, up to its block.
+/// An anchor rule after its first keyword, up to its block.
 #[tactic(auto, unfolding(crate::specs::Anchors::heading_at))]
 pub(crate) fn read_heading<'t: 's, 's>(
     alloc: Global,

@@ -1,4 +1,4 @@
-//! Lists behind a word that introduces them, and lists of one element.
+//! Lists after a keyword that introduces them, and lists of one element.
 
 ghost use Rattle.std.specs.Prelude.{◌≡◌, ◌∷◌, [], IfOk};
 ghost use Rattle.pf_tokens.specs.Lists.{some_at, elements_of};
@@ -10,7 +10,7 @@ use pf_rules::Profile;
 use pf_tokens::{Element, Listed, Parser, Stop, some};
 use std::alloc::{AllocError, Global};
 
-/// The list behind the word, if the word comes next.
+/// The list after the keyword, if the keyword comes next.
 #[tactic(auto, unfolding(pf_tokens::specs::Productions::option_at))]
 pub(crate) fn read_behind<'t: 's, 's, E: Element>(
     alloc: Global,

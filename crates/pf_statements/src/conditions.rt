@@ -1,4 +1,4 @@
-//! What a rule says of packets as it is written, before its lists are expanded.
+//! A rule's conditions on packets as they are written, before its lists are expanded.
 
 use pf_addr::Family;
 use pf_rules::{Direction, FlagTest, Host, Interface, PortTest};
@@ -45,12 +45,12 @@ pub struct End {
     pub ports: Option<Listed<WrittenPort>>,
 }
 
-/// What stands from `on` to the hosts, in rules and in anchor rules alike.
+/// What is written from `on` to the hosts, in rules and in anchor rules alike.
 #[derive(Drop)]
 pub struct Common {
     /// The interfaces, if they are written.
     pub interfaces: Option<Listed<Interface>>,
-    /// The family, if it is said.
+    /// The family, if it is given.
     pub family: Option<Family>,
     /// The protocols, if they are written.
     pub protocols: Option<Listed<Protocol>>,
@@ -60,14 +60,14 @@ pub struct Common {
     pub destination: End,
 }
 
-/// All that a rule or an anchor rule says of the packets that it matches.
+/// All conditions of a rule or an anchor rule on the packets that it matches.
 #[derive(Drop)]
 pub struct WrittenConditions {
-    /// The direction, if it is said.
+    /// The direction, if it is given.
     pub direction: Option<Direction>,
     /// Interfaces, family, protocols and hosts.
     pub common: Common,
-    /// What is asked of a TCP packet's flags, if it is said.
+    /// The test of a TCP packet's flags, if it is given.
     pub flags: Option<FlagTest>,
     /// The types of ICMP, if they are written.
     pub types: Option<Listed<WrittenType>>,

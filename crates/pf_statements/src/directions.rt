@@ -7,7 +7,7 @@ ghost use Rattle.pf_statements.specs.Directions.{direction_at};
 use pf_rules::Direction;
 use pf_tokens::Parser;
 
-/// The direction, if it is said.
+/// The direction, if it is given.
 #[tactic(auto, unfolding(pf_tokens::specs::Productions::option_at, crate::specs::Directions::direction_at))]
 pub(crate) fn read_direction<'t: 's, 's>(parser: &mut Parser<'t, 's>) -> Option<Direction>
     ensures read { (result, left parser.new) ≡ direction_at (left parser.old) }

@@ -54,7 +54,7 @@ fn read_part<'t: 's, 's>(
     Ok(End { hosts, ports })
 }
 
-/// The end that the word introduces; any where it doesn't come next.
+/// The end that the keyword introduces; any where the keyword doesn't come next.
 #[tactic(auto, unfolding(pf_tokens::specs::Productions::option_at, crate::specs::Conditions::end_behind))]
 fn read_end<'t: 's, 's>(
     alloc: Global,

@@ -84,7 +84,7 @@ fn read_addresses<'t: 's, 's>(parser: &mut Parser<'t, 's>) -> Option<Addresses>
     Some(Addresses::Prefix(prefix))
 }
 
-/// The name of a table that the word is, none where it is none in the profile. A growth that is refused is the error.
+/// The table name that the token spells, none where it is no table name in the profile. The error is out of memory.
 #[tactic(auto, using(pf_rules::proofs::Reserved::table_names_alike))]
 fn table_name(alloc: Global, profile: Profile, word: &[u8]) -> Result<Option<TableName>, AllocError>
     ensures { IfOk result (λ name. name ≡ name_if (is_table_name profile) word.now) }

@@ -9,7 +9,7 @@ use pf_rules::{Interface, InterfaceName, Profile, is_reserved};
 use pf_tokens::{Element, Parser, Stop, Symbol};
 use std::alloc::Global;
 
-/// The name of an interface or of a group of them: a word or a string.
+/// The name of an interface or of a group of them: a word token or a string.
 #[tactic(auto, unfolding(pf_rules::specs::Words::is_interface_name, crate::specs::Conditions::interface_name_at))]
 fn read_interface_name<'t: 's, 's>(
     profile: Profile,

@@ -5,7 +5,8 @@
 //! - [`read_statement`] reads a statement at a parser of `pf_tokens`: a [`Statement`], which sets something, or is a
 //!   [`WrittenTable`], a [`WrittenRule`], a [`WrittenAnchor`], or a [`WrittenHeading`] with a block of
 //!   [`WrittenItem`]s.
-//! - [`WrittenConditions`]: what a rule or an anchor rule says of packets, with [`Common`], [`End`], [`Protocol`],
+//! - [`WrittenConditions`]: the conditions of a rule or an anchor rule on packets, with [`Common`], [`End`],
+//!   [`Protocol`],
 //!   [`WrittenPort`] and [`WrittenType`].
 //! - [`read_common`], [`read_flags`] and [`read_types`] read its parts; [`read_prefix`] and [`read_table`], prefixes
 //!   and names of tables; [`read_target`], the names of an anchor. [`InterfaceNameProduction`] may be in a list.

@@ -14,7 +14,7 @@ use pf_rules::Profile;
 use pf_tokens::{Lexeme, Parser, Stop, Symbol};
 use std::alloc::Global;
 
-/// The flags, if they weren't said before.
+/// The flags, if they weren't given before.
 #[tactic(auto, unfolding(crate::specs::Statements::flags_option))]
 fn flags_option<'t: 's, 's>(
     options: RuleOptions,
@@ -41,7 +41,7 @@ fn flags_option<'t: 's, 's>(
     })
 }
 
-/// Whether state is kept, if that wasn't said before.
+/// Whether state is kept, if that wasn't given before.
 #[tactic(auto, unfolding(pf_tokens::specs::Productions::option_at, crate::specs::Statements::state_option))]
 fn state_option<'t: 's, 's>(
     options: RuleOptions,
@@ -67,7 +67,7 @@ fn state_option<'t: 's, 's>(
     })
 }
 
-/// The types of ICMP, if they weren't said before.
+/// The types of ICMP, if they weren't given before.
 #[tactic(auto, unfolding(crate::specs::Statements::types_option))]
 fn types_option<'t: 's, 's>(
     alloc: Global,

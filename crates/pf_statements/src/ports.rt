@@ -31,7 +31,7 @@ fn compared(comparison: Comparison, port: u16) -> PortTest
     }
 }
 
-/// The port that the word names.
+/// The test for the port that the token names.
 fn equal(word: &[u8]) -> Option<PortTest>
     ensures { result ≡ one_port tests.Equal (port_of word.now) }
 {
@@ -66,7 +66,7 @@ fn outside(first: &[u8], last: &[u8]) -> Option<PortTest>
     Some(PortTest::Outside(first, last))
 }
 
-/// The two parts of a word with exactly one colon, and something on both sides.
+/// The two parts of a token with exactly one colon, and something on both sides.
 fn colon_parts(word: &[u8]) -> Option<(&[u8], &[u8])>
     ensures { option_map (λ parts. (parts.0.now, parts.1.now)) result ≡ colon_parts (cut_at 58 word.now) }
 {
@@ -78,7 +78,7 @@ fn colon_parts(word: &[u8]) -> Option<(&[u8], &[u8])>
     Some((first, last))
 }
 
-/// The test of a word that stands alone: a range where it has two parts, else a port.
+/// The test that a token alone spells: a range where it has two parts, else a port.
 #[tactic(auto, unfolding(crate::specs::Conditions::lone_test))]
 fn lone_test(word: &[u8]) -> Option<PortTest>
     ensures { result ≡ lone_test word.now }
@@ -89,7 +89,7 @@ fn lone_test(word: &[u8]) -> Option<PortTest>
     }
 }
 
-/// A word that isn't reserved.
+/// A word token that isn't reserved.
 #[tactic(auto, unfolding(crate::specs::Conditions::port_word_at))]
 pub(crate) fn read_port_word<'t: 's, 's>(
     profile: Profile,
@@ -144,7 +144,7 @@ fn read_compared<'t: 's, 's>(
     Some(WrittenPort { test })
 }
 
-/// What is behind the first word of a test without an operator before it.
+/// What follows the first token of a test without an operator before it.
 #[tactic(auto, unfolding(pf_tokens::specs::Productions::symbol_at, crate::specs::Conditions::port_behind))]
 fn read_port_rest<'t: 's, 's>(
     profile: Profile,

@@ -11,7 +11,7 @@ use pf_rules::{Profile, parse_protocol};
 use pf_tokens::{Element, Parser, Stop};
 use std::alloc::Global;
 
-/// The family, if it is said.
+/// The family, if it is given.
 #[tactic(auto, unfolding(pf_tokens::specs::Productions::option_at, crate::specs::Conditions::family_at))]
 pub(crate) fn read_family<'t: 's, 's>(parser: &mut Parser<'t, 's>) -> Option<Family>
     ensures read { (result, left parser.new) ≡ family_at (left parser.old) }

@@ -19,7 +19,7 @@ use pf_rules::{Policy, Profile};
 use pf_tokens::{Parser, Stop, some};
 use std::alloc::Global;
 
-/// What a block does, if it is said.
+/// What a block does, if it is given.
 #[tactic(auto, unfolding(pf_tokens::specs::Productions::option_at, crate::specs::Statements::policy_at))]
 fn read_policy<'t: 's, 's>(parser: &mut Parser<'t, 's>) -> Option<Policy>
     ensures read { (result, left parser.new) ≡ policy_at (left parser.old) }
@@ -50,7 +50,7 @@ fn read_action<'t: 's, 's>(parser: &mut Parser<'t, 's>) -> Option<WrittenAction>
     None
 }
 
-/// Whether the rule may say so of its state: a block rule keeps none.
+/// Whether the rule may have this option on its state: a block rule keeps none.
 fn may_keep(action: WrittenAction, state: Option<bool>) -> bool
     ensures { result ≡ may_keep action state }
 {
@@ -119,7 +119,7 @@ fn read_skip<'t: 's, 's>(
     Ok(Setting::Skip(names))
 }
 
-/// What `set` says, behind that word.
+/// The setting of a `set` statement, after that keyword.
 #[tactic(auto, unfolding(pf_tokens::specs::Productions::option_at, crate::specs::Statements::setting_of))]
 fn read_setting<'t: 's, 's>(
     alloc: Global,

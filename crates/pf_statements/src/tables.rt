@@ -173,7 +173,7 @@ fn read_options<'t: 's, 's>(
     Ok(table)
 }
 
-/// A table statement behind its first word.
+/// A table statement after its first keyword.
 #[tactic(auto, unfolding(crate::specs::Tables::table_of))]
 pub(crate) fn read_table_text<'t: 's, 's>(
     alloc: Global,

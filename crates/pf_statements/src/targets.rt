@@ -56,7 +56,7 @@ fn target_of(alloc: Global, text: &[u8]) -> Result<Option<Target>, AllocError>
     Ok(target_with(names, false))
 }
 
-/// The text of a string, or of a word that isn't reserved.
+/// The text of a string, or of a word token that isn't reserved.
 fn target_text<'s>(profile: Profile, lexeme: Lexeme<'s>) -> Option<&'s [u8]>
     ensures { option_copied result ≡ target_text profile (token_of lexeme.entry) }
 {
@@ -67,7 +67,7 @@ fn target_text<'s>(profile: Profile, lexeme: Lexeme<'s>) -> Option<&'s [u8]>
     }
 }
 
-/// Whether the next token may be the name of an anchor: a string, or a word that isn't reserved.
+/// Whether the next token may be the name of an anchor: a string, or a word token that isn't reserved.
 pub fn may_begin_target(profile: Profile, parser: &Parser<'_, '_>) -> bool
     ensures { result ≡ starts (may_name profile) (left parser.now) }
 {
@@ -77,8 +77,8 @@ pub fn may_begin_target(profile: Profile, parser: &Parser<'_, '_>) -> bool
     }
 }
 
-/// The anchors that an anchor rule evaluates: 1 to 8 names joined by `/` in a string or a word that isn't reserved,
-/// then possibly `/*` (pf.conf(5), ANCHORS).
+/// The anchors that an anchor rule evaluates: 1 to 8 names joined by `/` in a string or a word token that isn't
+/// reserved, then possibly `/*` (pf.conf(5), ANCHORS).
 #[tactic(auto, unfolding(crate::specs::Targets::target_at))]
 pub fn read_target<'t: 's, 's>(
     alloc: Global,

@@ -14,16 +14,16 @@ use pf_tokens::Listed;
 pub enum WrittenAction {
     /// `pass`.
     Pass,
-    /// `block`, with what it does, if that is said.
+    /// `block`, with what it does, if that is given.
     Block(Option<Policy>),
 }
 
 /// The options behind a rule's hosts.
 #[derive(Drop)]
 pub struct RuleOptions {
-    /// What is asked of a TCP packet's flags, if it is said.
+    /// The test of a TCP packet's flags, if it is given.
     pub flags: Option<FlagTest>,
-    /// Whether a state is kept, if it is said: `keep state` or `no state`.
+    /// Whether a state is kept, if it is given: `keep state` or `no state`.
     pub state: Option<bool>,
     /// The types of ICMP, if they are written.
     pub types: Option<Listed<WrittenType>>,
@@ -34,11 +34,11 @@ pub struct RuleOptions {
 pub struct WrittenRule {
     /// What it does.
     pub action: WrittenAction,
-    /// Whether `quick` is said.
+    /// Whether `quick` is given.
     pub quick: bool,
-    /// What it says of packets.
+    /// Its conditions on packets.
     pub conditions: WrittenConditions,
-    /// Whether a state is kept, if it is said: `keep state` or `no state`.
+    /// Whether a state is kept, if it is given: `keep state` or `no state`.
     pub state: Option<bool>,
 }
 
@@ -47,9 +47,9 @@ pub struct WrittenRule {
 pub struct WrittenAnchor {
     /// The anchors that it evaluates.
     pub target: Target,
-    /// Whether `quick` is said.
+    /// Whether `quick` is given.
     pub quick: bool,
-    /// What it says of packets.
+    /// Its conditions on packets.
     pub conditions: WrittenConditions,
 }
 
@@ -58,9 +58,9 @@ pub struct WrittenAnchor {
 pub struct WrittenHeading {
     /// The anchors that it evaluates, if they are named: the name of a block may be left out.
     pub target: Option<Target>,
-    /// Whether `quick` is said.
+    /// Whether `quick` is given.
     pub quick: bool,
-    /// What it says of packets.
+    /// Its conditions on packets.
     pub conditions: WrittenConditions,
 }
 
@@ -103,15 +103,15 @@ impl WrittenItem {
 pub struct WrittenTable {
     /// The table's name.
     pub name: TableName,
-    /// Whether `persist` is said.
+    /// Whether `persist` is given.
     pub persist: bool,
-    /// Whether `const` is said.
+    /// Whether `const` is given.
     pub is_const: bool,
     /// The entries, if they are listed.
     pub entries: Option<Listed<TableEntry>>,
 }
 
-/// What `set` says.
+/// The setting of a `set` statement.
 #[derive(Drop)]
 pub enum Setting {
     /// `set block-policy`.

@@ -4,7 +4,7 @@ ghost use Rattle.std.specs.Prelude.{◌≡◌};
 ghost use Rattle.pf_tables.specs.Intervals.{is_within};
 ghost use Rattle.pf_tables.specs.inner.Intervals.{meets};
 
-/// The numbers of 32 bits from a first one on: that many as the width says, and one more. Past the greatest number they
+/// The numbers of 32 bits from a first one on: as many as the width, and one more. Past the greatest number they
 /// go on with 0.
 #[derive(Clone, Copy)]
 pub struct Interval {

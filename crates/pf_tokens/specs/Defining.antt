@@ -87,7 +87,7 @@ behind_name profile ds (Some (name, ts)) =
 unfoldable pub definition_at : Profile → List Definition → List Token → Result Definition DefinitionFault
 definition_at profile ds ts = behind_name profile ds (word_at ts)
 
--- the definition was read, or its fault; unless memory ran out
+-- the definition was read, or its fault; unless out of memory
 abbrev pub Defines : Result macros.Macro DefinitionFault → Result Definition DefinitionFault → Type 0
 Defines (Ok made) read = read ≡ Ok (definition_of made)
 Defines (Err faults.Memory) read = Unit {0}

@@ -8,7 +8,7 @@ use Rattle.pf_tokens.specs.Macros.{Definition}
 use Rattle.pf_rules.specs.declared.profile.Profile.{Profile}
 use Rattle.pf_rules.specs.Words.{is_reserved}
 
--- it stands among these
+-- it is among these
 pub data IsAmong {X : Type 0} (x : X) : List X → Type 0 where
   Here : (xs : List X) → IsAmong x (x ∷ xs)
   There : (y : X) (xs : List X) → IsAmong x xs → IsAmong x (y ∷ xs)

@@ -77,6 +77,6 @@ depth_after depth other = depth
 abbrev pub depth_behind : ℕ → List Placed → ℕ
 depth_behind depth ts = fold (λ d (t : Placed). depth_after d t.token) depth ts
 
--- a newline of the text that stands outside braces
+-- a newline of the text that is outside braces
 abbrev pub ends : ℕ → Placed → Bool
 ends depth p = p.written && is_newline p.token && (depth == 0)

@@ -32,7 +32,7 @@ starts test (t ∷ ts) = test t
 abbrev pub accepted_if : (Token → Bool) → List Token → Bool × List Token
 accepted_if test ts = if starts test ts then (true, drop 1 ts) else (false, ts)
 
--- ---- words
+-- ---- keywords
 
 -- the token is a WORD with this text
 abbrev pub is_word : List ℕ → Token → Bool
@@ -43,7 +43,7 @@ is_word word (Mark symbol) = false
 is_word word Newline = false
 is_word word Bad = false
 
--- whether the first token is this word
+-- whether the first token is this keyword
 abbrev pub begins : List ℕ → List Token → Bool
 begins word [] = false
 begins word (t ∷ ts) = is_word word t

@@ -155,7 +155,7 @@ abbrev pub placed : Option Token → ℕ → List Placed → List Placed
 placed None line more = more
 placed (Some token) line more = record { token = token; line = line; written = true } ∷ more
 
--- the tokens behind that many letters, which belong to what stood before
+-- the tokens behind that many letters, which belong to the token before
 abbrev pub tokens_behind : ℕ → List Letter → List Placed
 tokens_behind skip [] = []
 tokens_behind (suc skip) (l ∷ ls) = tokens_behind skip ls

@@ -27,7 +27,7 @@ const TEXT_MAX: usize = 4096;
 /// Why a macro statement defines nothing.
 #[derive(Clone, Copy, PartialEq, Eq)]
 pub enum DefinitionFault {
-    /// Memory ran out.
+    /// Out of memory.
     Memory,
     /// The macro's name is reserved or has other characters than letters, digits and `_`, a string has `$` or `#`
     /// in its text, or the text has more than 4,096 bytes.
@@ -152,7 +152,7 @@ fn collect_items<'t: 's, 's>(
 }
 
 /// The macro that the statement defines (`pf.conf(5)`, MACROS): `WORD "=" item {item}`, each item a word, a string or
-/// a macro, whose values are joined by a blank. The profile says which names are reserved.
+/// a macro, whose values are joined by a blank. The profile defines which names are reserved.
 #[tactic(auto, unfolding(crate::specs::Defining::definition_at, crate::specs::Productions::symbol_at))]
 pub fn definition<'t: 's, 's>(
     alloc: Global,

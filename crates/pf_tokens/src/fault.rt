@@ -1,6 +1,6 @@
 //! Faults found while a statement is read.
 
-/// Why a statement is refused while its tokens are read, before it is asked what it says.
+/// Why a statement is refused while its tokens are read, before it is evaluated.
 #[derive(Clone, Copy, PartialEq, Eq)]
 pub enum ReadingFault {
     /// A byte that begins no token, or a string that isn't closed on its line or holds a byte that no string has.

@@ -60,7 +60,7 @@ impl Lexed<'_> {
     }
 }
 
-/// For each byte whether it may be in a word: a look-up is quicker than ten comparisons.
+/// For each byte whether it may be in a word token: a look-up is quicker than ten comparisons.
 const WORD_BYTES: [bool; 256] = [
     false, false, false, false, false, false, false, false, false, false, false, false, false,
     false, false, false, false, false, false, false, false, false, false, false, false, false,
@@ -83,14 +83,14 @@ const WORD_BYTES: [bool; 256] = [
     false, false, false, false, false, false, false, false, false,
 ];
 
-/// Whether the byte may be in a word.
+/// Whether the byte may be in a word token.
 pub(crate) fn is_word_byte(b: u8) -> bool
     ensures { result ≡ is_word_byte b }
 {
     WORD_BYTES[usize::from(b)]
 }
 
-/// How many bytes the word at the front has.
+/// How many bytes the word token at the front has.
 pub(crate) fn word_len(text: &[u8]) -> usize
     ensures { result ≡ prefix_len is_word_byte text.now }
 {
@@ -111,7 +111,7 @@ pub(crate) fn is_name_byte(b: u8) -> bool
     b.is_ascii_alphanumeric() || b == b'_'
 }
 
-/// Whether the byte may stand between quotes.
+/// Whether the byte may be between quotes.
 fn is_quoted_byte(b: u8) -> bool
     ensures { result ≡ is_quoted_byte b }
 {
@@ -127,7 +127,7 @@ fn name_len(text: &[u8]) -> usize
     text.iter().take_while(|b| is_name_byte(**b)).count()
 }
 
-/// How many bytes at the front may stand between quotes.
+/// How many bytes at the front may be between quotes.
 #[tactic(auto, using(crate::proofs::Lexing::prefix_len_le))]
 fn quoted_len(text: &[u8]) -> usize
     ensures value { result ≡ prefix_len is_quoted_byte text.now }

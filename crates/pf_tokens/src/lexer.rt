@@ -102,7 +102,7 @@ impl<'a> Lexer<'a> {
         })
     }
 
-    /// The word at the front, if one is there, as most tokens do.
+    /// The word token at the front, if there is one; most tokens are words.
     #[tactic(auto, using(crate::proofs::Lexing::word_step, crate::proofs::Lexing::word_within), unfolding(crate::specs::Left::tokens_left))]
     fn word(&mut self) -> Option<Lexed<'a>>
         ensures word { IfSome result (λ t. tokens_left self.old ≡ placed_of t ∷ tokens_left self.new) }
@@ -148,7 +148,7 @@ impl<'a> Lexer<'a> {
         }
     }
 
-    /// The line of the word which comes next, where it is at the front, by its first byte.
+    /// The line of the word token which comes next, where it is at the front, by its first byte.
     #[tactic(auto, using(crate::proofs::Lexing::word_on), unfolding(crate::specs::Left::tokens_left))]
     pub(crate) fn word_line(&mut self) -> Option<u64>
         ensures left { tokens_left self.new ≡ tokens_left self.old }

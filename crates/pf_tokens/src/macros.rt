@@ -11,7 +11,7 @@ use std::collections::BTreeMap;
 /// The macros that are known, in the order of their definitions.
 pub struct Macros {
     all: Vec<Macro>,
-    /// Where the last definition of each name stands.
+    /// The place of the last definition of each name.
     last: BTreeMap<Vec<u8>, usize>,
     ghost found: { IsIndex (map definition_of all.items) last },
     ghost within: { IsWithin (map definition_of all.items) last },

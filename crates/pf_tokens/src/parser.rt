@@ -171,19 +171,19 @@ where
         }
     }
 
-    /// Whether the next token is this word.
+    /// Whether the next token is this keyword.
     #[tactic(auto, using(crate::proofs::Skipping::begins_at_hand, crate::proofs::Skipping::begins_nothing))]
     pub fn begins(&self, word: &[u8]) -> bool
         ensures { result ≡ begins word.now (left self.now) }
     {
-        // A word ends no statement.
+        // A word token ends no statement.
         match self.stream.next {
             Some(token) => is_word(token.lexeme, word),
             None => false,
         }
     }
 
-    /// Goes past this word, if it comes next.
+    /// Consumes this keyword, if it comes next.
     #[inline(always)]
     #[tactic(auto, using(crate::proofs::Skipping::begins_at_hand, crate::proofs::Skipping::begins_nothing), unfolding(crate::specs::Productions::option_at))]
     pub fn accept(&mut self, word: &[u8]) -> bool
@@ -238,7 +238,7 @@ where
         found
     }
 
-    /// A word.
+    /// A word token.
     #[tactic(auto, using(crate::proofs::Skipping::word_nothing, crate::proofs::Skipping::word_none, crate::proofs::Skipping::word_is_text))]
     pub fn word(&mut self) -> Option<&'s [u8]>
         ensures read { Reads (option_copied result) (left self.new) (word_at (left self.old)) }
@@ -317,7 +317,7 @@ where
     }
 }
 
-/// Whether it is this word.
+/// Whether it is this keyword.
 #[inline(always)]
 fn is_word(lexeme: Lexeme<'_>, word: &[u8]) -> bool
     ensures { result ≡ is_word word.now (token_of lexeme.entry) }
@@ -328,7 +328,7 @@ fn is_word(lexeme: Lexeme<'_>, word: &[u8]) -> bool
     }
 }
 
-/// The text of a word.
+/// The text of a word token.
 #[inline(always)]
 fn word_in<'s>(lexeme: Lexeme<'s>) -> Option<&'s [u8]>
     ensures { option_copied result ≡ word_of (token_of lexeme.entry) }

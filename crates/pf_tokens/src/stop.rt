@@ -8,12 +8,12 @@ use std::alloc::{AllocError, AllocFailed};
 /// Why a value that takes memory isn't read.
 #[derive(Clone, Copy, PartialEq, Eq)]
 pub enum Stop {
-    /// Memory ran out.
+    /// Out of memory.
     Memory,
     /// The tokens don't spell it.
     Syntax,
-    /// A list has more elements than a statement may have tokens. It isn't read on, so that no memory is taken for it;
-    /// the statement has a fault while reading, which goes before all else.
+    /// A list has more elements than a statement may have tokens. It isn't read on, so that nothing is allocated for
+    /// it; the statement has a fault while reading, which goes before all else.
     TooMany,
 }
 

@@ -185,7 +185,7 @@ where
     }
 }
 
-/// Whether `=` comes next. Most often a word does.
+/// Whether `=` comes next. Most often a word token does.
 #[tactic(auto, using(crate::proofs::Beginning::equals_one, crate::proofs::Beginning::equals_none, crate::proofs::Beginning::equals_not))]
 fn begins_with_equals(text: Lexer<'_>) -> bool
     ensures { result ≡ begins_with_equals (tokens_left text.entry) }

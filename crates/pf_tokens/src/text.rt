@@ -21,7 +21,7 @@ pub struct Text<'a> {
     steps: Vec<usize>,
 }
 
-/// Whether a backslash stands directly before a newline.
+/// Whether a backslash is directly before a newline.
 fn continues(b: u8, others: &[u8]) -> bool
     ensures { result ≡ continues b others.now }
 {

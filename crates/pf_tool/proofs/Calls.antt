@@ -78,7 +78,7 @@ pub call_refused : (table : List Explanation) (s : Status) (words : List Text) (
 unfolding call_of
 call_refused table s words e input old new h k none failed = refused_by table s (fault_of pfx_app words) _ e input old new h k none failed
 
--- memory ran out
+-- out of memory
 pub memory_over : (table : List Explanation) (s : Status) (call : Option CallValue) (input old new : Option (List ℕ)) →
     (s ≡ status.Failed) ⊎ ((s ≡ status.Memory) × Appends old new (line (codes "memory"))) → (s ≡ status.Failed → MemoryFront old new) → Ran table s call input old new
 memory_over table s None input old new h f = elim h [

@@ -118,12 +118,12 @@ checked_texts place texts = record {
 unfoldable pub packet_texts : List ℕ → Option (List Text)
 packet_texts bytes = words_if (map (λ l. l.content) (lines bytes))
 
--- the packets of words before those of lines
+-- the packets of arguments before those of lines
 abbrev pub tested_lines : List Text → List ℕ → Option (List Text) → Written
 tested_lines packets text None = unread
 tested_lines packets text (Some more) = test_output (packets ++ more) text
 
--- test under rules, of packets in words and in lines; none of a file that can't be read
+-- test under rules, of packets given as arguments and in lines; none of a file that can't be read
 abbrev pub tested_texts : List Text → Option (List ℕ) → Option (List ℕ) → Written
 tested_texts packets None bytes = unread
 tested_texts packets (Some text) None = unread
@@ -149,13 +149,13 @@ abbrev pub AreRules : Option Text → Option (List ℕ) → List ℕ → Type 0
 AreRules (Some file) rules input = Unit {0}
 AreRules None rules input = rules ≡ Some input
 
--- the packets of a file, whatever it holds; without a file and words those of the input
+-- the packets of a file, whatever it holds; without a file and arguments those of the input
 abbrev pub AreLines : Option Text → List Text → Option (List ℕ) → List ℕ → Type 0
 AreLines (Some more) packets bytes input = Unit {0}
 AreLines None [] bytes input = bytes ≡ Some input
 AreLines None (packet ∷ packets) bytes input = bytes ≡ Some []
 
--- test under these rules, of packets in words and behind them in lines
+-- test under these rules, of packets given as arguments and after them in lines
 abbrev pub IsTested : Option Text → Bool → List Text → Option (List ℕ) → List ℕ → Written → Type 0
 IsTested more quiet packets rules input w = (bytes : Option (List ℕ)) × AreLines more packets bytes input
     × (w ≡ quieted quiet (tested_texts packets rules bytes))
@@ -198,8 +198,8 @@ abbrev pub WroteFront : List Explanation → CallValue → (input old new : Opti
 WroteFront table call input old new = AppendsFront old new (line (codes "memory"))
     ⊎ IfSome input (λ bytes. (w : Written) × IsAnswer table call bytes w × AppendsFront old new w.text)
 
--- What a run has done that ended so, over this input. Where memory ran out it wrote that alone; of the text for words
--- that aren't understood nothing is said.
+-- What a run that ended so has done, over this input. Out of memory it wrote that alone; the text for arguments that
+-- aren't understood isn't specified.
 abbrev pub Ran : List Explanation → Status → Option CallValue → Option (List ℕ) → Option (List ℕ) →
     Option (List ℕ) → Type 0
 Ran table status.Memory call input old new = Appends old new (line (codes "memory"))

@@ -1,4 +1,4 @@
--- The words of the program, and what they ask for.
+-- The command-line arguments of the program, and what they ask for.
 use Rattle.std.specs.Prelude.{ℕ, Bool, true, false, List, [], ◌∷◌, Option, Some, None}
 use Rattle.std.specs.Prelude.{codes, bytes_eq, option_map, unwrap_or, if◌then◌else◌}
 use Rattle.clap.specs.Words.{App, Row, Rule, Text, new_app, new_rule, with_rule, with_subcommand, subcommand_of, all_of}
@@ -13,7 +13,7 @@ use Rattle.cli_io.specs.declared.paragraph.Explanation.{Explanation}
 use Rattle.cli_io.specs.Explained.{named}
 use Rattle.cli_io.specs.Options.{flag_rule, value_rule}
 
--- ---- the words
+-- ---- the arguments
 
 -- -L or --NAME
 abbrev pub lettered_rule : Text → ℕ → Rule
@@ -23,14 +23,14 @@ lettered_rule id letter = record (new_rule id) { long = Some id; short = Some le
 abbrev pub lettered_value_rule : Text → ℕ → Rule
 lettered_value_rule id letter = record (new_rule id) { long = Some id; short = Some letter; action = Some Set }
 
--- any number of words
+-- any number of arguments
 abbrev pub words_rule : Text → Rule
 words_rule id = record (new_rule id) {
   action = Some Append;
   range = Some (record { start_inclusive = 0; end_inclusive = usize_max });
 }
 
--- one word, or none
+-- one value, or none
 abbrev pub word_rule : Text → Rule
 word_rule id = record (new_rule id) { action = Some Set }
 
@@ -75,11 +75,11 @@ texts_app = with_subcommand (with_subcommand (new_app (codes "pfx")) check_app.t
 abbrev pub scripts_app : App
 scripts_app = with_subcommand (with_subcommand (with_subcommand texts_app ctl_app.top) lab_app.top) explain_app.top
 
--- words whose options are others' are named alone
+-- subcommands whose options are other crates' are named alone
 abbrev pub with_named : Text → App → App
 with_named name app = with_subcommand app (new_app name).top
 
--- the program: one of its words has to be named
+-- the program: one of its subcommands has to be named
 abbrev pub pfx_app : App
 pfx_app =
     let node = with_named (codes "node") scripts_app in
@@ -111,7 +111,7 @@ abbrev pub place_for : Option Text → Place
 place_for None = Main
 place_for (Some text) = if bytes_eq text (codes "true") then Anchor else Main
 
--- the values of any number of words
+-- the values of any number of arguments
 abbrev pub words_of : Text → List Row → List Text
 words_of id rows = unwrap_or (all_of id rows) []
 
@@ -125,13 +125,13 @@ abbrev pub check_call : List Row → CallValue
 check_call rows = check_as (place_for (first_of (codes "anchor") rows)) (is_given (first_of (codes "quiet") rows))
     (words_of (codes "file") rows)
 
--- without a file the packets are words, one at least
+-- without a file the packets are arguments, one at least
 abbrev pub words_call : Bool → List Text → Option CallValue
 words_call quiet [] = None
 words_call quiet (packet ∷ packets) =
     if quiet then Some (TestFiles None None quiet (packet ∷ packets)) else Some (Test (packet ∷ packets))
 
--- `test` with a file of rules, or one of packets, or else with packets in words alone, one at least
+-- `test` with a file of rules, or one of packets, or else with packets given as arguments alone, one at least
 abbrev pub test_as : Option Text → Option Text → Bool → List Text → Option CallValue
 test_as (Some file) more quiet packets = Some (TestFiles (Some file) more quiet packets)
 test_as None (Some more) quiet packets = Some (TestFiles None (Some more) quiet packets)
@@ -147,7 +147,7 @@ abbrev pub explain_as : List Explanation → Option Text → Option CallValue
 explain_as table None = Some (Explain None)
 explain_as table (Some text) = option_map (λ r. Explain (Some r)) (named table text)
 
--- what one of the words asks for, with this table of refusals
+-- what a subcommand asks for, with this table of refusals
 abbrev pub called_by : List Explanation → Text → List Row → Option CallValue
 called_by table word rows =
     if bytes_eq word (codes "check") then Some (check_call rows)
@@ -156,17 +156,17 @@ called_by table word rows =
     else (if bytes_eq word (codes "lab") then Some Lab
     else (if bytes_eq word (codes "explain") then explain_as table (first_of (codes "code") rows) else None))))
 
--- what the words ask for, by the word named; nothing where none is, where it is one that is named alone (node, ask,
--- key, show, follow, batch), or where what is given with it isn't understood
+-- what the arguments ask for, by the subcommand named; nothing where none is, where it is one that is named alone
+-- (node, ask, key, show, follow, batch), or where what is given with it isn't understood
 abbrev pub called : List Explanation → Option (Text × List Row) → Option CallValue
 called table None = None
 called table (Some (word, rows)) = called_by table word rows
 
--- a call, and none where the words have a fault
+-- a call, and none where the arguments have a fault
 abbrev pub unless_faulty : Kinds → Option CallValue → Option CallValue
 unless_faulty [] call = call
 unless_faulty (k ∷ ks) call = None
 
--- what the words after the program's name ask for, none where they aren't understood
+-- what the arguments after the program's name ask for, none where they aren't understood
 unfoldable pub call_of : List Explanation → List Text → Option CallValue
 call_of table words = unless_faulty (fault_of pfx_app words) (called table (subcommand_of pfx_app words))

@@ -169,7 +169,7 @@ fn check_files<R: Read>(
     }
 }
 
-/// Says which rules decide of packets in words and in lines.
+/// Adds the messages of which rules decide the packets of arguments and of lines.
 fn say_decided(
     alloc: Global,
     packets: &[&str],
@@ -200,7 +200,7 @@ fn refused_name<'s>(rules: &'s Source<'_>, lines: &'s Source<'_>, printed: &str)
     rules.name
 }
 
-/// `test` under rules, for packets in words and in lines.
+/// `test` under rules, for packets given as arguments and in lines.
 fn test_sources(
     alloc: Global,
     quiet: bool,
@@ -240,7 +240,7 @@ fn input_lines<R: Read>(
     })
 }
 
-/// `test` under these rules: packets that no words and no file have are the input's lines.
+/// `test` under these rules: without a file of packets and without arguments, the packets are the input's lines.
 fn test_under<R: Read>(
     rt: &HostRuntime,
     quiet: bool,
@@ -283,8 +283,8 @@ fn test_file<R: Read>(
     test_under(rt, quiet, packets, &rules, more, reader, remarks)
 }
 
-/// `test` under the input's rules, for packets in words and in a file. Without either the input is both: no words ask
-/// for that.
+/// `test` under the input's rules, for packets given as arguments and in a file. Without either the input would be both
+/// rules and packets: no arguments ask for that.
 fn test_files<R: Read>(
     rt: &HostRuntime,
     quiet: bool,

@@ -1,4 +1,4 @@
-//! What the words ask for.
+//! What the arguments ask for.
 
 ghost use Rattle.std.specs.Prelude.{◌≡◌, Some, map, option_map};
 ghost use Rattle.std.specs.Option.{option_copied};
@@ -11,7 +11,7 @@ use clap::ArgMatches;
 use cli_io::{Explanation, named, values_in};
 use pf_grammar::Place;
 
-/// What the words ask for.
+/// What the arguments ask for.
 #[derive(Clone, Copy)]
 pub(crate) enum Call<'m, 'a> {
     /// Verdicts for packets.
@@ -30,7 +30,7 @@ pub(crate) enum Call<'m, 'a> {
         quiet: bool,
         files: &'m [&'a str],
     },
-    /// Verdicts for packets in words and in a file under a file's rules; what no file has is the input's.
+    /// Verdicts for packets given as arguments and in a file, under a file's rules; what no file has is the input's.
     TestFiles {
         file: Option<&'a str>,
         more: Option<&'a str>,
@@ -49,7 +49,7 @@ fn is_given(text: Option<&str>) -> bool
     }
 }
 
-/// The place that the value of `--anchor` says.
+/// The place that the value of `--anchor` gives.
 fn place_for(anchor: Option<&str>) -> Place
     ensures { result ≡ place_for (option_copied anchor.entry) }
 {
@@ -154,7 +154,7 @@ fn explain_call<'m, 'a>(table: &'m [Explanation], code: Option<&str>) -> Option<
     }
 }
 
-/// What one of the words asks for with the matches behind it.
+/// What a subcommand asks for with the matches of its arguments.
 fn call_by<'m, 'a>(
     table: &'m [Explanation],
     word: &str,
@@ -180,7 +180,7 @@ fn call_by<'m, 'a>(
     None
 }
 
-/// What the matches of the words ask for with a table of refusals, none where they ask for nothing.
+/// What the matches of the arguments ask for with a table of refusals, none where they ask for nothing.
 pub(crate) fn call_in<'m, 'a>(
     table: &'m [Explanation],
     matches: &'m ArgMatches<'a>,
@@ -201,7 +201,7 @@ pub(crate) fn is_verbose(matches: &ArgMatches<'_>) -> bool {
     }
 }
 
-/// What is said of words that `clap` takes and that ask for nothing.
+/// The message for arguments that `clap` accepts and that ask for nothing.
 pub(crate) fn misnamed(matches: &ArgMatches<'_>) -> &'static str {
     match matches.subcommand_name() {
         Some("test") =>

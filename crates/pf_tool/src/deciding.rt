@@ -1,4 +1,4 @@
-//! Which rules decide, for people.
+//! Which rules decide, for the messages on standard error.
 
 use crate::remarks::Remarks;
 use pf_config::Config;
@@ -27,7 +27,8 @@ fn shown_rule(alloc: Global, config: &Config, found: &Verdict<'_>) -> Result<Str
     }
 }
 
-/// Says of each packet, by its place from 1, the verdict and the rule that decides, up to the first that is none.
+/// Adds for each packet, by its place from 1, the verdict and the rule that decides, up to the first text that is no
+/// packet.
 fn say_each(
     alloc: Global,
     config: &Config,
@@ -49,7 +50,7 @@ fn say_each(
     Ok(())
 }
 
-/// Says of each packet under a ruleset which rule decides; of a ruleset that is refused nothing.
+/// Adds for each packet under a ruleset which rule decides; nothing for a ruleset that is refused.
 pub(crate) fn say_rules(
     alloc: Global,
     text: &[u8],

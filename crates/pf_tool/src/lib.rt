@@ -1,45 +1,44 @@
-//! The subcommands `check`, `test`, `ctl`, `lab` and `explain`: what they write for their words and input, and how they
-//! end.
+//! The subcommands `check`, `test`, `ctl`, `lab` and `explain`: what they write for their arguments and input, and how
+//! they end.
 //!
 //! # Organization
 //!
 //! - [`run`]: the subcommands `check`, `test`, `ctl`, `lab` and `explain`, over any reader and writers.
 //! - [`Status`]: how a run ends, and the exit status.
 //!
-//! Within: `words` has the words as `clap` reads them, `call` what they ask for, `checking`, `testing`, `scripts` and
-//! `explaining` what each word writes, `source` and `packets` rulesets and packets in files, `answering` what a call
-//! writes over the input and files, `remarks` and `deciding` what is said to people, `output` what a run writes,
-//! `running` one run from the words to the status.
+//! Within: `words` has the arguments as `clap` reads them, `call` what they ask for, `checking`, `testing`, `scripts`
+//! and `explaining` what each subcommand writes, `source` and `packets` rulesets and packets in files, `answering` what
+//! a call writes over the input and files, `remarks` and `deciding` the messages on standard error, `output` what a run
+//! writes, `running` one run from the arguments to the status.
 //!
 //! # Why
 //!
-//! - **Help changes nothing that is promised**: what `clap` makes of words doesn't depend on them (`app_of`),
-//!   so no definition has them.
-//! - **`pfx --help` lists all words, and six programs of `clap` read them.** pf_tool's has the subcommands of others
-//!   (`node`, `ask`, `key`, `show`, `follow`) by their names alone; `main` hands a run whose first word is one of
-//!   these to the crate that has its options. One command of all options would make the crate that holds it stand
-//!   on all of them, SQLite too, and `ask` has two sets of options (`--to`, `--control`), of which `clap` could tell
-//!   by rules between arguments alone, for which its contracts don't say what is refused. The exit is one: `main`
-//!   makes the status of each into the exit code.
+//! - **Help changes nothing that is promised**: how `clap` reads arguments doesn't depend on it (`app_of`), so no
+//!   definition has it.
+//! - **`pfx --help` lists all subcommands, and six programs of `clap` read them.** pf_tool's has the subcommands of
+//!   others (`node`, `ask`, `key`, `show`, `follow`) by their names alone; `main` hands a run whose first argument is
+//!   one of these to the crate that has its options. One command of all options would make the crate that holds it
+//!   depend on all of them, SQLite too, and `ask` has two sets of options (`--to`, `--control`), which `clap` could
+//!   distinguish only by rules between arguments, for which its contracts don't state what is refused. The exit is in
+//!   one place: `main` makes the status of each into the exit code.
 //! - **A number is refused by pf_tool and not by `clap`** where no refusal has it (`explain 99`), and so is `test`
-//!   without a packet: both are rules on more than one argument or on the table, which `clap`'s exact contracts
-//!   leave out. They say so in one line, with status 2.
+//!   without a packet: both are rules on more than one argument or on the table, which `clap`'s exact contracts leave
+//!   out. They are reported in one line, with status 2.
 //! - **`run` is lent the table of refusals**, and so are the calls of cli_io. A clause can't name a constant
 //!   that is a list of structs, and a copy of the table among the definitions would be a second table. So what is
 //!   promised of `explain` holds for whatever table is lent, and `main` lends the one that there is.
-//! - **What files hold** no contract says, so the clauses on files say that there are such rulesets. Names of files
-//!   are words of UTF-8. A file is read whole before anything is written; `-` is no name of standard input, which
-//!   `/dev/stdin` is.
+//! - **No contract states what files hold**, so the clauses on files state that there are such rulesets. Names of files
+//!   are UTF-8 arguments. A file is read whole before anything is written; `-` doesn't name standard input,
+//!   `/dev/stdin` does.
 //! - **`check FILE..` goes on behind a refused file**, as compilers do, and shows by the status that one was; so a
-//!   script sees all that is wrong. Which file is meant stands on standard error.
-//! - **People's words are made of what is printed**: a line `refused CODE` gives its remark. So they can't say
-//!   another thing than the line does, and need no second way through the parser; which rule decides is asked anew,
-//!   by the same `verdict`. They go to standard error behind the output; that they can't be written changes
-//!   nothing.
+//!   script sees all that is wrong. The message on standard error names the file.
+//! - **The messages on standard error are made from what is printed**: a line `refused CODE` gives its message. So they
+//!   can't contradict the line, and need no second pass through the parser; which rule decides is evaluated again, by
+//!   the same `verdict`. They are written after the output; that they can't be written changes nothing.
 //! - **A script's refusals are named by the line of what is printed** (`stdout:2:`): pf_scripts hands out what a
 //!   script prints, and not at which of its lines.
 //! - **Numbers with names** (60 to 62, 30, 90) are in cli_io. Lower crates keep their enums with a `code` of
-//!   their own: they are below it, and each number stands once in each.
+//!   their own: they are below it, and each number is in each of them once.
 //! - **More input than 16,777,216 bytes is a fault of its own** (`TooLong`), so that a clause can say what it
 //!   means; the run ends as one whose input can't be read, with nothing written.
 //! - **All output at once.** A run collects what it writes, and writes it once. So a run that is out of memory
@@ -54,29 +53,29 @@
 //! - **The rows of `pfx` are its stored run**, by `pfx batch`, so that both compilers run them on the program that
 //!   ships, and no second program links what it links. A program has one stored run; `a_quick_pass_after_a_block`
 //!   alone is that of first_verdict, and one of the rows.
-//! - **`batch` goes on behind a line that it refuses**, and says by its status alone whether each line ended as its
-//!   mark says, since its output has each status anyway. What a command line writes isn't kept, but for `show`,
-//!   whose script is another's input: so a line that runs on, as `node` does, writes as it goes.
+//! - **`batch` goes on behind a line that it refuses**, and shows by its status alone whether each line ended as its
+//!   mark states, since its output has each status anyway. What a command line writes isn't kept, but for `show`, whose
+//!   script is another's input: so a line that runs on, as `node` does, writes as it goes.
 //! - **`chmod` is a line of a batch**, since a checkout has no file that its owner alone may read, and a node's key
 //!   must be one.
 //! - **The body is in `running.rt`**, since a module may not have the name of a function that the crate hands out
 //!   (`run`).
 //! - **`test` loads its text into an empty configuration**, so tables that no rule refers to and that aren't
 //!   `persist` are gone, as pfctl's load does it; no verdict shows it.
-//! - **A word has to be named** (`subcommand_required`): without one `clap` says so, and the status is 2.
-//! - **A word of the command line that isn't text** is a word that isn't understood, status 2.
-//! - **That a read succeeds can't be said.** std's `Read` and `Write` may answer an error at any call and no word
-//!   of theirs reports when, so a status of a failed read or write has no clause beyond itself; tests with readers
-//!   and writers that don't fail are in its place.
-//! - **The status is an enum with a code**, so that a body that gives up doesn't meet the contract by answering 1.
-//! - **`run` answers `node`, `ask`, `key`, `show` and `follow` with status 2**: it knows them by name. These words
-//!   are `run_net`'s, `run_control_ask`'s, `run_show`'s and `run_follow`'s, to which `pfx` hands every run whose first
-//!   word is one of them: so pf_tool knows neither sockets nor databases.
-//! - **What runs of all words have in common** (`Status`, `read_all`, `misused`, `out_of_memory`) is in cli_io, over
-//!   `clap` alone, so that the subcommands of the network, the control socket and nftables wait for no lab.
+//! - **A subcommand has to be named** (`subcommand_required`): without one `clap` reports that, and the status is 2.
+//! - **A command-line argument that isn't text** is one that isn't understood, status 2.
+//! - **No contract can state that a read succeeds.** std's `Read` and `Write` may return an error at any call, and none
+//!   of their clauses states when, so a status of a failed read or write has no clause beyond itself; tests with
+//!   readers and writers that don't fail are in its place.
+//! - **The status is an enum with a code**, so that a body that gives up doesn't meet the contract by returning 1.
+//! - **`run` answers `node`, `ask`, `key`, `show` and `follow` with status 2**: it knows them by name. These
+//!   subcommands are `run_net`'s, `run_control_ask`'s, `run_show`'s and `run_follow`'s, to which `pfx` hands every run
+//!   whose first argument is one of them: so pf_tool depends on neither sockets nor databases.
+//! - **What runs of all subcommands have in common** (`Status`, `read_all`, `misused`, `out_of_memory`) is in cli_io,
+//!   over `clap` alone, so that the subcommands of the network, the control socket and nftables wait for no lab.
 //! - **No test lends an allocator that refuses**: what takes memory takes `alloc: Global`, which is one type and
 //!   not a parameter. What a call leaves where a growth is refused is in its contract. In place of a test two
-//!   things stand outside the gate: `rt try --fail-alloc N`, which refuses the N-th allocation of a run, and
+//!   checks are outside the gate: `rt try --fail-alloc N`, which refuses the N-th allocation of a run, and
 //!   `scripts/refused-memory`, which refuses each in turn in the built programs of pfx and rows_nodes. The gate
 //!   runs the same rows with ample memory.
 #![tactic(auto)]

@@ -1,9 +1,9 @@
-//! Words for people: what is refused, and which rules decide.
+//! Messages on standard error: what is refused, and which rules decide.
 
 use cli_io::{Explanation, NO_PACKET, Remark, Shown, explanation};
 use std::alloc::{AllocError, Global};
 
-/// What is printed for people.
+/// Which messages are printed.
 #[derive(Clone, Copy, PartialEq, Eq)]
 pub(crate) enum Level {
     /// Nothing.
@@ -14,7 +14,7 @@ pub(crate) enum Level {
     Rules,
 }
 
-/// What is said to people, a line each.
+/// The messages on standard error, a line each.
 #[derive(Drop)]
 pub(crate) struct Remarks<'t> {
     alloc: Global,
@@ -46,7 +46,7 @@ fn refusal_in(printed: &str) -> Option<Refused> {
 }
 
 impl<'t> Remarks<'t> {
-    /// Nothing is said yet.
+    /// No message yet.
     pub(crate) fn new(alloc: Global, table: &'t [Explanation], level: Level) -> Remarks<'t> {
         Remarks {
             alloc,
@@ -56,23 +56,23 @@ impl<'t> Remarks<'t> {
         }
     }
 
-    /// What is said.
+    /// The messages.
     pub(crate) fn as_str(&self) -> &str {
         self.text.as_str()
     }
 
-    /// Whether it is to be said which rules decide.
+    /// Whether messages report which rules decide.
     pub(crate) fn has_rules(&self) -> bool {
         self.level == Level::Rules
     }
 
-    /// Says a line.
+    /// Adds a line.
     pub(crate) fn say(&mut self, line: &str) -> Result<(), AllocError> {
         self.text.push_str(line)?;
         self.text.push('\n')
     }
 
-    /// Says that a refusal came there.
+    /// Adds that there was a refusal at this place.
     fn remark(&mut self, source: &str, line: Option<u64>, code: u8) -> Result<(), AllocError> {
         let name = match explanation(self.table, code) {
             Some(row) => row.name,
@@ -89,13 +89,13 @@ impl<'t> Remarks<'t> {
         self.say(said.as_str())
     }
 
-    /// Says that a packet is none, by its place from 1.
+    /// Adds that an argument or a line is no packet, by its place from 1.
     fn add_packet(&mut self, at: u64) -> Result<(), AllocError> {
         let packet = format!(in self.alloc; "packet {at}")?;
         self.remark(packet.as_str(), None, NO_PACKET)
     }
 
-    /// Says what is refused of a ruleset, of which `check` or `test` prints this.
+    /// Adds what is refused of a ruleset, for which `check` or `test` prints this.
     pub(crate) fn add(&mut self, source: &str, printed: &str) -> Result<(), AllocError> {
         if self.level == Level::Silent {
             return Ok(());
@@ -117,7 +117,7 @@ impl<'t> Remarks<'t> {
         Ok(())
     }
 
-    /// Says which of the lines that a script prints are refusals, by their places from 1.
+    /// Adds which of the lines that a script prints are refusals, by their places from 1.
     pub(crate) fn add_script(&mut self, printed: &str) -> Result<(), AllocError> {
         if self.level == Level::Silent {
             return Ok(());

@@ -14,7 +14,7 @@ use cli_io::{Explanation, Status, misused, out_of_memory, write_bytes};
 use std::convert::AsStr;
 use std::io::{Read, Write};
 
-/// Does what is asked for, and writes it, with what is said to people.
+/// Does what is asked for, and writes the output and the messages.
 #[tactic(auto, using(cli_io::proofs::Fronts::nothing_written))]
 fn answer<R: Read, W: Write, E: Write>(
     rt: &HostRuntime,
@@ -36,7 +36,7 @@ fn answer<R: Read, W: Write, E: Write>(
     };
     match write_bytes(writer, output.text.as_bytes()) {
         Ok(()) => {
-            // that people can't be told changes nothing
+            // that the messages can't be written changes nothing
             let _code_and_line = errors.write_all(remarks.as_str().as_bytes());
             match output.ending {
                 Ending::Done => Status::Done,
@@ -47,7 +47,7 @@ fn answer<R: Read, W: Write, E: Write>(
     }
 }
 
-/// What is printed for people: all with `-v`, what is refused where somebody looks on.
+/// Which messages are written: all with `-v`, refusals where standard error is a terminal.
 fn level_of(is_verbose: bool, is_terminal: bool) -> Level {
     if is_verbose {
         return Level::Rules;
@@ -58,7 +58,7 @@ fn level_of(is_verbose: bool, is_terminal: bool) -> Level {
     Level::Silent
 }
 
-/// Writes what is wrong with words that `clap` takes and that ask for nothing.
+/// Writes what is wrong with arguments that `clap` accepts and that ask for nothing.
 fn misnamed_words<W: Write>(text: &str, writer: &mut W) -> Status
     ensures { (result ≡ Status.Usage) ⊎ (result ≡ Status.Failed) }
 {
@@ -68,16 +68,16 @@ fn misnamed_words<W: Write>(text: &str, writer: &mut W) -> Status
     }
 }
 
-/// What the words ask for, the program's name first, with the table of refusals, the input, the output and the place
-/// for people's words that are lent; `is_terminal` says whether somebody looks at that place.
+/// Runs what the arguments ask for, the program's name first, with the table of refusals, the input, the output and
+/// standard error that are lent; `is_terminal` is whether standard error is a terminal.
 ///
 /// `test PACKET..` reads the text of a ruleset and writes a verdict line for each packet text in turn. A refused text
 /// gives `refused CAUSE line L` instead, and a line that is no packet `refused 30`, which ends the run. `check` writes
 /// the ruleset that the text gives, in its expanded form, or its refusal; with `--anchor` the text is one for an
-/// anchor. Both read files where their words name some; one that can't be read gives `refused 90`. All that is written
-/// goes to the writer at once; an input, and a file, is 16,777,216 bytes at most. What is said to people, a line for
-/// each refusal and, with `-v`, the rules that decide, changes nothing of what is written, nor of the status. `explain`
-/// writes what the table says of a number, or all of it, and reads nothing.
+/// anchor. Both read files where their arguments name some; one that can't be read gives `refused 90`. All that is
+/// written goes to the writer at once; an input, and a file, is 16,777,216 bytes at most. The messages, a line for each
+/// refusal and, with `-v`, the rules that decide, change nothing of what is written, nor of the status. `explain`
+/// writes the table's paragraph of a number, or all of them, and reads nothing.
 pub fn run<S: AsStr, R: Read, W: Write, E: Write>(
     rt: &HostRuntime,
     table: &[Explanation],

@@ -1,4 +1,4 @@
-//! The words `ctl` and `lab`: what a script prints.
+//! The subcommands `ctl` and `lab`: what a script prints.
 
 ghost use Rattle.std.specs.Prelude.{◌≡◌, IfOk};
 ghost use Rattle.pf_scripts.specs.Ctl.{printed};

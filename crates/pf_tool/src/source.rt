@@ -1,4 +1,4 @@
-//! The rulesets that words name.
+//! The rulesets that arguments name.
 
 ghost use Rattle.std.specs.Prelude.{◌≡◌, IfOk, length};
 ghost use Rattle.std.specs.Option.{option_copied};

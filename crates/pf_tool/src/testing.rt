@@ -104,7 +104,8 @@ pub(crate) fn test_output(
     }
 }
 
-/// What `test` writes over this text for packets in words and, behind them, in lines; none where a line isn't UTF-8.
+/// What `test` writes under this ruleset for packets given as arguments and, after them, in lines; none where a line
+/// isn't UTF-8.
 fn tested_lines(
     alloc: Global,
     packets: &[&str],
@@ -125,7 +126,8 @@ fn tested_lines(
     }
 }
 
-/// What `test` writes over the bytes of rules for packets in words and, behind them, in the lines of others.
+/// What `test` writes under the bytes of rules for packets given as arguments and, after them, in the lines of other
+/// bytes.
 fn tested_bytes(
     alloc: Global,
     packets: &[&str],
@@ -141,8 +143,8 @@ fn tested_bytes(
     }
 }
 
-/// What `test` writes under rules, for packets in words and, behind them, in lines; either may be of a file that can't
-/// be read.
+/// What `test` writes under rules, for packets given as arguments and, after them, in lines; either may be of a file
+/// that can't be read.
 pub(crate) fn tested_texts(
     alloc: Global,
     packets: &[&str],

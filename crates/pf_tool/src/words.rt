@@ -1,4 +1,4 @@
-//! The words of the program, as `clap` reads them.
+//! The command-line arguments of the program, as `clap` reads them.
 
 ghost use Rattle.std.specs.Prelude.{◌≡◌, IfOk, false, codes};
 ghost use Rattle.clap.specs.Words.{app_of, rule_of};
@@ -12,7 +12,7 @@ use clap::{Arg, ArgAction, Command};
 use cli_io::{flag, valued, with_option};
 use std::alloc::{AllocError, Global};
 
-/// What help says below its options.
+/// What help shows below its options.
 const WORDS_BELOW: &str =
     "pfx SUBCOMMAND --help describes a subcommand; pfx --version says which program this is.
 
@@ -60,7 +60,7 @@ const LAB_BELOW: &str =
 
 const NAMED_BELOW: &str = "pfx SUBCOMMAND --help, with this subcommand, describes its options.";
 
-/// What help says of each option.
+/// The help of each option.
 const ANCHOR: &str = "The ruleset is for an anchor: set is refused";
 
 const QUIET: &str = "Prints nothing: the exit status reports";
@@ -102,7 +102,7 @@ fn rules_file<'a>(alloc: Global) -> Arg<'a>
         .help(RULES)
 }
 
-/// Any number of words.
+/// Any number of arguments.
 fn words<'a>(alloc: Global, id: &'a str, help: &'a str) -> Arg<'a>
     ensures rule { rule_of result ≡ words_rule id.entry.now }
     ensures local { result.global ≡ false }
@@ -224,7 +224,7 @@ fn scripts_command<'a>(alloc: Global) -> Result<Command<'a>, AllocError>
         .subcommand(explain)
 }
 
-/// Names a word whose options are another crate's, so that help lists it.
+/// Names a subcommand whose options are another crate's, so that help lists it.
 fn with_named<'a>(
     alloc: Global,
     command: Command<'a>,
@@ -239,7 +239,7 @@ fn with_named<'a>(
     command.subcommand(named)
 }
 
-/// All words of the program.
+/// The program with all its subcommands.
 pub(crate) fn command<'a>(alloc: Global) -> Result<Command<'a>, AllocError>
     ensures { IfOk result (λ c. app_of c ≡ pfx_app) }
 {

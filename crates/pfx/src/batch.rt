@@ -155,7 +155,7 @@ fn run_one<W: Write>(
         Ok(status) => status,
         Err(LineFault::Memory) => out_of_memory(writer),
         Err(LineFault::Refused(code, why)) => {
-            // that people can't be told changes nothing
+            // a message that can't be written changes nothing
             let _written = errors.extend_from_slice(why.as_bytes());
             after(writeln!(writer, "refused {code}"), Status::Refused)
         }
@@ -167,7 +167,7 @@ fn run_one<W: Write>(
     Ok(status)
 }
 
-/// Runs the command lines of a batch: refused where one didn't end as its mark says.
+/// Runs the command lines of a batch: refused where one didn't end by its mark.
 fn run_all<W: Write, E: Write>(
     rt: &HostRuntime,
     batch: &[u8],
@@ -183,7 +183,7 @@ fn run_all<W: Write, E: Write>(
         let status = run_one(rt, shared, line, &mut kept, writer)?;
         if (status == Status::Done) == line.must_fail {
             ending = Status::Refused;
-            // that people can't be told changes nothing
+            // a message that can't be written changes nothing
             let _written = write_line(errors, b"pfx: not as marked: ==", line.header);
         }
     }

@@ -11,7 +11,7 @@ pub(crate) const BEGIN: &[u8] = b"\n==";
 pub(crate) enum LineFault {
     /// A growth was refused.
     Memory,
-    /// The number of the refusal, and why, for people.
+    /// The number of the refusal, and its message.
     Refused(u8, &'static str),
 }
 

@@ -16,8 +16,8 @@ use pf_tool::run;
 use std::io::{self, Eprint, ErrorKind, Read, Write};
 use std::process::{ExitCode, Termination};
 
-/// How the program ends, or a line of a batch. It is made here alone, and isn't dropped: whoever runs something ends as
-/// that did.
+/// How the program ends, or a command line of a batch. It is made here alone, and isn't dropped: a caller that is
+/// generic over [`Runner`] ends as its run did.
 pub(crate) struct Ended {
     status: Status,
 }
@@ -45,7 +45,8 @@ impl Termination for Ended {
     }
 }
 
-/// Who runs a subcommand. A value is used up by the run, and isn't dropped: so each is run once.
+/// What runs a subcommand. A caller that is generic over this makes exactly one run, since it can neither copy nor drop
+/// a value. That the run below is of the subcommand that is named is left to the rows.
 pub(crate) trait Runner {
     /// Does what the arguments ask for, as the crate of their subcommand has it. All subcommands but `batch`.
     fn run<R: Read, W: Write, E: Write>(

@@ -1,4 +1,4 @@
-//! One command line, and what is printed for people of a refusal that an argument's crate only prints the number of.
+//! One command line, and the message on a refusal of which an argument's crate prints only the number.
 
 use crate::running::{Ended, Runner, subcommand_of};
 use cli_io::{REFUSALS, Shown, explanation, knock};
@@ -70,9 +70,9 @@ fn value_of<'s>(arguments: &[&'s str], option: &str) -> Option<&'s str> {
     None
 }
 
-/// Says what a refusal means, and of a control socket at which nobody answers what the system says.
+/// Writes what a refusal means, and of a control socket at which nobody answers the system's error.
 fn tell<RT: Net, E: Write>(rt: &RT, arguments: &[&str], code: u8, errors: &mut E) {
-    // that people can't be told changes nothing
+    // a message that can't be written changes nothing
     if code == NOBODY {
         if let Some(path) = value_of(arguments, "--control") {
             if let Err(error) = knock(rt, path) {
@@ -103,7 +103,7 @@ fn run_explained<RT: Net, T: Runner, R: Read, W: Write, E: Write>(
     ended
 }
 
-/// Does what the arguments ask for, the program's name first; `is_terminal` says whether `errors` is a terminal. All
+/// Does what the arguments ask for, the program's name first; `is_terminal` is whether `errors` is a terminal. All
 /// subcommands but `batch`.
 pub(crate) fn run_line<RT: Net, T: Runner, R: Read, W: Write, E: Write>(
     rt: &RT,

@@ -1,4 +1,4 @@
--- What a history is worth to members that live with their wires.
+-- What follows from a history for members with their wires.
 use Rattle.std.proofs.Common.{◌≡◌, ◌∙◌, sym, ap, subst, refl, ℕ, Bool, true, false, cond, nat_eq, List, [], ◌∷◌, ◌++◌, append_assoc}
 use Rattle.std.specs.Prelude.{map}
 use Rattle.px_model.specs.Spelling.{Bytes}

@@ -1,4 +1,4 @@
--- What members lived with their wires is a history of the cluster.
+-- The traces of members with their wires are a history of the cluster.
 use Rattle.std.proofs.Common.{◌≡◌, ◌≢◌, ◌∙◌, ◌⊎◌, sym, ap, subst, refl, ℕ, zero, suc, ◌<◌, ◌≤◌, Bool, true, false, not, cond, nat_eq, List, [], ◌∷◌, ◌++◌, Some, slice_get, inl, inr, arith, append_assoc, eq-eqb, ne_eqb}
 use Rattle.std.specs.Prelude.{map}
 use Rattle.std.proofs.lemmas.Bool.{cond-true, cond-false}
@@ -172,7 +172,7 @@ trace_may g m (TraceEvent.Opens ∷ ds) c t below l delivered = (
   trace_may g m ds (next c (ClusterEvent.Opens m)) t below (lived_from g c.nodes m (started (c.nodes m).stored) t ds l) delivered,
 )
 
--- its member stands as it lived
+-- its member is in the state after its trace
 stands_here : (g : Group) (m : ℕ) (ds : List TraceEvent) (c : Cluster) (t : NodeState Bytes) → Lived g m (c.nodes m) ds t →
     (after (map (cluster_event m) ds) c).nodes m ≡ t
 stands_here g m [] c t l = sym l
@@ -183,7 +183,7 @@ stands_here g m (TraceEvent.Stops x left ∷ ds) c t l =
 stands_here g m (TraceEvent.Opens ∷ ds) c t l =
     stands_here g m ds (next c (ClusterEvent.Opens m)) t (lived_from g c.nodes m (started (c.nodes m).stored) t ds l)
 
--- the others stand as they stood
+-- the others are in the states in which they were
 stands_else : (m k : ℕ) (ds : List TraceEvent) (c : Cluster) → nat_eq k m ≡ false → (after (map (cluster_event m) ds) c).nodes k ≡ c.nodes k
 stands_else m k [] c other = refl
 stands_else m k (TraceEvent.Calls x u out ∷ ds) c other =
@@ -193,7 +193,7 @@ stands_else m k (TraceEvent.Stops x left ∷ ds) c other =
 stands_else m k (TraceEvent.Opens ∷ ds) c other =
     stands_else m k ds (next c (ClusterEvent.Opens m)) other ∙ cond-false (nat_eq k m) (started (c.nodes m).stored) (c.nodes k) other
 
--- how the cluster stands is said of each member
+-- the cluster's state, member by member
 abbrev Stands : Cluster → (ℕ → NodeState Bytes) → Type 0
 Stands c nodes = (k : ℕ) → c.nodes k ≡ nodes k
 
@@ -221,7 +221,7 @@ holds_after m (TraceEvent.Calls x u out ∷ ds) c handed holds =
 holds_after m (TraceEvent.Stops x left ∷ ds) c handed holds = holds_after m ds (next c (ClusterEvent.Stops m x left)) handed holds
 holds_after m (TraceEvent.Opens ∷ ds) c handed holds = holds_after m ds (next c (ClusterEvent.Opens m)) handed holds
 
--- ---- lives, and parts of them
+-- ---- traces, and parts of them
 
 led_then : (s : NodeState Bytes) (xs ys : List TraceEvent) → led_to s (xs ++ ys) ≡ led_to (led_to s xs) ys
 led_then s [] ys = refl
@@ -229,7 +229,7 @@ led_then s (TraceEvent.Calls x t out ∷ xs) ys = led_then t xs ys
 led_then s (TraceEvent.Stops x left ∷ xs) ys = led_then (stopped left) xs ys
 led_then s (TraceEvent.Opens ∷ xs) ys = led_then (started s.stored) xs ys
 
--- it stands as it was led
+-- its state is the one after its trace
 pub lived_to : (g : Group) (me : ℕ) (s t : NodeState Bytes) (xs : List TraceEvent) → Lived g me s xs t → t ≡ led_to s xs
 lived_to g me s t [] l = l
 lived_to g me s t (TraceEvent.Calls x u out ∷ xs) l = lived_to g me u t xs l.3
@@ -252,11 +252,11 @@ lived_back g me s t (TraceEvent.Opens ∷ xs) ys l = lived_back g me (started s.
 abbrev pub put_on : (ℕ → NodeState Bytes) → Stretch → ℕ → NodeState Bytes
 put_on nodes x = put nodes x.member (led_to (nodes x.member) x.trace)
 
--- what happens to each member from there on it lives
+-- each member's trace from there on
 abbrev pub Live : Group → (ℕ → NodeState Bytes) → List Stretch → Type 0
 Live g nodes xs = (m : ℕ) → m < g.members → Lived g m (nodes m) (trace_in m xs) (led_to (nodes m) (trace_in m xs))
 
--- what happens to a member of this stretch is first what happened to it there
+-- the trace of this stretch's member begins with the stretch's trace
 own_trace : (m : ℕ) (x : Stretch) (xs : List Stretch) → nat_eq m x.member ≡ true → trace_in m (x ∷ xs) ≡ x.trace ++ trace_in m xs
 own_trace m x xs is = cond-true (nat_eq m x.member) (x.trace ++ trace_in m xs) (trace_in m xs) is
 
@@ -295,7 +295,7 @@ leads_then g m s xs ys a b =
     subst (λ (t : NodeState Bytes). Lived g m s (xs ++ ys) t) (sym (led_then s xs ys))
     (lived_then g m s (led_to s xs) (led_to (led_to s xs) ys) xs ys a b)
 
--- behind a stretch each member lives on
+-- after a stretch each member's trace goes on
 live_on : (g : Group) (nodes : ℕ → NodeState Bytes) (x : Stretch) (xs : List Stretch) → Live g nodes (x ∷ xs) → Live g (put_on nodes x) xs
 live_on g nodes x xs live k below = elim (eqb_tells k x.member) [
   | inl is ↦ subst (λ (s : NodeState Bytes). Leads g k s (trace_in k xs)) (sym (put_own nodes x k is.0 is.1))

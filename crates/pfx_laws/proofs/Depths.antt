@@ -25,7 +25,7 @@ pub targets_at : (c : Configuration) (p : Path) → have_targets c ≡ true → 
 unfolding rules_at
 targets_at c p h = rules_found p c.anchors h
 
--- ---- what rules come to, by what their targets come to
+-- ---- what rules give, by what their targets give
 
 pub rules_same : (tables : Tables) (f g : Target → List Hit) (k : PacketValue) (p : Path) (i : ℕ) (rules : List AnyRule) → list_all has_target rules ≡ true →
     ((t : Target) → 1 ≤ length t.names → f t ≡ g t) → hits_with tables f k p i rules ≡ hits_with tables g k p i rules
@@ -55,7 +55,7 @@ all_same n f g q (m ∷ ms) same le =
     ap (λ hs. hs ++ flat_map (not_too_deep f) (map (followed_by q) ms)) (shallow_same n f g (followed_by q m) same (omega (arith, e, le)))
     ∙ ap (λ hs. not_too_deep g (followed_by q m) ++ hs) (all_same n f g q ms same le)
 
--- a target lies deeper than the rule that has it
+-- a target is deeper than the rule that has it
 target_same : (c : Configuration) (f g : Path → List Hit) (p r : Path) (children : Bool) → AreSame (length p) f g → 1 ≤ length r →
     (if children then member_hits f (p ++ r) (kids c (p ++ r)) else not_too_deep f (p ++ r)) ≡ (if children then member_hits g (p ++ r) (kids c (p ++ r)) else not_too_deep g (p ++ r))
 target_same c f g p r true same h =

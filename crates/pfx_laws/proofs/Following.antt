@@ -1,4 +1,4 @@
--- What happens to nodes happens in the world.
+-- The events of nodes are events of the world.
 use Rattle.std.proofs.Common.{◌≡◌, ◌∙◌, sym, ap, subst, refl, ℕ, ◌+◌, ◌<◌, ◌≤◌, true, false, ◌&&◌, nat_lt, nat_eq, List, [], ◌∷◌, ◌++◌, Option, Some, None, lt-ltb, arith, inl, inr}
 use Rattle.std.specs.Prelude.{IfSome}
 use Rattle.std.proofs.lemmas.Bool.{and_from, cond-true, cond-false, false_from_ne_true, eqb-true, eq-eqb}
@@ -38,7 +38,7 @@ record IsAction (w : World Bytes) (m : ℕ) (x : Input Bytes) : Type 0 where
 no_client : (n : ℕ) → n ≤ 15 → client < n → ⊥
 no_client n few below = omega (arith, few, below)
 
--- whoever isn't a member only asks
+-- a sender that is no member only asks
 asked_from : (g : Group) (w : World Bytes) (m : ℕ) (message : node.Message Bytes) → g.members ≤ 15 →
     Passing g.members client m message → IsAction w m (Comes client message)
 asked_from g w m (Ask token c) few p = record { action = world.Action.AskFrom m token c; comes = refl }
@@ -80,12 +80,12 @@ comes_in g w sent m (Comes sender message) few spelled_so may = elim may.1 [
 
 -- ---- what is asked
 
--- a record whose number stays took nothing in
+-- no command was accepted where the record's number stays
 none_asked : (m : ℕ) (d e : Record Bytes) (command : Option Bytes) → e.meta.number ≡ d.meta.number → asked_of m d e command ≡ []
 none_asked m d e None same = refl
 none_asked m d e (Some c) same = cond-true (nat_eq e.meta.number d.meta.number) [] _ (eq-eqb e.meta.number d.meta.number same)
 
--- a record whose number goes up took the command in
+-- the command was accepted where the record's number goes up
 one_asked : (m k : ℕ) (d : Record Bytes) (command : Option Bytes) → k ≡ d.meta.number + 1 →
     asked_of m d (commit (Some (NewNumber k)) d) command ≡ asked_by m d.meta command (Some (NewNumber k))
 one_asked m k d None next = refl

@@ -36,7 +36,7 @@ hands_both : (xs ys : List (ℕ × Bytes)) → hands (xs ++ ys) ≡ hands xs ++ 
 hands_both [] ys = refl
 hands_both (d ∷ xs) ys = ap (λ (es : List WireEvent). Handed d.0 d.1 ∷ es) (hands_both xs ys)
 
--- A run that stops before its last datagrams are handed over is one to which the same happened.
+-- A run that stops before its last datagrams are handed over is one with the same trace.
 pub fronts_are_runs : (g : Group) (m : ℕ) (first : Record Bytes) (events : List WireEvent) (more : List (ℕ × Bytes)) (trace : List TraceEvent)
     (end : NodeState Bytes) (unanswered : List Bytes) → Ran g m first (events ++ hands more) trace end unanswered →
     Ran g m first events trace end unanswered
@@ -87,7 +87,7 @@ handed_front (Gave b ∷ front) rest d n = handed_front front rest d n
 handed_front (Handed to b ∷ front) rest d (inl is) = inl is
 handed_front (Handed to b ∷ front) rest d (inr n) = inr (handed_front front rest d n)
 
--- a front of what goes over the wire: moves, and what happened to the member in them, from this state on; these were kept
+-- a prefix of what goes over the wire: moves, and the member's trace in them, from this state on; these were kept
 record Cut (g : Group) (m : ℕ) (hears : Bool) (ms : List Move) (s t : NodeState Bytes) (before : List Bytes) (kept : List (ℕ × Bytes))
     (front : List WireEvent) : Type 0 where
   moves : List Move

@@ -1,4 +1,4 @@
--- What members lived is a history.
+-- Members' traces make a history.
 use Rattle.std.proofs.Common.{sym, subst, refl, ℕ, ◌<◌, nat_eq, List, [], ◌∷◌, inl, inr}
 use Rattle.std.proofs.lemmas.Bool.{cond-true, cond-false, eq-eqb}
 use Rattle.std.proofs.lemmas.Bool.Decides.{eqb_tells}
@@ -12,11 +12,11 @@ use Rattle.pfx_laws.specs.Clusters.{Cluster, ClusterEvent, MayAllHappen, next}
 use Rattle.pfx_laws.specs.Clusters.ClusterEvent.{Calls, Stops, Opens}
 use Rattle.pfx_laws.specs.Lives.{member_of, trace_event, trace_of, AreOfMembers, AreDelivered, LivesAreHistories}
 
--- how the members stand, and what happens to each from there on
+-- the members' states, and the trace of each from there on
 abbrev Live : Group → (ℕ → NodeState Bytes) → List ClusterEvent → Type 0
 Live g nodes hs = (m : ℕ) → m < g.members → (t : NodeState Bytes) × Lived g m (nodes m) (trace_of m hs) t
 
--- what happens to a member first is what happens to it first
+-- the first event of a member's trace is its first event in the history
 own : (g : Group) (nodes : ℕ → NodeState Bytes) (h : ClusterEvent) (hs : List ClusterEvent) → member_of h < g.members → Live g nodes (h ∷ hs) →
     (t : NodeState Bytes) × Lived g (member_of h) (nodes (member_of h)) (trace_event h ∷ trace_of (member_of h) hs) t
 own g nodes h hs below live =
@@ -27,7 +27,7 @@ own g nodes h hs below live =
           (cond-true (nat_eq m m) (trace_event h ∷ trace_of m hs) (trace_of m hs) (eq-eqb m m refl)) l.1,
     )
 
--- the others go on as they stood
+-- the other members' states don't change
 on : (g : Group) (nodes : ℕ → NodeState Bytes) (h : ClusterEvent) (hs : List ClusterEvent) (s t : NodeState Bytes) →
     Live g nodes (h ∷ hs) → Lived g (member_of h) s (trace_of (member_of h) hs) t → Live g (put nodes (member_of h) s) hs
 on g nodes h hs s t live mine m below =

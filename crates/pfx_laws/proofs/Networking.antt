@@ -1,4 +1,4 @@
--- From what goes over the members' wires, run after run, to stretches of what happened to them.
+-- From what goes over the members' wires, run after run, to stretches of their traces.
 use Rattle.std.proofs.Common.{◌≡◌, ◌∙◌, ◌⊎◌, sym, ap, subst, refl, true, ℕ, zero, suc, ◌<◌, ◌≤◌, Bool, nat_eq, List, [], ◌∷◌, ◌++◌, map, drop, Option, Some, None, inl, inr, arith, append_assoc}
 use Rattle.std.proofs.lemmas.Bool.{cond-true, cond-false, eq-eqb}
 use Rattle.std.proofs.lemmas.Bool.Decides.{eqb_tells}
@@ -39,11 +39,11 @@ use Rattle.pfx_laws.proofs.Lifting.{during, during_append, below_or}
 data Act (K : Type 0) : Type 0 where
   -- a call answers, for a datagram that came or for none
   Answers : (came : Option Bytes) (input : Input Bytes) (then : NodeState Bytes) (out : List Datagram) → Act K
-  -- a datagram comes, and nothing happens to the member
+  -- a datagram comes, and the member has no event
   Skips : (bytes : Bytes) → Act K
   -- a datagram that was sent is handed over, at first or again
   Resends : (to : ℕ) (bytes : Bytes) → Act K
-  -- a run starts; before it this happened to the member
+  -- a run starts; before it these were the member's events
   Begins : (key : K) (trace : List TraceEvent) → Act K
 
 abbrev trace_of_acts : {K : Type 0} → List (Act K) → List TraceEvent
@@ -117,7 +117,7 @@ messages_both g xs ys a b d n = elim (among_cases xs ys d n) [ inl here ↦ a d 
 
 -- ---- one event
 
--- The next thing that happens at a member: what happens to the member by then, and what it still does.
+-- The next event at a member: the member's trace by then, and what it still does.
 record Stepped {K : Type 0} (g : Group) (m : ℕ) (came : List Bytes) (sent : List (ℕ × Bytes)) (xs : List (Act K)) (e : RunEvent K WireEvent)
     (es : List (RunEvent K WireEvent)) : Type 0 where
   trace : List TraceEvent
@@ -346,7 +346,7 @@ record Whole {K : Type 0} (g : Group) (plans : ℕ → List (Act K)) (sent : Lis
   carried : AreCarried g stretches sent
   trace : (m : ℕ) → m < g.members → trace_in m stretches ≡ trace_of_acts (plans m)
 
--- what came to each member was carried
+-- what each member received was carried
 abbrev HasCome : Group → (came : ℕ → List Bytes) → (sent : List (ℕ × Bytes)) → Type 0
 HasCome g came sent = (m : ℕ) (bytes : Bytes) → m < g.members → Among (came m) bytes → IsCarried g sent m bytes
 
@@ -676,7 +676,7 @@ module _ {K : Type 0} (g : Group) (m : ℕ) where
       (λ all d. s all many (subst (λ (bs : List Bytes). AreAmong bs all) (sym ran.came)
       (among_then (given_in ran.last) (more ++ given_in ran.last) all (among_back (given_in ran.last) more (given_in ran.last) (among_all (given_in ran.last))) d))))))
 
-  -- what a member does that stands so, in its next runs
+  -- what a member in this state does in its next runs
   record Later (s : NodeState Bytes) (unanswered : List Bytes) (runs : List (Run K)) (events : List (RunEvent K WireEvent)) : Type 0 where
     acts : List (Act K)
     happens : happen acts ≡ events

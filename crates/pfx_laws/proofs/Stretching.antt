@@ -1,4 +1,4 @@
--- What members live are stretches.
+-- Members' traces are stretches.
 use Rattle.std.proofs.Common.{sym, subst, refl, ℕ, ◌<◌, Bool, List, [], ◌∷◌, ◌++◌, Option, Some, None}
 use Rattle.std.proofs.lemmas.List.{append-nil}
 use Rattle.px_model.specs.Node.{Record, Input}
@@ -22,7 +22,7 @@ use Rattle.pfx_laws.specs.Wires.{trace_in, led_to}
 use Rattle.pfx_laws.specs.Runs.{IsStretch, IsNew, LivesGo, stretch_of, stretch_to, LivesAreStretches, OpeningsAreStretches}
 use Rattle.pfx_laws.proofs.Carrying.{lived_to}
 
--- ---- lives
+-- ---- traces
 
 as_led : (g : Group) (me : ℕ) (s t : NodeState Bytes) (ds : List TraceEvent) → Lived g me s ds t → Lived g me s ds (led_to s ds)
 as_led g me s t ds l = subst (λ (u : NodeState Bytes). Lived g me s ds u) (lived_to g me s t ds l) l

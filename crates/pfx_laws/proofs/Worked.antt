@@ -25,8 +25,8 @@ use Rattle.pfx_laws.specs.Sealed.{Keyed, IsUnopened, PacketsCarry, IsSealed}
 empty_is_nobodys : (g : Group) (m : ℕ) → IsOutside g m []
 empty_is_nobodys g m from x spelled = let e : 0 ≡ 0x50 = ap (λ (b : Bytes). slice_index b 0) spelled.spelled in absurd cc
 
--- Member 0's clock ticks, and it hands out one datagram for member 1. Member 1's wire gives it twice; member 2's gives a
--- request from outside that nobody handed over, and an empty datagram in place of one that it dropped. A network may
+-- Member 0's clock ticks, and it hands out one datagram for member 1. Member 1's wire gives it twice; member 2's gives
+-- a request from outside that nobody handed over, and an empty datagram in place of one that it dropped. A network may
 -- carry all of this.
 pub may_be_carried : (g : Group) (t u v : NodeState Bytes) (d : Datagram) (ask : Bytes) → d.to ≡ 1 → IsOutside g 2 ask →
     AreCarried g (record { member = 0; trace = Calls Ticks t (d ∷ []) ∷ []; gave = [] }
@@ -73,8 +73,8 @@ misled_is_not g t d sender x to spelled other carried = elim (carried.1.0 d.byte
 
 -- ---- at sockets, wherever members start again
 
--- Member 0's socket is handed a datagram, which comes to member 1; member 0 starts again, and the datagram comes to
--- member 1 again. To member 2 comes a request from outside, and an empty datagram. Sockets may carry all of this.
+-- Member 0's socket is handed a datagram, which member 1 receives; member 0 starts again, and member 1 receives the
+-- datagram again. Member 2 receives a request from outside, and an empty datagram. Sockets may carry all of this.
 pub may_come : (g : Group) (there from : SocketAddr) (d ask : Bytes) → 2 < g.members → IsOutside g 2 ask →
     SocketsCarry g ((0, Starts tt) ∷ (1, Starts tt) ∷ (2, Starts tt) ∷ (0, During (Went there d)) ∷ (1, During (Came from d)) ∷ (0, Starts tt)
     ∷ (1, During (Came from d)) ∷ (2, During (Came from ask)) ∷ (2, During (Came from [])) ∷ []) []
@@ -134,7 +134,8 @@ nothing_yet g m first = record {
 abbrev idle : Record Bytes → Run (Unit {0})
 idle d = record { key = tt; first = d; trace = []; end = started d; unanswered = [] }
 
--- A member starts, stops at some moment of a tick that changes nothing, and starts again over the record that this left.
+-- A member starts, stops at some moment of a tick that changes nothing, and starts again over the record that this
+-- left.
 pub starts_again : (g : Group) (m : ℕ) →
     AreRuns g m (IsRun g m) IsEmpty (idle nothing_stored ∷ idle nothing_stored ∷ [])
     (Starts tt ∷ Starts tt ∷ [])
@@ -166,13 +167,13 @@ store_goes_on G m given back next end events later a b empty left = (
   (a.leaves.stop (G.stored next) left, later, [], b.ran, refl, refl),
 )
 
--- what happened to it
+-- its trace
 pub befell_it : IsTrace (idle nothing_stored ∷ idle nothing_stored ∷ []) (Stops Ticks nothing_stored ∷ Opens ∷ [])
 befell_it = (Stops Ticks nothing_stored ∷ Opens ∷ [], refl, (Ticks, [], refl, refl))
 
 -- ---- with a key
 
--- A packet of an earlier start of member 0 comes to member 1, which opens it, after member 0 started again.
+-- Member 1 receives a packet of an earlier start of member 0 and opens it, after member 0 started again.
 pub earlier_start_may_come : (k l here : Keyed) (there from : SocketAddr) (packet : Bytes) →
     PacketsCarry 2 (λ m. None) ((0, Starts k) ∷ (1, Starts here) ∷ (0, During (Went there packet)) ∷ (0, Starts l) ∷ (1, During (Came from packet)) ∷ []) []
 earlier_start_may_come k l here there from packet =

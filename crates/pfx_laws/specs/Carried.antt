@@ -15,23 +15,23 @@ use Rattle.pfx_laws.specs.Clusters.{MayAllHappen, after, begun}
 use Rattle.pfx_laws.specs.Promised.{IsGroup}
 use Rattle.pfx_laws.specs.Wires.{Stretch, AreStretches, AreCarried, trace_in, stand, history_of}
 
--- These stretches happened in a cluster, in this order. What happened to each member in its own, one after another, are
--- steps of the model from an empty record on. And the network gave a member no datagram but those that had been handed
--- to some wire for that member before, requests from outside, and what is no member's message to it.
+-- These are stretches of members' traces in a cluster, in this order. The events of each member in its own, one after
+-- another, are steps of the model from an empty record on. And the network gave a member no datagram but those that had
+-- been handed to some wire for that member before, requests from outside, and what is no member's message to it.
 pub record Goes (g : Group) (stretches : List Stretch) : Type 0 where
   pub group : IsGroup g
   pub are : AreStretches g stretches
   pub lived : (m : ℕ) → m < g.members → Lived g m (started nothing_stored) (trace_in m stretches) (stand stretches m)
   pub carried : AreCarried g stretches []
 
--- what happened to the members is a history of the cluster, which leaves each of them as it stands
+-- the members' events are a history of the cluster, which leaves each of them in the state after its stretches
 abbrev pub WiresAreHistories : Type 0
 WiresAreHistories =
     (g : Group) (stretches : List Stretch) → Goes g stretches →
     MayAllHappen g (history_of stretches) begun ×
     ((m : ℕ) → (after (history_of stretches) begun).nodes m ≡ stand stretches m)
 
--- a member that stands so has the entry as learned
+-- a member in this state has the entry as learned
 abbrev pub HasLearned : NodeState Bytes → (position : ℕ) → Entry Bytes → Type 0
 HasLearned s p e = s.stored.learned p ≡ Some e
 
@@ -57,7 +57,7 @@ WiresLearnWhatWasAsked =
     ((e f : Entry Bytes) → Among (asked_in stretches) e → Among (asked_in stretches) f →
     e.origin ≡ f.origin → e.number ≡ f.number → e ≡ f)
 
--- the node is the member that stands so; its record is honest: it answers what was written, and nobody else writes
+-- the node is the member in this state; its record is honest: it returns what was written, and nobody else writes
 pub record StandsSo {R : Type 0} {G : Ghosts R} (x : Node R G) (s : NodeState Bytes) : Type 0 where
   pub works : has_failed x ≡ false
   pub honest : G.is_honest (records_of x)

@@ -1,4 +1,4 @@
--- Nodes over any records, and what may happen to them, in the terms of a node's contracts.
+-- Nodes over any records, and their possible events, in the terms of a node's contracts.
 use Rattle.std.specs.Prelude.{◌≡◌, ◌⊎◌, ◌<◌, ℕ, true, List, [], ◌∷◌, ◌++◌, Option, None, Some}
 use Rattle.std.specs.Prelude.{slice_get, nat_eq, if◌then◌else◌}
 use Rattle.px_model.specs.Node as node
@@ -33,9 +33,9 @@ asked_of m d e (Some command) =
     if nat_eq e.meta.number d.meta.number then [] else
     (record { origin = m; number = d.meta.number; command = command } ∷ [])
 
--- What happens to a member.
+-- An event of a member.
 pub data ClusterEvent : Type 0 where
-  -- a call on it answered Ok: it stands so then, and handed out these datagrams
+  -- a call on it returned Ok: this is its state then, and it handed out these datagrams
   Calls : (member : ℕ) (input : Input Bytes) (after : NodeState Bytes) (out : List Datagram) → ClusterEvent
   -- it stopped at some moment of a call, or its store failed, and the record was left so
   Stops : (member : ℕ) (input : Input Bytes) (left : Record Bytes) → ClusterEvent
@@ -74,7 +74,7 @@ MayHappen g c (Calls m x t out) = Runs g c m × (MayCome g c.sent m x × Makes g
 MayHappen g c (Stops m x left) = Runs g c m × (MayCome g c.sent m x × LeavesOne g.members m (c.nodes m) x left)
 MayHappen g c (Opens m) = m < g.members
 
--- how the cluster stands then
+-- the cluster's state then
 abbrev pub next : Cluster → ClusterEvent → Cluster
 next c (Calls m x t out) = record {
   nodes = put c.nodes m t;

@@ -9,8 +9,8 @@ use Rattle.px_transport.specs.Sending.{Sealer}
 use Rattle.node_udp.specs.Sockets.{SocketEvent}
 use Rattle.node_control.specs.Sockets.{RanAt, RanSealed}
 
--- Of what happened to the member a front, of which this holds, with how the member is behind it and what is unanswered
--- then. From there on the rest happened to it.
+-- A prefix of the member's trace, of which this holds, with the member's state after it and what is unanswered then.
+-- From there on the rest is a trace of the member.
 pub record Front (g : Group) (m : ℕ) (Is : List TraceEvent → NodeState Bytes → List Bytes → Type 0)
     (trace : List TraceEvent) (end : NodeState Bytes) : Type 0 where
   pub before : List TraceEvent
@@ -21,8 +21,8 @@ pub record Front (g : Group) (m : ℕ) (Is : List TraceEvent → NodeState Bytes
   pub all : trace ≡ before ++ later
   pub goes_on : Lived g m then later end
 
--- Wherever what went over a run's socket is cut off, without a key or with one, the front of it is what went over the
--- socket of a run: a front of what happened to the member happened to it.
+-- Wherever what went over a run's socket is cut off, without a key or with one, the prefix of it is what went over the
+-- socket of a run, whose trace is a prefix of the member's trace.
 abbrev pub FrontsAreRuns : Type 0
 FrontsAreRuns =
     (g : Group) (m : ℕ) (first : Record Bytes) (front back : List SocketEvent) (trace : List TraceEvent)

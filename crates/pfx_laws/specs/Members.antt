@@ -1,4 +1,4 @@
--- Members that stop and start again: what happens to each, run after run.
+-- Members that stop and start again: the trace of each, run after run.
 use Rattle.std.specs.Prelude.{◌≡◌, ◌<◌, ℕ, List, [], ◌∷◌, ◌++◌, map, nat_eq, if◌then◌else◌}
 use Rattle.px_model.specs.Law.{Among, NoneTwice}
 use Rattle.px_model.specs.Node.{Record, Input, Entry}
@@ -18,18 +18,18 @@ use Rattle.pfx_laws.specs.Carried.{Goes, HasLearned, StandsSo, asked_in}
 
 -- ---- runs
 
--- what happens at a member: a run starts, with a key or none, or something goes over its wire or its socket in that run
+-- an event at a member: a run starts, with a key or none, or something goes over its wire or its socket in that run
 pub data RunEvent (K X : Type 0) : Type 0 where
   Starts : (key : K) → RunEvent K X
   During : (event : X) → RunEvent K X
 
--- of what happens at members, each with its member, what is this member's
+-- of events at members, each with its member, those at this member
 abbrev pub events_at : {X : Type 0} → (member : ℕ) → List (ℕ × X) → List X
 events_at m [] = []
 events_at m (x ∷ xs) = if nat_eq m x.0 then x.1 ∷ events_at m xs else events_at m xs
 
--- A run of a member: its key, if there is one; the record with which it is opened; what happens to it; how it is in
--- the end; and what came for the call that failed there, if one did, and after it.
+-- A run of a member: its key, if there is one; the record with which it is opened; its trace; its state at the end; and
+-- what came for the call that failed there, if one did, and after it.
 pub record Run (K : Type 0) : Type 0 where
   pub key : K
   pub first : Record Bytes
@@ -41,8 +41,8 @@ pub record Run (K : Type 0) : Type 0 where
 abbrev pub Runs : (K : Type 0) → Type 0
 Runs K = (member : ℕ) → List (Run K)
 
--- Runs of a member one after another, and what happens in them. The first is opened with such a record, and each next
--- one with what a stop may have left of the member as it stood in the end of the one before.
+-- Runs of a member one after another, and the events in them. The first is opened with such a record, and each next
+-- one with what a stop may have left of the member's state at the end of the one before.
 abbrev pub AreRuns : {K X : Type 0} → Group → (m : ℕ) → (Is : Run K → List X → Type 0) →
     (IsLeft : Record Bytes → Type 0) → List (Run K) → List (RunEvent K X) → Type 0
 AreRuns g m Is IsLeft [] events = events ≡ []
@@ -55,7 +55,7 @@ AreRuns {K} {X} g m Is IsLeft (r ∷ rs) events =
 abbrev pub IsEmpty : Record Bytes → Type 0
 IsEmpty d = d ≡ nothing_stored
 
--- how a member stands after runs; before its first one it has a new store
+-- a member's state after runs; before its first one it has a new store
 abbrev pub stands_after : {K : Type 0} → NodeState Bytes → List (Run K) → NodeState Bytes
 stands_after s [] = s
 stands_after s (r ∷ rs) = stands_after r.end rs
@@ -78,8 +78,8 @@ IsTrace (r ∷ rs) trace = (later : List TraceEvent) × (trace ≡ r.trace ++ la
 
 -- ---- what is promised of them
 
--- What happened to the members went in these stretches, one after another, which leave each of them as it stands. So
--- what is promised of stretches is promised of them.
+-- The members' traces are these stretches, one after another, which leave each of them in its state. So what is
+-- promised of stretches is promised of them.
 pub record InStretches {K : Type 0} (g : Group) (runs : Runs K) (stretches : List Stretch) : Type 0 where
   pub goes : Goes g stretches
   pub happened : (m : ℕ) → m < g.members → IsTrace (runs m) (trace_in m stretches)
@@ -102,7 +102,7 @@ LearnWhatWasAsked g runs stretches =
     ((m p : ℕ) (e : Entry Bytes) → m < g.members → EverLearned (runs m) p e → Among (asked_in stretches) e) ×
     NoneTwice (asked_in stretches)
 
--- the node is a member as that stood in the end of one of its runs
+-- the node is a member in its state at the end of one of its runs
 abbrev pub EverStood : {K R : Type 0} {G : Ghosts R} → Node R G → List (Run K) → Type 0
 EverStood {K} {R} {G} x rs = (r : Run K) × Among rs r × StandsSo x r.end
 

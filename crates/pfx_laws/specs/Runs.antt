@@ -1,4 +1,4 @@
--- Runs of members over their wires, as stretches of their lives.
+-- Runs of members over their wires, as stretches of their traces.
 use Rattle.std.specs.Prelude.{◌≡◌, ◌<◌, ℕ, List, [], ◌∷◌, ◌++◌, Option}
 use Rattle.px_model.specs.Node.{Record, Input}
 use Rattle.px_model.specs.Spelling.{Bytes}
@@ -16,16 +16,16 @@ use Rattle.pfx_laws.specs.Promised.{IsGroup}
 use Rattle.pfx_laws.specs.Wires.{Stretch, AreStretches, AreCarried, trace_in, led_to, stand}
 use Rattle.pfx_laws.specs.Carried.{Goes}
 
--- ---- from a life to a stretch
+-- ---- from a trace to a stretch
 
--- Steps of the model, one after the other, happened to a member of the group from there on; and each message that came
--- to it its wire gave it in a datagram.
+-- The member of the group made steps of the model, one after the other, from there on; and each message that it
+-- received its wire gave it in a datagram.
 pub record IsStretch (g : Group) (from : NodeState Bytes) (x : Stretch) : Type 0 where
   pub below : x.member < g.members
   pub lived : Lived g x.member from x.trace (led_to from x.trace)
   pub brought : AreBrought g x.member x.gave (messages_of x.trace)
 
--- the stretch that it lived, up to the call that failed, if one did
+-- the stretch of its trace, up to the call that failed, if one did
 abbrev pub stretch_of : {R : Type 0} {G : Ghosts R} (x z : Stand G) (answered : Option NodeFault) →
     Living x z answered → Stretch
 stretch_of x z answered l = record {
@@ -34,7 +34,7 @@ stretch_of x z answered l = record {
   gave = came_by l.moves;
 }
 
--- the stretch that it lived and in which it stopped, in a call for this input
+-- the stretch of its trace in which it stopped, in a call for this input
 abbrev pub stretch_to : {R : Type 0} {G : Ghosts R} (x z : Stand G) (answered : Option NodeFault) →
     Living x z answered → Input Bytes → Record Bytes → Stretch
 stretch_to x z answered l input left = record {
@@ -43,8 +43,8 @@ stretch_to x z answered l input left = record {
   gave = came_by l.moves ++ given_in l.last;
 }
 
--- What a member lived is a stretch from where it began, and leads to where it stands. And whatever a stop in the end
--- may leave of its record, it lived a stretch that ends with that stop.
+-- A member's trace is a stretch from where it began, and leads to its state. And whatever a stop in the end may leave
+-- of its record, there is a stretch of it that ends with that stop.
 abbrev pub LivesAreStretches : {R : Type 0} → Ghosts R → Type 0
 LivesAreStretches G =
     (x z : Stand G) (answered : Option NodeFault) (l : Living x z answered) →
@@ -59,7 +59,7 @@ LivesAreStretches G =
 abbrev pub opened : Stretch → Stretch
 opened x = record x { trace = Opens ∷ x.trace }
 
--- what a member lived from an opening on is a stretch from wherever it stood before, running or stopped
+-- the trace of a member from an opening on is a stretch from any state before, running or stopped
 abbrev pub OpeningsAreStretches : Type 0
 OpeningsAreStretches =
     (g : Group) (s : NodeState Bytes) (x : Stretch) → IsStretch g (started s.stored) x → IsStretch g s (opened x)
@@ -72,9 +72,9 @@ pub record IsNew {R : Type 0} {G : Ghosts R} (g : Group) (m : ℕ) (x : Stand G)
   pub me : (membership_of x.replica).me ≡ m
   pub empty : state_in x.replica ≡ started nothing_stored
 
--- Members live side by side, each over a record of its own from empty on; what happened to them happened in some order,
--- in stretches of one thing or several; and of what their wires gave and were handed in these the network is such a
--- one. Then what is promised of stretches is promised of them, and each of them stands as its stretches lead it.
+-- Members run side by side, each over a record of its own from empty on; their traces are cut into stretches of one
+-- event or several, in some order; and of what their wires gave and were handed in these the network is such a one.
+-- Then the promises for stretches hold, and the state of each member is the one after its stretches.
 abbrev pub LivesGo : {R : Type 0} → Ghosts R → Type 0
 LivesGo G =
     (g : Group) → IsGroup g → (from to : (m : ℕ) → Stand G) (answered : (m : ℕ) → Option NodeFault)

@@ -10,6 +10,6 @@ abbrev pub AreHits : Configuration → PacketValue → (Path → List Hit) → T
 AreHits c k at = (p : Path) → length p ≤ 8 →
     at p ≡ hits_with (tables_in c p) (target_hits at c p) k p 0 (rules_at c p)
 
--- what is said of the packet where this is hit at the paths
+-- the judgement on the packet where these are the hits at the paths
 abbrev pub judged_by : Configuration → PacketValue → (Path → List Hit) → Judgement
 judged_by c k at = if is_skipped c.skip k then Skipped else Decided (last_spot (at []))

@@ -11,9 +11,9 @@ ghost use Rattle.pfx_laws.specs.Alone.{alone};
 ghost use Rattle.pfx_laws.specs.Targets.{has_target, have_targets};
 ghost use Rattle.pfx_laws.specs.Walks.{AreHits, judged_by};
 
-/// The hits of a verdict, which the definition follows through nine levels of anchors, are what the rules of each
-/// path come to by the hits at their targets: nothing is cut off at the ninth. The target of each
-/// anchor rule has 1 to 8 names, as the grammar has it.
+/// The hits of a verdict, which the definition follows through nine levels of anchors, are what the rules of each path
+/// give with the hits at their targets: nothing is cut off at the ninth. The target of each anchor rule has 1 to 8
+/// names, as the grammar has it.
 pub fn nine_levels_are_all()
     ensures { (c : Configuration) (k : PacketValue) → have_targets c ≡ true → AreHits c k (hits 9 c k) }
 {}
@@ -27,7 +27,7 @@ pub fn one_walk()
         AreHits c k at → judgement c k ≡ judged_by c k at }
 {}
 
-/// What rules alone come to, without a configuration, is the verdict of the configuration that has them at main, and no
+/// The verdict of rules alone, without a configuration, is that of the configuration that has them at main, and no
 /// table and no other anchor.
 pub fn flat_verdicts_are_verdicts()
     ensures { (skip : List Name) (rules : List AnyRule) (k : PacketValue) → list_all has_target rules ≡ true →

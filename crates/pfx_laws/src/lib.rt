@@ -2,9 +2,9 @@
 //!
 //! # Organization
 //!
-//! - [`nodes`]: whatever happens to nodes is a run of px_model's world, the members never differ, equally many applied
-//!   positions give one configuration. `specs/Clusters` says what may happen to the nodes of a cluster, in the terms of
-//!   a node's contracts: a call that answered, one that a stop or a failing store cut short, an opening of what was
+//! - [`nodes`]: any events of nodes are a run of px_model's world, the members never differ, equally many applied
+//!   positions give one configuration. `specs/Clusters` defines what may happen to the nodes of a cluster, in the terms
+//!   of a node's contracts: a call that answered, one that a stop or a failing store cut short, an opening of what was
 //!   left. `specs/Members` has runs of members that stop and start again, `specs/Sockets` and `specs/Sealed` the law in
 //!   terms of what goes over their sockets, without a key and with one.
 //! - [`nine_levels_are_all`], [`one_walk`]: the hits of a verdict are those of one equation over all paths.

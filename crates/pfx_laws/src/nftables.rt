@@ -1,4 +1,4 @@
-//! What stands between a configuration and the kernel: labels in nftables' text, and anchor rules that lead back.
+//! What is between a configuration and the kernel: labels in nftables' text, and anchor rules that lead back.
 
 ghost use Rattle.std.specs.Prelude.{◌≡◌, ◌≢◌, ◌<◌, ◌^◌, ◌++◌, ℕ, List, codes, false, length, true};
 ghost use Rattle.pf_rules.specs.declared.parts.Direction.{Direction};

@@ -14,15 +14,16 @@ ghost use Rattle.pfx_laws.specs.Sealed.{SealedSocketsGo, SealedSocketsLearnWhatW
 
 use px_records::Records;
 
-/// What members lived, each from an empty record, is a history, in whatever order of theirs each datagram that one took
-/// had been handed out to it. What turns make is such a life (`node_loop::laws::turns_are_lived`).
+/// Any traces of members, each from an empty record, make a history, in any order of their events in which each
+/// datagram that one received had been handed out to it before. What turns make is such a trace
+/// (`node_loop::laws::turns_are_lived`).
 pub fn lives_are_histories()
     ensures { LivesAreHistories }
 {}
 
-/// Whatever happens to nodes over any records, calls, stops in the midst of one, failures of a store, openings, and
-/// datagrams lost, repeated, delayed and reordered: it is a run of the world. Its members are the nodes, with their
-/// records, and its messages are what they handed out, in order.
+/// Any events of nodes over any records are a run of the world: calls, stops in the midst of one, failures of a store,
+/// openings, and datagrams lost, repeated, delayed and reordered. Its members are the nodes, with their records, and
+/// its messages are what they handed out, in order.
 ///
 /// Source: Paxos Made Simple, 2.1.
 pub fn histories_are_runs()
@@ -52,20 +53,20 @@ pub fn equally_applied_nodes_are_equal<R: Records, Q: Records>()
     ensures { EquallyApplied R.Records Q.Records }
 {}
 
-/// What a member lived is a stretch of its life, which leads to where it is in the end; and what it lived up to a
-/// stop there is one, whatever that leaves.
+/// A member's trace is a stretch, which leads to its state at the end; and its trace up to a stop there is one,
+/// whatever that leaves.
 pub fn lives_are_stretches<R: Records>()
     ensures { LivesAreStretches R.Records }
 {}
 
-/// What a member lived from an opening on is a stretch, with that opening, from wherever it stood before.
+/// A member's trace from an opening on is a stretch, with that opening, from any state before.
 pub fn openings_are_stretches()
     ensures { OpeningsAreStretches }
 {}
 
-/// What happened to members in stretches, one of one member after another, is a history where each lived from an empty
-/// record on, and their wires gave no datagram but those that some wire had been handed for that member before,
-/// repeated, late and in whatever order, and asks from outside. It leaves each member as it stands.
+/// Stretches of members' traces, one of one member after another, are a history where each member's trace is from an
+/// empty record on, and their wires gave no datagram but those that some wire had been handed for that member before,
+/// repeated, late and in whatever order, and asks from outside. It leaves each member in the state after its stretches.
 pub fn wires_are_histories()
     ensures { WiresAreHistories }
 {}
@@ -87,16 +88,16 @@ pub fn equally_applied_over_wires<R: Records, Q: Records>()
     ensures { EquallyAppliedOverWires R.Records Q.Records }
 {}
 
-/// Members that run side by side, each from an empty record on, in whatever order of what happened to them such a
-/// network is there: these laws hold of them as they are in the end.
+/// Members that run side by side, each from an empty record on, and any order of their events in which the network is
+/// such a one: these laws hold of their states at the end.
 pub fn lives_go<R: Records>()
     ensures { LivesGo R.Records }
 {}
 
 /// Members that run one after another over sockets, each run over what a stop may have left of the one before, and to
-/// whose sockets no datagram comes but those that some member's socket was handed before, and asks from outside: what
-/// happened to them went in stretches, and these laws hold of them as they are in the end. What a run is at its socket,
-/// node_control says (`specs/Sockets`).
+/// whose sockets no datagram comes but those that some member's socket was handed before, and asks from outside: their
+/// traces are made of stretches, and these laws hold of their states at the end. What a run is at its socket is defined
+/// in node_control (`specs/Sockets`).
 pub fn sockets_go()
     ensures { SocketsGo }
 {}
@@ -120,8 +121,8 @@ pub fn equally_applied_at_sockets<R: Records, Q: Records>()
 {}
 
 /// Members with a key, which run one after another, each run from a start of its own, and to whose sockets no packet
-/// comes that they open but those that some member's socket was handed before, in any run: what happened to them went
-/// in stretches, and these laws hold of them as they are in the end.
+/// comes that they open but those that some member's socket was handed before, in any run: their traces are made of
+/// stretches, and these laws hold of their states at the end.
 pub fn sealed_sockets_go()
     ensures { SealedSocketsGo }
 {

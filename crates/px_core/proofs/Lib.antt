@@ -9,13 +9,14 @@
 -- - Each case of the step is a function of its own with `unfolding` of its definition, and answers a `Plan` for any log
 --   and volatile part (`plan_of n me log v plan ≡ on_prepare ..`) where it reads none of them, else for the core (`made
 --   self.now plan ≡ ..`). Only the answers of `room` at idle plans are written, one line each.
--- - `plan_event` makes the plan, and `plan` says of its answer what can be spelled: one lemma by cases on the answer
+-- - `plan_event` makes the plan, and `plan` states of its answer what can be spelled: one lemma by cases on the answer
 --   (`answer_fits`), with one return to prove.
 -- - `settle` hands the `Next` to `take_over`, whose clauses are two definitions by cases (`settled`, `learning`); 'nothing
 --   below the front changes' and 'the front doesn't fall' are lemmas about `learning`, by the same cases. Over the joined
 --   branches of one long function the search gave up.
--- - The ring of votes: cells carry their position, the ghost field says that each is below `front + 64`, and `kept_in`
---   says what they stand for. A front that moves is `kept_advanced`, a vote `kept_set`, a cleared ring `kept_none`.
+-- - The ring of votes: cells carry their position, the ghost field states that each is below `front + 64`, and
+--   `kept_in` defines what they stand for. A front that moves is `kept_advanced`, a vote `kept_set`, a cleared ring
+--   `kept_none`.
 -- - A ghost field `front (learned_in learned.items) ≡ votes.front`: the front costs no walk.
 -- - `IsFor`, `IsKept`, `IsOpen` and `CoreFits` are records: search takes them apart.
 -- - That out of memory is answered only where the step isn't refused (`IsPlanned`) closed without an answer.

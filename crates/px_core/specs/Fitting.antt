@@ -1,5 +1,5 @@
--- What a core keeps, is handed and sends can be spelled: the model's `Fits` over a core. The test says which commands
--- have a spelling.
+-- What a core keeps, is handed and sends can be spelled: the model's `Fits` over a core. The test decides which
+-- commands have a spelling.
 use Rattle.std.specs.Prelude.{ℕ, ◌≤◌, Bool, IfSome}
 use Rattle.px_model.specs.Node as node
 use Rattle.px_model.specs.Step.{front, positions}

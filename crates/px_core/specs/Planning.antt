@@ -62,7 +62,7 @@ abbrev pub IsPlanned : Answer Bytes → Type 0
 IsPlanned (Answer.Refused code) = ⊥
 IsPlanned (Answer.Planned plan) = Unit {0}
 
--- a refusal is the answer's, and memory wants where there is a plan to make
+-- a refusal is the model's, and out of memory is returned only where there is a plan to make
 abbrev pub IsRefusal : CoreFault → Answer Bytes → Type 0
 IsRefusal fault.Memory answer = IsPlanned answer
 IsRefusal fault.Full answer = answer ≡ Answer.Refused 60
@@ -102,12 +102,12 @@ learned_after (Some (node.Change.NewPromise p b)) log = log
 learned_after (Some (node.Change.NewAccepted p b e)) log = log
 learned_after (Some (node.Change.NewLearned p e)) log = put log p (Some e)
 
--- what stands for s takes the plan over
+-- what stands for s applies the plan
 abbrev pub settles : State → node.Plan Bytes → State
 settles s plan = record s { learned = learned_after plan.change s.learned; volatile = plan.volatile }
 
--- The plan is one for the core as it stands: there is room for it, and what it settles as learned is what its change
--- records.
+-- The plan is one for the core in its present state: there is room for it, and what it settles as learned is what its
+-- change records.
 pub record IsFor (plan : Plan) (core : Core) : Type 0 where
   pub room : HasRoom plan.next core
   pub agrees : (log : Log Bytes) → learned_after (option_map change_of plan.change) log ≡ learning plan.next log

@@ -99,7 +99,7 @@ impl Acceptor<'_> {
         })
     }
 
-    /// A prepare request for all positions. The top says from where on nothing is accepted.
+    /// A prepare request for all positions. From the top on nothing is accepted.
     #[tactic(auto, unfolding(px_model::specs::Step::on_prepare_all))]
     pub(crate) fn prepare_all(
         &self,

@@ -65,8 +65,8 @@ impl Learner {
 }
 
 impl Core {
-    /// The member `me` of a cluster, as it starts with an empty record. There are 1 to 15 members. Fails for want of
-    /// memory alone.
+    /// The member `me` of a cluster, as it starts with an empty record. There are 1 to 15 members. Fails only when out
+    /// of memory.
     #[tactic(auto, unfolding(crate::specs::Planning::state_of))]
     pub fn new(alloc: Global, members: u8, me: u8) -> Result<Core, AllocError>
         requires some { 1 ≤ members }
@@ -102,7 +102,7 @@ impl Core {
         Ok(())
     }
 
-    /// A restart in place: all is let go but what is learned. Takes no memory.
+    /// A restart in place: all is let go but what is learned. Allocates nothing.
     #[tactic(auto, unfolding(crate::specs::Planning::state_of))]
     pub fn forget(&mut self)
         ensures state { state_of self.new ≡ record (state_of self.old) { volatile = nothing_volatile } }

@@ -2,7 +2,8 @@
 use px_model::{Change, Entry, Message, Proposal};
 use thiserror::Error;
 
-/// Phase 1: who promised, the greatest top told, the reported proposal of highest ballot. Phase 2: the entry proposed.
+/// Phase 1: who promised, the greatest top reported, the reported proposal of highest ballot. Phase 2: the entry
+/// proposed.
 ///
 /// Source: Paxos Made Simple, 2.2.
 #[derive(Drop)]
@@ -49,7 +50,7 @@ pub enum Next {
         attempt: Option<Attempt>,
         lead: Option<Lead>,
     },
-    /// Attempt and lead are dropped where it says so, and this is the highest round heard of.
+    /// Attempt and lead are dropped where these are true, and this is the highest round heard of.
     Drops {
         attempt: bool,
         lead: bool,
@@ -116,7 +117,7 @@ pub enum CoreFault {
     /// Every position is learned, or every number is used.
     #[error("62")]
     PositionsSpent,
-    /// No memory. Only an event that isn't refused can meet it.
+    /// Out of memory. Only an event that isn't refused can meet it.
     #[error("memory")]
     Memory,
 }

@@ -19,7 +19,7 @@ use px_model::{EntryView, Event, Message, Meta, Slot};
 use std::alloc::AllocError;
 
 impl Core {
-    /// Makes room for an entry that the message may have learned. What the core stands for stays.
+    /// Reserves room for an entry that the message may have learned. What the core stands for doesn't change.
     fn make_room(&mut self, message: &Message<EntryView>) -> Result<(), AllocError>
         ensures room { OnOk result (RoomToLearn message.now self.new) }
         ensures volatile { volatile_in self.new ≡ volatile_in self.old }
@@ -122,13 +122,12 @@ impl Core {
     }
 
     /// What the member does on this event: the change to commit, and what is sent then. The slot is that of the event's
-    /// position and the top that of the whole record, where `Event::reads` says that they are read; elsewhere any will
-    /// do.
+    /// position and the top that of the whole record, where `Event::reads` lists them; elsewhere any will do.
     ///
-    /// Whatever is answered, the core stays what it stands for. A command is refused with `Full` where 64 entries wait,
-    /// else with `PositionsSpent` where every position is learned or every number used; a tick with `BallotsSpent`
-    /// where it needs a round and every one is used. Nothing else fails but for lack of memory. All growths that
-    /// `settle` will need are made.
+    /// Whatever the result, what the core stands for doesn't change. A command is refused with `Full` where 64 entries
+    /// wait, else with `PositionsSpent` where every position is learned or every number used; a tick with
+    /// `BallotsSpent` where it needs a round and every one is used. Every other fault is out of memory. All growths
+    /// that `settle` will need are made.
     ///
     /// What is sent can be spelled as a datagram, where what the core keeps and what it is handed can.
     ///

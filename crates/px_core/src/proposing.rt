@@ -59,7 +59,7 @@ fn marked(counted: &[bool; 15], member: u8) -> [bool; 15]
     next
 }
 
-/// The greatest top told, with this one; a member's counts once.
+/// The greatest top reported, with this one; a member's counts once.
 #[tactic(auto, unfolding(crate::specs::Seen::counted_of))]
 fn greatest_top(counted: &[bool; 15], member: u8, highest: u32, top: u32) -> u32
     requires { member < MEMBERS }

@@ -97,7 +97,7 @@ impl Proposer {
         drop(self.waiting.push(entry));
     }
 
-    /// Attempt and lead are dropped where it says so, and this is the highest round heard of.
+    /// Attempt and lead are dropped where these are true, and this is the highest round heard of.
     fn drop_refused(&mut self, attempt: bool, lead: bool, seen: u64)
         ensures waiting { self.new.waiting.items ≡ self.old.waiting.items }
         ensures attempt { self.new.attempt ≡ (if attempt then None else self.old.attempt) }
@@ -181,11 +181,11 @@ impl Core {
         }
     }
 
-    /// Takes over a plan that this core made as it now stands, and whose change is committed, and hands out what may be
-    /// sent then. It always succeeds and takes no memory. What was learned below the front stays, and the front doesn't
-    /// move back.
+    /// Takes over a plan that this core made in its present state, and whose change is committed, and hands out what
+    /// may be sent then. It always succeeds and allocates nothing. What was learned below the front stays, and the
+    /// front doesn't move back.
     ///
-    /// Source: Paxos Made Simple, 2.5: what a member does rests on what it has recorded.
+    /// Source: Paxos Made Simple, 2.5: what a member does depends on what it has recorded.
     #[tactic(auto, unfolding(crate::specs::Planning::state_of, crate::specs::Planning::volatile_after))]
     pub fn settle(&mut self, plan: Plan) -> Sends
         requires { IsFor plan self.old }

@@ -1,8 +1,8 @@
 //! The kept votes: for each member the highest ballot that it is known to have voted in, at the 64 positions from the
 //! front on.
 //!
-//! They are in 64 rows of 15 cells, a position in the row of its remainder by 64. A cell says for which position its
-//! ballot is, so nothing is written when the front moves on: what is below it no longer counts, and what comes into the
+//! They are in 64 rows of 15 cells, a position in the row of its remainder by 64. A cell has the position of its
+//! ballot, so nothing is written when the front moves on: what is below it no longer counts, and what comes into the
 //! window has no cell yet.
 ghost use Rattle.std.specs.Prelude.{◌≡◌, ℕ, ◌+◌, ◌<◌, length, slice_index_or};
 ghost use Rattle.px_core.specs.Cells.{empty_cell};

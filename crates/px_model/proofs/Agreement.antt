@@ -1,5 +1,5 @@
 -- From backed proposals to the agreement: Lamport's P2c gives his P2b, and that P2 (Paxos Made Simple, 2.2). How a
--- proposal comes to be backed is no matter here.
+-- proposal is backed doesn't matter here.
 use Rattle.std.proofs.Common.{◌≡◌, ℕ, zero, suc, ◌<◌, ◌≤◌, inl, inr, List, Option, Some, None, arith, sym, subst, ◌∙◌}
 use Rattle.std.proofs.lemmas.Bool.{cases_lt}
 use Rattle.px_model.specs.Node.{Entry, Proposal}

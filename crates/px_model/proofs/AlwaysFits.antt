@@ -76,7 +76,7 @@ module _ {C : Type 0} (S : C → Type 0) (same : C → C → Bool) (n : ℕ) (sm
   comes_fit w g (Deliver k) fits m lt input is =
       subst (λ (o : Option (ℕ × Input C)). ComesFit o) is (delivered_fits (slice_get w.sent k) (λ x e. g.sent x (among_get w.sent k x e)))
 
-  -- a member's step, whatever comes to it
+  -- a member's step, whatever it receives
   in_step : (w : World C) → WorldFits S n w → (a : Action C) → ActionFits S a → (m : ℕ) → m < n → (input : Input C) → comes_to w a ≡ Some (m, input) → AnswerFits S n m (w.nodes m) (step_in same n w m input)
   in_step w g a fits m lt input is = step_fits S n small m lt (w.nodes m) (g.nodes m lt) same input (comes_fit w g a fits m lt input is)
 

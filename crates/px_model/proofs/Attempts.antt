@@ -116,9 +116,9 @@ module _ {C : Type 0} (same : C → C → Bool) (exact : IsEquality same) (n : �
       (λ k p. put_all (λ (j : ℕ) (z : NodeState C). promised_at z.stored.meta (z.stored.slots p) ≡ promised_in w j p) w.nodes m _ refl (λ j ne. refl) k)
       (up_to_after n members top r w m Ticks plan up_to (up_to_round top r (w.nodes m) plan.volatile q (up_to m member belongs) le refl)))
 
--- ---- refusals tell of higher rounds
+-- ---- refusals report higher rounds
 
--- m has begun a round, and the first j members of the group promised less than its next, or have told it of theirs
+-- m has begun a round, and the first j members of the group promised less than its next, or have reported theirs to it
 pub record Refusing {C : Type 0} (n since : ℕ) (members : ℕ → Bool) (m : ℕ) (log : Log C) (e : Entry C) (rest : List (Entry C)) (top r b : ℕ) (j : ℕ) (w : World C) : Type 0 where
   pub log_is : learned_of w m ≡ log
   pub waits : (w.nodes m).volatile.waiting ≡ e ∷ rest

@@ -56,7 +56,7 @@ unfolding renamed spelled command_in
 spelling_is [] o k long is = absurd (omega arith)
 spelling_is (x ∷ xs) o k long is = sym is
 
--- eight bytes say a number below 2 ^ 64, and it says them: what is read of a spelling names it as it is
+-- eight bytes are those of a number below 2 ^ 64: what is read of a spelling names it as it is
 pub read_again : (bytes : List ℕ) (k : ℕ) → 10 ≤ length bytes → ((i : ℕ) → Fits w8 (slice_index_or bytes i 0)) → k ≡ from_be_bytes w64 (take 8 (drop 2 bytes)) → renamed bytes (slice_index_or bytes 1 0) k ≡ bytes
 unfolding renamed
 read_again [] k long small is = absurd (omega arith)

@@ -1,4 +1,4 @@
--- When m has learned what it waited for, the others of the group come to learn it too.
+-- When m has learned what it waited for, the others of the group learn it too.
 use Rattle.std.proofs.Common.{◌≡◌, ℕ, zero, suc, ◌+◌, ◌-◌, ◌*◌, ◌^◌, ◌<◌, ◌≤◌, max, Bool, true, false, inl, inr, List, [], ◌∷◌, length, Some, arith, refl, sym, ap, subst, subst₂, ◌∙◌, add-mul, mul-add, mul_comm, mul_assoc, mul-le-mul_right}
 use Rattle.std.proofs.lemmas.Bool.{cases_lt, cases_eq}
 use Rattle.px_model.specs.Node.{IsEquality, Entry, Log, Slot, Meta, round_of}

@@ -70,7 +70,8 @@ pub record Live {C : Type 0} (n since : ℕ) (members : ℕ → Bool) (w : World
   pub up : (k : ℕ) → k < n → members k ≡ true → (w.nodes k).is_up ≡ true
   pub sent : since ≤ length w.sent
 
--- At most `limit` events within a group, which deliver none of the first `since` messages, lead to a wanted world.
+-- At most `limit` events within a group, which deliver none of the first `since` messages, lead to a world with this
+-- property.
 pub record Reaches {C : Type 0} (same : C → C → Bool) (n since : ℕ) (clocks members : ℕ → Bool) (w : World C) (limit : ℕ) (Wanted : World C → Type 0) : Type 0 where
   pub events : List (Event C)
   pub few : length events ≤ limit

@@ -4,7 +4,7 @@
 --
 -- Every world that is reached has a *history*, the list of all proposals that members ever accepted, whether or not their
 -- votes were sent. The history isn't part of the world; it is carried by the induction over events. `Inv`
--- (`proofs/Invariant.antt`) says what holds of world and history.
+-- (`proofs/Invariant.antt`) defines what holds of world and history.
 --
 -- | File of `proofs/` | What it shows |
 -- |---|---|
@@ -20,7 +20,7 @@
 -- | `States` | the law `same_state`: what is chosen stays chosen, so two moments of a run can be compared |
 -- | `Reach` | a member learns at the 64 positions from its front on, so its log reaches no further; the front never falls |
 -- | `Unread` | which inputs a step reads the slot for, and which the top |
--- | `Ranges`, `Fits` | the laws `steps_fit` and `starts_fit`: parts that fit, then the step, case by case (`AnswerFits`). They know nothing of histories and stand beside the invariant |
+-- | `Ranges`, `Fits` | the laws `steps_fit` and `starts_fit`: parts that fit, then the step, case by case (`AnswerFits`). They know nothing of histories and are beside the invariant |
 -- | `Parts` | the law `parts_fit`: a step that reads parts that fit is one of a record that has these alone |
 -- | `AlwaysFits` | every event keeps `WorldFits`: the law `always_fits`, and `always_answers` for what a member then answers |
 -- | `Small`, `WorkedRuns`, `SingleSteps`, `MoreCases`, `FitsCases` | the worked cases |
@@ -37,7 +37,7 @@
 -- | `Commands` | spellings of entries: what is read of one names it, and what stands for it is spelled so again |
 -- | `Reading` | lemmas for code over the definitions: a kept number is the front, or the top; lists of entries |
 --
--- A run of a worked case can't be computed as it stands: the top looks through a million positions. `Small` shows that as
+-- A run of a worked case can't be computed as it is: the top looks through a million positions. `Small` shows that as
 -- long as nothing is accepted from position 10 on, the run is the same with the top of the first ten positions, and that
 -- this premise can be computed along the run (`low_run`). So the cases speak of the real definitions.
 --
@@ -54,8 +54,8 @@
 -- - A law is used by citing its proof: `Runs.always_agree`, `always_once`, `always_kept`, `States.same_state_now`. For
 --   commands that are compared as bytes the premise is `Reading.bytes_equality`.
 -- - `Fits.step_fits`, `AlwaysFits.always_fits`, `nothing_fits` and `started_fits` hold for any predicate on commands; the
---   contracts of `laws` say it for tests, since a clause is of `Type 0` and can't range over predicates.
---   `Ranges.ballot_range` and `ballot_in_range` tell a ballot as one number.
+--   contracts of `laws` state it for tests, since a clause is of `Type 0` and can't range over predicates.
+--   `Ranges.ballot_range` and `ballot_in_range` treat a ballot as one number.
 --
 -- ---- Wrong definitions
 --

@@ -195,7 +195,7 @@ module _ {C : Type 0} (n : ℕ) (w : World C) (h : List (Acceptance C)) (m : ℕ
         kept = (inv.volatile m).kept;
       }))
 
-  -- with what `from` says, where it keeps to what `from` pledged
+  -- with what `from` reports, where it keeps to what `from` pledged
   counted_ok : (from b p top u : ℕ) (counted : ℕ → Bool) (best a : Option (Proposal C)) → Prepares n w h m b p counted top best → Known h p b a → top ≤ u → Pledged w h from b p u (better best a) → PlanOk n w h m input (gathered n m (w.nodes m).volatile b p (put counted from true) u (better best a))
   counted_ok from b p top u counted best a g known le mine =
       gathered_ok b p (put counted from true) u (better best a) (record {

@@ -40,7 +40,7 @@ pub count_more : (n : ℕ) (P Q : ℕ → Bool) → ((k : ℕ) → k < n → P k
 count_more zero P Q i = omega arith
 count_more (suc n) P Q i = more_counted (P n) (Q n) (count n P) (count n Q) (i n (omega arith)) (count_more n P Q (λ k lt. i k (omega arith)))
 
--- whoever has a majority's members has a majority
+-- a set that has a majority's members is a majority
 pub majority_of : (n : ℕ) (P Q : ℕ → Bool) → IsMajority n P → ((k : ℕ) → k < n → P k ≡ true → Q k ≡ true) → is_majority n Q ≡ true
 majority_of n P Q m i = lt-ltb n (2 * count n Q) (let u = count_more n P Q i in omega arith)
 

@@ -1,4 +1,4 @@
--- Single steps, computed: member 0 of three, with the record and the volatile part that each case says.
+-- Single steps, computed: member 0 of three, with the record and the volatile part of each case.
 use Rattle.std.specs.Prelude.{◌≡◌, ℕ, zero, suc, ◌^◌, Bool, true, false, List, [], ◌∷◌, ◌++◌}
 use Rattle.std.specs.Prelude.{Option, Some, None, nat_eq}
 use Rattle.px_model.specs.Node.{Entry, Proposal, Slot, Meta, Change, Attempt, Volatile, Input, Plan, Answer, ballot_of}

@@ -1,6 +1,7 @@
 -- What can be spelled: the ranges that datagrams have for the numbers of messages, and what a member's parts
 -- must be so that it sends no others. n is the number of members, me the node.
--- Bytes are left to whoever spells. IsSpelled says of a command that it has a spelling; entries carry that along.
+-- Bytes are left to the caller. IsSpelled holds for a command that has a spelling; the definitions for entries take it
+-- as an argument.
 use Rattle.std.specs.Prelude.{◌≡◌, ℕ, ◌%◌, ◌^◌, ◌<◌, ◌≤◌, Bool, true, ◌⊎◌, List, []}
 use Rattle.std.specs.Prelude.{length, Option, Some, None, IfSome}
 use Rattle.px_model.specs.Node as node
@@ -48,7 +49,7 @@ IsPromise n b = (b ≡ 0) ⊎ IsBallot n b
 
 -- ---- entries and messages
 
--- an entry that a member took in
+-- an entry whose command was submitted to a member
 pub record EntryFits {C : Type 0} (IsSpelled : C → Type 0) (n : ℕ) (e : Entry C) : Type 0 where
   pub origin : e.origin < n
   pub number : IsNumber e.number
@@ -167,7 +168,7 @@ pub record VolatileFits {C : Type 0} (IsSpelled : C → Type 0) (n me front : �
   pub waiting : (e : Entry C) → Among v.waiting e → EntryFits IsSpelled n e × (e.origin ≡ me)
   pub attempt : IfSome v.attempt (λ x. AttemptFits IsSpelled n me front x)
   pub lead : IfSome v.lead (λ x. LeadFits n me x)
-  -- the round of a ballot that a refusal told
+  -- the round of a ballot that a refusal reported
   pub seen : IsNumber v.seen
 
 -- a member: its record, and its volatile part at the record's front
@@ -233,7 +234,7 @@ pub record PartsAnswerFits {C : Type 0} (IsSpelled : C → Type 0) (n me : ℕ) 
   pub learned : LogFits IsSpelled n (parts_with numbers slot log a).learned
   pub volatile : VolatileFits IsSpelled n me (front (parts_with numbers slot log a).learned) (volatile_with v a)
 
--- ---- what happens to members
+-- ---- events
 
 -- what is asked has a spelling
 abbrev pub ActionFits : {C : Type 0} → (C → Type 0) → Action C → Type 0

@@ -78,7 +78,7 @@ abbrev pub state_after : {C S : Type 0} → (S → Entry C → S) → (s : S) �
 state_after f s learned zero = Some s
 state_after f s learned (suc k) = next_state f (state_after f s learned k) (learned k)
 
--- ---- the laws: for 1 to 15 members, and whatever happens to them
+-- ---- the laws: for 1 to 15 members, and any events
 
 -- the world of n members after these events, from the start on
 abbrev pub world_after : {C : Type 0} → (C → C → Bool) → (n : ℕ) → List (Event C) → World C

@@ -96,7 +96,7 @@ pub record LearningLetsGo : Type 0 where
 abbrev pub voted : Volatile ℕ
 voted = record nothing_volatile { kept = keep (keep (λ p m. 0) 5 0 256) 5 1 256 }
 
--- where an entry is learned, neither a vote nor being told changes anything
+-- where an entry is learned, neither a vote nor a `Learned` message changes anything
 pub record NothingIsLearnedTwice : Type 0 where
   pub vote : does_with (learned_at 5) voted (Comes 2 (Vote 256 5 (entry 1 0 8))) ≡ Planned (idle voted)
   pub hears_learned : does_with (learned_at 5) (waits []) (Comes 2 (Learned 5 (entry 1 0 8)))

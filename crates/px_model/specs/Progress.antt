@@ -1,6 +1,6 @@
 -- Never stuck: after any events, a majority of running members can learn each entry that waits at one of them, by ticks
--- and new messages among themselves alone. No clock and no fairness is assumed: the laws say what can happen, not what
--- will.
+-- and new messages among themselves alone. No clock and no fairness is assumed: the laws state what can happen, not
+-- what will.
 use Rattle.std.specs.Prelude.{◌≡◌, ℕ, ◌+◌, ◌-◌, ◌*◌, ◌^◌, ◌<◌, ◌≤◌, Bool, true, List, [], ◌∷◌, ◌++◌, length}
 use Rattle.std.specs.Prelude.{Option, Some, None, if◌then◌else◌, nat_eq, slice_get}
 use Rattle.px_model.specs.Node.{IsEquality, Entry, Envelope, round_of}
@@ -35,8 +35,8 @@ AreWithin same n old clocks members w [] = Unit {0}
 AreWithin same n old clocks members w (e ∷ es) =
     IsWithin old clocks members w e × AreWithin same n old clocks members (happens same n w e) es
 
--- At most `limit` events lead to a wanted world: ticks of these clocks, and deliveries of messages that these members
--- send each other in these very events. Nothing that was sent before is delivered.
+-- At most `limit` events lead to a world with this property: ticks of these clocks, and deliveries of messages that
+-- these members send each other in these very events. Nothing that was sent before is delivered.
 pub record CanReach {C : Type 0} (same : C → C → Bool) (n : ℕ) (clocks members : ℕ → Bool) (w : World C) (limit : ℕ)
     (Wanted : World C → Type 0) : Type 0 where
   pub events : List (Event C)

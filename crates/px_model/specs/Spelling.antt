@@ -1,5 +1,5 @@
--- What the members see of an entry's spelling: who took the command in, its number there, and the command's bytes.
--- What a command's bytes say is left to whoever spells commands.
+-- What the members see of an entry's spelling: the member that the command was submitted to, its number there, and the
+-- command's bytes. How these spell a command is left to the caller.
 use Rattle.std.specs.Prelude.{ℕ, List, [], ◌∷◌, ◌++◌, Option, Some, None, take, drop, length, slice_index}
 use Rattle.std.specs.Prelude.{if◌then◌else◌, nat_le}
 use Rattle.std.specs.Int.{to_be_bytes, from_be_bytes, w64}
@@ -9,7 +9,7 @@ use Rattle.px_model.specs.Node as node
 abbrev pub Bytes : Type 0
 Bytes = List ℕ
 
--- a spelling without who asked and the number: its format byte, and what stands from byte 10 on
+-- a spelling without the origin and the number: its format byte, and the bytes from 10 on
 unfoldable pub command_in : Bytes → Bytes
 command_in bytes = take 1 bytes ++ drop 10 bytes
 

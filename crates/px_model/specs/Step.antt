@@ -318,7 +318,7 @@ on_vote same n learned v from b p e =
     then with_vote same n learned (record v { kept = keep v.kept p from b }) b p e
     else idle v
 
--- told that an entry was chosen
+-- a member reports that an entry was chosen
 unfoldable pub on_learned : {C : Type 0} → (C → C → Bool) → Log C → Volatile C → ℕ → Entry C → Plan C
 on_learned same learned v p e =
     if is_none (learned p) && in_window (front learned) p then learn same learned v p e else idle v

@@ -140,7 +140,7 @@ two_promises = ask 0 7 ∷ tick 0 ∷ deliver (0 ∷ 1 ∷ 2 ∷ 4 ∷ 5 ∷ [])
 abbrev pub three_promises : List (List (Event ℕ))
 three_promises = two_promises ++ deliver (6 ∷ []) ∷ []
 
--- three members accept, and two votes come to 0
+-- three members accept, and two votes reach 0
 abbrev pub two_votes : List (List (Event ℕ))
 two_votes = three_promises ++ deliver (7 ∷ 8 ∷ 9 ∷ []) ∷ deliver (11 ∷ 15 ∷ []) ∷ []
 
@@ -226,11 +226,11 @@ by_the_lead =
     tick 0 ∷ deliver (0 ∷ 1 ∷ 3 ∷ 4 ∷ 5 ∷ 6 ∷ 8 ∷ 11 ∷ []) ∷
     tick 0 ∷ deliver (14 ∷ 15 ∷ []) ∷ []
 
--- the votes for position 1 come to 2 before those for position 0
+-- the votes for position 1 reach 2 before those for position 0
 abbrev pub second_first : List (List (Event ℕ))
 second_first = by_the_lead ++ deliver (19 ∷ 22 ∷ []) ∷ []
 
--- those for position 0 come to 2 as well
+-- those for position 0 reach 2 as well
 abbrev pub both_learned : List (List (Event ℕ))
 both_learned = second_first ++ deliver (10 ∷ 13 ∷ []) ∷ []
 

@@ -85,7 +85,7 @@ follows s plan = record { is_up = true; stored = commit plan.change s.stored; vo
 abbrev pub started : {C : Type 0} → Record C → NodeState C
 started d = record { is_up = true; stored = d; volatile = nothing_volatile }
 
--- the step of the member m, as it stands
+-- the step of the member m in its present state
 abbrev pub step_in : {C : Type 0} → (C → C → Bool) → (n : ℕ) → World C → (m : ℕ) → Input C →
     Answer C
 step_in same n w m input = step_of same n m (w.nodes m) input
@@ -135,7 +135,7 @@ abbrev pub stops_after : {C : Type 0} → World C → (m : ℕ) → Input C → 
 stops_after w m input (Refused code) = emptied w m false
 stops_after w m input (Planned plan) = moved w m input plan.change false nothing_volatile []
 
--- only a member that runs takes what comes to it
+-- only a member that runs handles an input
 abbrev pub at_member : {C : Type 0} → (n : ℕ) → World C → Option (ℕ × Input C) →
     (ℕ → Input C → World C) → World C
 at_member n w None does = w

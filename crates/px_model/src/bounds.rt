@@ -1,5 +1,5 @@
-//! Tests of ranges, for whoever reads what somebody else may have written: what a member keeps within them can be
-//! spelled when it is sent.
+//! Tests of ranges, for readers of what others may have written: a member whose values are within them sends only what
+//! can be spelled.
 ghost use Rattle.std.specs.Prelude.{◌≡◌, ◌≤◌, ◌↔◌, Bool, true, IfSome, IsTrue};
 ghost use Rattle.px_model.specs.Bounds.{AnyCommand};
 ghost use Rattle.px_model.specs.Fits.{Passes, IsBallot, IsPromise, EntryFits, ProposalFits, MetaFits, SlotFits};
@@ -29,7 +29,8 @@ fn is_promise(members: u8, ballot: u64) -> bool
 }
 
 impl EntryView<'_> {
-    /// Whether one of that many members took the command in, and its number is below 2^48. The command isn't looked at.
+    /// Whether the command was submitted to one of n members, and its number is below 2^48. The command isn't looked
+    /// at.
     pub fn fits(&self, members: u8) -> bool
         ensures exact { IsTrue result ↔ EntryFits AnyCommand members (view_of self.now) }
         ensures spelled { (test : Bytes → Bool) → IsTrue result → test (view_of self.now).command ≡ true →

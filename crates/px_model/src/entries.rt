@@ -52,7 +52,7 @@ fn renamed_bytes(
 }
 
 impl Entry {
-    /// The entry that the view shows. Its bytes are copied. Fails for lack of memory alone.
+    /// The entry that the view shows. Its bytes are copied. Fails only when out of memory.
     #[tactic(auto, unfolding(crate::specs::Entries::entry_of, crate::specs::Entries::view_of))]
     pub fn from_view(alloc: Global, view: &EntryView) -> Result<Entry, AllocError>
         ensures { IfOk result (λ e. entry_of e ≡ view_of view.now) }
@@ -66,7 +66,7 @@ impl Entry {
         })
     }
 
-    /// The command of the view's entry, accepted by this member as this number. Fails for lack of memory alone.
+    /// The command of the view's entry, accepted by this member as this number. Fails only when out of memory.
     #[tactic(auto, unfolding(crate::specs::Entries::entry_of, crate::specs::Entries::view_of), using(crate::proofs::Commands::renamed_command, crate::proofs::Commands::renamed_again, crate::proofs::Commands::renamed_long))]
     pub fn named(
         alloc: Global,
@@ -87,7 +87,7 @@ impl Entry {
         })
     }
 
-    /// One owner more of the same bytes. Fails for lack of memory, or where there are 2^64 owners.
+    /// One owner more of the same bytes. Fails when out of memory, or where there are 2^64 owners.
     #[tactic(auto, unfolding(crate::specs::Entries::entry_of))]
     pub fn share(&self) -> Result<Entry, AllocError>
         ensures { IfOk result (λ e. entry_of e ≡ entry_of self.now) }
@@ -115,7 +115,7 @@ impl Entry {
             && is_same_command(self.bytes.as_slice(), other.bytes.as_slice())
     }
 
-    /// The member that took the command in.
+    /// The member that the command was submitted to.
     #[tactic(auto, unfolding(crate::specs::Entries::entry_of))]
     pub fn origin(&self) -> u8
         ensures { result ≡ (entry_of self.now).origin }
@@ -152,7 +152,7 @@ impl Entry {
     }
 }
 
-/// The number that bytes 2 to 9 say.
+/// The number in bytes 2 to 9.
 fn number_in(bytes: &[u8]) -> u64
     requires { 10 ≤ length bytes.now }
     ensures { result ≡ from_be_bytes w64 (take 8 (drop 2 bytes.now)) }
@@ -164,8 +164,8 @@ fn number_in(bytes: &[u8]) -> u64
 }
 
 impl<'a> EntryView<'a> {
-    /// The entry that the bytes spell, as far as they say who took its command in and as which number; none where they
-    /// are fewer than ten. What is behind them isn't looked at.
+    /// The entry that the bytes spell, of which only the origin and the number are decoded; none where there are fewer
+    /// than ten bytes. What is behind these isn't looked at.
     #[tactic(auto, unfolding(crate::specs::Spelling::entry_in, crate::specs::Entries::view_of), using(crate::proofs::Commands::read_again, crate::proofs::Commands::spelling_is))]
     pub fn read(bytes: &'a [u8]) -> Option<EntryView<'a>>
         ensures entry { option_map view_of result ≡ entry_in bytes.now }
@@ -181,7 +181,7 @@ impl<'a> EntryView<'a> {
         })
     }
 
-    /// The member that took the command in, or 255 where it is asked from outside.
+    /// The member that the command was submitted to, or 255 where it is asked from outside.
     #[tactic(auto, unfolding(crate::specs::Entries::view_of))]
     pub fn origin(&self) -> u8
         ensures { result ≡ (view_of self.now).origin }

@@ -1,5 +1,5 @@
-//! Entries as they are spelled: a format byte, a byte for the member that took the command in, eight for its number
-//! there, then the command's bytes.
+//! Entries as they are spelled: a format byte, a byte for the member that the command was submitted to, eight for its
+//! number there, then the command's bytes.
 ghost use Rattle.std.specs.Prelude.{◌≡◌, ◌≤◌, length};
 ghost use Rattle.px_model.specs.inner.Spelling.{renamed};
 

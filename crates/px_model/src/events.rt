@@ -20,7 +20,7 @@ fn lent(accepted: &Option<Proposal<Entry>>) -> Option<Proposal<EntryView<'_>>>
 }
 
 impl Message<Entry> {
-    /// The message as it comes to whoever it is sent to, its entry lent.
+    /// The message as its recipient gets it, its entry borrowed.
     pub fn view(&self) -> Message<EntryView<'_>>
         ensures { come_of result ≡ message_of self.now }
     {

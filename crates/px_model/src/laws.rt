@@ -68,7 +68,7 @@ pub fn steps_rise<C>()
     ensures { StepsRise C }
 {}
 
-/// What a node sends can be spelled: where the parts of a node fit, and what comes to it fits, it sends only messages
+/// What a node sends can be spelled: where the parts of a node fit, and what it receives fits, it sends only messages
 /// that fit, each in its own name, and its parts fit afterwards. A refusal sends nothing and leaves the node as it was.
 /// What fits has its numbers in the ranges of a datagram and commands that pass the test, whichever test that is.
 ///
@@ -86,7 +86,7 @@ pub fn parts_fit<C>()
     ensures { PartsStepsFit C }
 {}
 
-/// A member's first record fits, and whoever starts with a record that fits is a node that fits.
+/// A member's first record fits, and so does a node that starts with a record that fits.
 ///
 /// Source: as of [`steps_fit`].
 pub fn starts_fit<C>()
@@ -116,7 +116,7 @@ pub fn reads_suffice()
 /// accepted anything, and for one more position for each entry that waits before it. These positions must exist, with
 /// two rounds for each.
 ///
-/// The law says what can happen, not that it will: it assumes no clock and no fairness.
+/// The law states what can happen, not that it will: it assumes no clock and no fairness.
 ///
 /// Source: Paxos Made Simple, 2.4, for a proposer whose number rises above all others.
 pub fn never_stuck<C>()

@@ -3,14 +3,14 @@
 //! # Organization
 //!
 //! - The definitions are in `specs/`: `Node` (what a member keeps and sends), `Step` (what it does with an input),
-//!   `World` (the members, their messages and failures), `Law` (what is said of every run), `Reach` (how far a log
+//!   `World` (the members, their messages and failures), `Law` (what holds in every run), `Reach` (how far a log
 //!   goes), `Fits` (what can be spelled), `Worked`, `Cases`, `MoreCases` and `FitsCases` (runs, steps and messages,
 //!   computed).
 //! - [`laws`]: what holds of every run, proved of these definitions.
 //! - [`worked`]: the runs, steps and messages, each the contract of a function.
 //! - The plain types that a member's code, its record and its datagrams share: [`Entry`] as it is spelled, [`Meta`],
 //!   [`Slot`] and [`Change`] of the record, [`Message`] and [`Event`]. `Spelling`, `Entries` and `Seen` in `specs/`
-//!   say what each stands for.
+//!   define what each stands for.
 //!
 //! Source: Lamport, "Paxos Made Simple" (2001).
 //!
@@ -55,12 +55,12 @@
 //!   learned.
 //! - The record's maps by position are functions and the world's lists are lists, not sets: "ever" is membership in
 //!   a list, and the list of requests has no element twice.
-//! - `laws` says two things more than the agreement and once: `kept`, which ties the list of what was ever learned
+//! - `laws` states two things more than the agreement and once: `kept`, which ties the list of what was ever learned
 //!   to the members' records, and `same_state`, stated over any function and any two moments of a run.
-//! - That messages can be spelled is said of numbers, in px_model, with the command's spelling as a test that
-//!   everything takes as an argument: so the protocol's definitions know no bytes, and whoever spells puts in that
-//!   the whole entry has 1 to 32,768 bytes.
-//! - `RecordFits` also says that nothing was accepted or learned past the last position. The top is looked for
+//! - Whether messages can be spelled is stated for numbers, in px_model; whether a command can is a test that all these
+//!   definitions take as an argument. So the protocol's definitions know no bytes, and a caller that spells commands
+//!   puts in that the whole entry has 1 to 32,768 bytes.
+//! - `RecordFits` also states that nothing was accepted or learned past the last position. The top is looked for
 //!   below it, so a proposal accepted there would be left out; no run has one.
 //! - The worked cases are contracts of functions without a body in `px_model::worked`, not tests: they are checked
 //!   with the crate, without being run, and a crate with tests is proved twice.

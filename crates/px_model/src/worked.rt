@@ -36,7 +36,7 @@ pub fn learned_out_of_order()
     ensures { LearnedOutOfOrder }
 {}
 
-/// A ballot is not used without a prepare request where a promise told of an accepted entry.
+/// A ballot is not used without a prepare request where a promise reported an accepted entry.
 pub fn no_lead_below_a_counted_top()
     ensures { NoLeadBelowACountedTop }
 {}
@@ -146,7 +146,7 @@ pub fn a_majority_finishes()
     ensures { AMajorityFinishes }
 {}
 
-/// The premises of the laws of progress hold when a member was asked and nothing else happened.
+/// The premises of the laws of progress hold after one event, a request to a member.
 pub fn the_laws_apply()
     ensures { TheLawsApply }
 {}

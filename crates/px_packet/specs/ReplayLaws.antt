@@ -8,7 +8,7 @@ use Rattle.px_packet.specs.declared.arrival.Arrival.TheVariants as arrivals
 use Rattle.px_packet.specs.Windows.{top_of}
 use Rattle.px_packet.specs.Arrivals.{Known, new_start, is_start, is_state, known_with, arrival_of, known_after}
 
--- what happens to a receiver, as to one sender
+-- an event of a receiver, for one sender
 pub data Event : Type 0 where
   -- it starts, with this start of its own, and knows the sender by that one
   Starts : (mine known : Start) → Event

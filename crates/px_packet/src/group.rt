@@ -21,8 +21,8 @@ fn group_bytes(alloc: Global, cluster: u32, members: &[&str]) -> Result<Vec<u8>,
 }
 
 /// The key of the tags of a cluster with this number and these members' addresses, as they are written, in order. Where
-/// the secret, the number or an address of the list differs, so does what the key is made of: whoever was started with
-/// another hears nobody.
+/// the secret, the number or an address of the list differs, so does what the key is made of: a member that was started
+/// with another hears nobody.
 pub fn group_key(
     alloc: Global,
     secret: &[u8; 32],

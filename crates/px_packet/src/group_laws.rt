@@ -2,7 +2,7 @@
 
 ghost use Rattle.px_packet.specs.GroupLaws.{GroupsDiffer};
 
-/// The bytes that a cluster's key is made of tell its number and its members' addresses, in order.
+/// The bytes that a cluster's key is made of determine its number and its members' addresses, in order.
 pub fn groups_differ()
     ensures { GroupsDiffer }
 {}

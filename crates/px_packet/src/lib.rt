@@ -18,10 +18,9 @@
 //! - [`packet_laws`]: what was sealed is opened as it was, and nothing else is opened. [`group_laws`]: another group
 //!   has other bytes. [`replay_laws`]: no body is accepted twice, over restarts of either side, and a fresh one is
 //!   accepted. [`piece_laws`]: cutting and reassembling is the identity, and what is reassembled was cut.
-//! - `specs/Hmac` and `specs/Groups` say what a tag and a cluster's key are, `specs/Headers` defines the bytes of a
-//!   header, `specs/Packets` a sealed packet and which is opened, `specs/Windows` which counters are fresh,
-//!   `specs/Arrivals` which packets are accepted, `specs/Pieces` a piece, `specs/Reassembling` what a receiver does
-//!   with pieces.
+//! - `specs/Hmac` and `specs/Groups` define a tag and a cluster's key, `specs/Headers` the bytes of a header,
+//!   `specs/Packets` a sealed packet and which is opened, `specs/Windows` which counters are fresh, `specs/Arrivals`
+//!   which packets are accepted, `specs/Pieces` a piece, `specs/Reassembling` what a receiver does with pieces.
 //!
 //! # The bytes of a packet
 //!
@@ -57,9 +56,9 @@
 //!
 //! # Why
 //!
-//! - All of this is values: no wire, no clock, no file. So what is accepted can be said of lists of packets.
+//! - All of this is values: no wire, no clock, no file. So what is accepted can be stated of lists of packets.
 //! - **A node with two keys opens packets of both and seals with the first**, so a key is changed in three steps.
-//! - **A tag says that a holder of the key sealed the packet, not which one.**
+//! - **A tag shows that a holder of the key sealed the packet, not which one.**
 //! - **The key of packets is the tag of `PFXS` and 2 under the cluster's key** (`group_key`), so a tag of one format
 //!   fits the other only where HMAC fails: no datagram of the first format is these five bytes.
 //! - **The number of a start and the counter are from 1 on**, so `Start::NEVER`, which is 0, is no start.

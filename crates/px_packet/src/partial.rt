@@ -145,7 +145,7 @@ impl Partial {
         self.name == piece.name && self.size == piece.size
     }
 
-    /// Takes the part of a piece, if it hasn't come yet. Where memory is refused nothing changes.
+    /// Takes the part of a piece, if it hasn't come yet. When out of memory nothing changes.
     pub(crate) fn take(
         &mut self,
         alloc: Global,

@@ -65,7 +65,7 @@ fn place_of(partials: &[Partial], piece: &Piece<'_>) -> usize
     partials.len()
 }
 
-/// Takes a piece of the datagram at a place: the datagram, if all its parts have come now. Where memory is refused the
+/// Takes a piece of the datagram at a place: the datagram, if all its parts have come now. When out of memory the
 /// piece is lost, or the datagram.
 fn take_at(
     alloc: Global,
@@ -92,7 +92,7 @@ fn take_at(
     Ok(Some(partial.join(alloc)?))
 }
 
-/// Takes the first piece of a datagram: the datagram, if it has no other. Where memory is refused nothing changes.
+/// Takes the first piece of a datagram: the datagram, if it has no other. When out of memory nothing changes.
 fn begin(
     alloc: Global,
     partials: &mut Vec<Partial>,
@@ -118,7 +118,7 @@ fn begin(
 }
 
 impl Reassembly {
-    /// Nothing has come. Takes no memory.
+    /// Nothing has come. Allocates nothing.
     pub fn new(alloc: Global) -> Reassembly
         ensures { result ≡ [] }
     {
@@ -129,7 +129,7 @@ impl Reassembly {
     }
 
     /// Takes a piece that came at a time in milliseconds: the datagram, if all its parts have come now. The datagram
-    /// that began first gives way to a ninth. Where memory is refused the piece is lost, or the datagram.
+    /// that began first gives way to a ninth. When out of memory the piece is lost, or the datagram.
     pub fn take(&mut self, piece: &Piece<'_>, now: u64) -> Result<Option<Vec<u8>>, AllocError>
         ensures given { IfOk result (λ o. option_map (λ v. v.items) o ≡
             finished_by self.old (seen piece.now) now) }

@@ -25,7 +25,7 @@ pub enum CutFault {
     /// Each name was given to a datagram.
     #[error("all names are used")]
     Names,
-    /// Memory was refused.
+    /// Out of memory.
     #[error("out of memory")]
     Memory,
 }
@@ -131,7 +131,7 @@ impl Model for SendBuffer {
 }
 
 impl SendBuffer {
-    /// No datagram was cut. Takes no memory.
+    /// No datagram was cut. Allocates nothing.
     pub fn new(alloc: Global) -> SendBuffer
         ensures { result ≡ record { count = 0; cuts = [] } }
     {

@@ -14,7 +14,7 @@ fn line(text: &[u8]) -> &[u8]
     }
 }
 
-/// The key of 64 hexadecimal digits, behind which a newline may stand; none for every other text.
+/// The key of 64 hexadecimal digits, which a newline may follow; none for every other text.
 pub fn parse_key(text: &[u8]) -> Option<[u8; 32]>
     ensures key { IfSome result (λ k. decode_sized (line text.now) 32 ≡ Ok k) }
     ensures some { IsSome result ↔ IsOk (decode_sized (line text.now) 32) }

@@ -27,7 +27,7 @@ has_failed_of f = f.has_failed
 abbrev pub failures_of : (has_failed : Bool) → (inside : ℕ) → ℕ
 failures_of has_failed inside = if has_failed then 1 else inside
 
--- how many calls have failed, by what the record says
+-- how many calls have failed, with those of the record inside
 abbrev pub failed_in : {R : Type 0} → (failed : R → ℕ) → FaultyRecords R → ℕ
 failed_in failed f = failures_of f.has_failed (failed f.inner)
 

@@ -1,4 +1,4 @@
--- What whoever keeps a record shows of it, and what the calls do to that. Sections are those of "Paxos Made Simple".
+-- What the keeper of a record shows of it, and what the calls do to that. Sections are those of "Paxos Made Simple".
 use Rattle.std.specs.Prelude.{◌≡◌, ◌⊎◌, ◌↔◌, ◌≤◌, ℕ, zero, suc, Option, None, Some, IsSome, Result, Err}
 use Rattle.std.specs.Prelude.{option_map}
 use Rattle.px_records.specs.declared.records.StoreFault.{StoreFault}
@@ -23,7 +23,7 @@ pub data Place : Type 0 where
 abbrev pub NamesGood : (Place → Type 0) → (ℕ → Place) → (end : ℕ) → Type 0
 NamesGood good at end = (p : ℕ) → end ≡ suc p → good (at p)
 
--- what an answer says was learned
+-- the learned entry of an answer
 abbrev pub learned_of : Option Entry → Option (node.Entry Bytes)
 learned_of = option_map entry_of
 

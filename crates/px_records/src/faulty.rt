@@ -23,8 +23,8 @@ pub enum When {
 }
 
 /// A record of which one commit fails, and then every call. It shows what a failure leaves: a test counts the commit
-/// that fails upwards until none does. A commit that is to fail after its change, and for which memory runs out,
-/// answers that, and is still to come.
+/// that fails upwards until none does. A commit that is to fail after its change, and is out of memory, answers that,
+/// and is still to come.
 pub struct FaultyRecords<R> {
     inner: R,
     /// How many commits are left up to the one that fails, 0 where none will.
@@ -191,7 +191,7 @@ impl<R: Records> Records for FaultyRecords<R> {
         self.inner.read_learned_end()
     }
 
-    // Which commit fails, and how much of it is made, is said exactly: `before`, `after`, `spared`.
+    // Which commit fails, and how much of it is made, is specified exactly: `before`, `after`, `spared`.
     fn commit(&mut self, change: &Change) -> Result<(), StoreFault>
         requires fits { ChangeFits AnyCommand (R.members (inner_of self.old)) (change_of change.now) }
         requires rises { R.is_honest (inner_of self.old) →

@@ -2,7 +2,7 @@
 //!
 //! # Organization
 //!
-//! - [`Records`]: what a node asks of whoever keeps its record over a restart, in `specs/Records.antt`'s words.
+//! - [`Records`]: what a node requires of the keeper of its record over a restart, in `specs/Records.antt`'s terms.
 //! - [`MemoryRecords`]: a record in memory, which never fails.
 //! - [`FaultyRecords`]: any record, with one commit that fails, for tests of what a failure leaves.
 //!

@@ -49,7 +49,7 @@ impl Drop for MemoryRecords {
 }
 
 impl MemoryRecords {
-    /// The empty record of one of that many members. It takes no memory.
+    /// The empty record of one of that many members. It allocates nothing.
     pub fn new(alloc: Global, members: u8) -> MemoryRecords
         ensures empty { ⟦<MemoryRecords as Records>⟧.stored result ≡ nothing_stored }
         ensures same { ⟦<MemoryRecords as Records>⟧.members result ≡ members }

@@ -16,7 +16,7 @@ use thiserror::Error;
 /// Why a call on a record is refused.
 #[derive(Clone, Copy, Debug, PartialEq, Eq, Error)]
 pub enum StoreFault {
-    /// Memory is wanting. Nothing has changed.
+    /// Out of memory. Nothing has changed.
     #[error("out of memory")]
     Memory,
     /// 70: the store has failed, at this call or before. Every later call answers the same and changes nothing; a call
@@ -31,19 +31,19 @@ pub enum StoreFault {
 /// What a node keeps over a restart: a round, a number, a floor, and for each position a slot and the learned entry.
 ///
 /// The record is total: where a row is bad it has some reading, and the call that reads the row answers `BadStore`.
-/// What is said of values holds while the keeper is honest: it returns what was written and nobody else writes. No call
-/// makes it dishonest: it stays honest while what it rests on can be trusted.
+/// Clauses on values hold while the keeper is honest: it returns what was written and nobody else writes. No call
+/// makes it dishonest: it stays honest while what it depends on can be trusted.
 ///
 /// Source: Paxos Made Simple, 2.5.
 pub trait Records {
-    // What is said of the record holds. It is asked as the call ends, and was then true before.
+    // What is stated about the record holds. It is required as the call ends, and was then true before.
     ghost is_honest: { Self → Type 0 };
 
-    // What the keeper rests on and can't answer for, as a disk, has returned what was written. A call leaves an honest
-    // keeper honest wherever this holds as it ends.
+    // What the keeper depends on and can't answer for, as a disk, has returned what was written. A call leaves an
+    // honest keeper honest wherever this holds as it ends.
     ghost is_trusted: { Self → Type 0 };
 
-    // The record as it stands, while no call has failed.
+    // The present record, while no call has failed.
     ghost stored: { Self → Record Bytes };
 
     // How many members the record speaks of.
@@ -156,7 +156,7 @@ pub trait Records {
         ensures later { 0 < failed self.old → self.new ≡ self.old }
         ensures same { members self.new ≡ members self.old };
 
-    // While no call has failed a stop leaves the record as it stands.
+    // While no call has failed a stop leaves the present record.
     ghost settled: { (r : Self) → is_honest r → failed r ≡ 0 → (d : Record Bytes) → may_leave r d →
         d ≡ stored r };
 

@@ -1,4 +1,4 @@
--- What a datagram spells is a message as it was sent, and what its step comes to.
+-- What a datagram spells is a message as it was sent, and the result of its step.
 use Rattle.std.proofs.Common.{◌≡◌, ◌∙◌, ℕ, ◌≤◌, ◌^◌, List, [], refl, sym, ap, subst}
 use Rattle.std.specs.Prelude.{nat_le, nat_eq, length}
 use Rattle.std.proofs.lemmas.Bool.{cond_both}

@@ -3,7 +3,7 @@
 -- Forms that proved:
 --
 -- - **The law over any records** (pfx_laws): what may happen is data of three kinds (`Calls`, `Stops`, `Opens`), when
---   it may is stated by the very words of the contracts (`Makes`, `LeavesOne`), and how the cluster stands then is a
+--   it may is stated by the very definitions of the contracts (`Makes`, `LeavesOne`), and the cluster's state then is a
 --   function; so a history is a list, and following it is one induction. What comes is an action of the world by cases
 --   on the input; a datagram's message is the one that was sent, since no two messages have one spelling
 --   (`Telling.one_message`).
@@ -13,9 +13,9 @@
 -- - **A call in one clause** (px_replica's `Call`, node_loop's `Turned` and `Served`): a record of which each field is what
 --   one answer means, the step made, a refusal, a failure, a stop; search takes it apart, and a caller names the field.
 --   `Called` in px_replica's proofs takes calls from one form to another.
--- - **From turns to the law**: what turns make is a life, a list of what happened to one member (`Lived`), one life behind the
---   other (node_loop's `Lives`). That members' lives, in whatever order, are a history is one induction over what happened,
---   in which what a member lives next is what happens to it first (`Living.own`), and the others go on as they stood
+-- - **From turns to the law**: what turns make is a trace of one member (`Lived`), one trace after the other
+--   (node_loop's `Lives`). That members' traces, in whatever order, are a history is one induction over the events, in
+--   which a member's next event is the first of its trace (`Living.own`), and the others keep their states
 --   (`Living.on`).
 -- - **The datagrams on a wire** are proved together with the trace, not after it: node_loop's `Led` has both, so that one
 --   lemma puts one trace behind another (`led_then`), and each list has its own (`Traffic.grows_then`, `brings_then`,
@@ -32,13 +32,13 @@
 --   covered.
 -- - A relation by recursion on a literal count is `unfoldable`, or goals unroll it. A line made by `push_str` closes where
 --   one by `format!` stays open.
--- - **A lab's outcomes**: `Tells` says of each result what it means in the world, `told` of `step` has it for every world
---   that the lab is; `model_events` is stated by the same `event_of` and `is_long`.
+-- - **A lab's outcomes**: `Tells` states of each result what it means in the world, `told` of `step` has it for every
+--   world that the lab is; `model_events` is stated by the same `event_of` and `is_long`.
 --
 -- - **Trials** are generic over `R: Records`, `S: Alter`, `D: Disk`, and few functions name the concrete type. A call
---   whose contract has many clauses is wrapped in a helper that has none. All of a crate of trials stands under
---   `cfg(test)`. A type and a function whose names differ only in case are refused, which `rt try` doesn't say. A generic
---   function that lets `R: Records` go needs `R: Records + Drop`.
+--   whose contract has many clauses is wrapped in a helper that has none. All of a crate of trials is under
+--   `cfg(test)`. A type and a function whose names differ only in case are refused, which `rt try` doesn't report. A
+--   generic function that lets `R: Records` go needs `R: Records + Drop`.
 -- - A lemma about px_model's world alone is checked in seconds in a copy of px_model, before the crates above are built.
 -- - **Scripts of labs**: a line is read by one function for each form, over slices, and its contract is `Reads view result
 --   value` for a value or the number of a refusal; it closed without an answer, and so did the strings of messages, each

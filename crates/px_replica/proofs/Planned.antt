@@ -21,7 +21,7 @@ use Rattle.px_replica.specs.Made.{answer, running}
 use Rattle.px_replica.specs.inner.Seen.{IsSeen, SeenFits}
 use Rattle.px_replica.specs.declared.look.Seen.{Seen}
 
--- what can be told may reach the core
+-- what can be spelled may reach the core
 pub may_come : (s : State) (n me : ℕ) (event : Event) → s.members ≡ n →
     InputFits (Passes is_command) n me (input_of event) → MayCome s.members event
 may_come s n me event members fits =
@@ -85,7 +85,7 @@ answered s n me core d seen event members here same (Ok plan) h agree is =
 answered s n me core d seen event members here same (Err fault) h agree is =
     subst (λ (a : node.Answer Bytes). IsRefusal fault a) (same_answer s n me d seen event members here agree is) h
 
--- what is written can be told
+-- what is written can be spelled
 pub change_spelled : (s : State) (n : ℕ) (core : Core) → s.members ≡ n → state_of core ≡ s → (r : Result Plan CoreFault) →
     IfOk r (λ plan. PlanFits is_command (state_of core) (planned core plan)) →
     IfOk r (λ plan. IfSome (option_map change_of plan.change) (λ x. ChangeFits (Passes is_command) n x))
@@ -94,7 +94,7 @@ change_spelled s n core members same (Ok plan) h =
     (ap (λ (t : State). t.members) same ∙ members) h.change
 change_spelled s n core members same (Err fault) h = tt
 
--- what is sent can be told
+-- what is sent can be spelled
 pub sends_spelled : (s : State) (n me : ℕ) (core : Core) → s.members ≡ n → s.me ≡ me → state_of core ≡ s →
     (r : Result Plan CoreFault) → IfOk r (λ plan. PlanFits is_command (state_of core) (planned core plan)) →
     IfOk r (λ plan. SendsFit (Passes is_command) n me (sends_of n me plan.sends))

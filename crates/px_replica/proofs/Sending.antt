@@ -52,7 +52,7 @@ among_all (suc k) me j x h =
       | inl b ↦ among_front (to_all k me x) (envelope me k x) (envelope me j x) (among_all k me j x b)
     ]
 
--- each of them can be told
+-- each of them can be spelled
 pub all_pass : (n me j : ℕ) (x : node.Message Bytes) → SendsFit (Passes is_command) n me (to_all n me x) → j < n →
     Passing n me j x
 all_pass n me j x fits h = (fits (envelope me j x) (among_all n me j x h)).1

@@ -57,7 +57,7 @@ AreBad G r n (reads.SlotAndTop p) = IsBadSlot G r n p ⊎ (G.is_good r LastSlot 
 -- ---- calls
 
 -- A call for an input, from one state of the member to another; `old` is what was to be sent before it, `new` what is
--- after it; `answered` is the fault, if there is one. What is said of values holds where the record is honest as the
+-- after it; `answered` is the fault, if there is one. Clauses on values hold where the record is honest as the
 -- call ends.
 pub record Call {R : Type 0} {G : Ghosts R} (s t : Replica R G) (x : Input Bytes) (old new : List Datagram)
     (answered : Option NodeFault) : Type 0 where
@@ -90,7 +90,7 @@ pub record Call {R : Type 0} {G : Ghosts R} (s t : Replica R G) (x : Input Bytes
       AreBad G (records_of s) (membership_of s).members (reads_of x) → IsOfBadRow answered
   pub why : G.is_honest (records_of t) → IsSound (membership_of s).members (G.stored (records_of s)) →
       IsOfTheStore answered → SomeFails G.may_fail
-  -- a record of which every row can be told stays one
+  -- a record of which every row can be spelled stays one
   pub sound : G.is_honest (records_of t) → IsSound (membership_of s).members (G.stored (records_of s)) →
       answered ≡ None → IsSound (membership_of s).members (G.stored (records_of t))
   -- what was learned below the first gap stays, and the gap doesn't fall back
@@ -102,7 +102,7 @@ pub record Call {R : Type 0} {G : Ghosts R} (s t : Replica R G) (x : Input Bytes
 
 -- ---- datagrams
 
--- the member has failed before, and says so
+-- the member has failed before, and returns that
 pub record IsLost {R : Type 0} {G : Ghosts R} (s t : Replica R G) (old new : List Datagram)
     (result : Result Received NodeFault) : Type 0 where
   pub failed : has_failed s ≡ true
@@ -147,7 +147,7 @@ pub record OpenRefused {R : Type 0} (G : Ghosts R) (members : ℕ) (given : R) (
   pub was : G.is_honest back → G.is_honest given
   pub stays : G.is_honest back → e ≢ fault.Store → G.stored back ≡ G.stored given
   pub stop : G.is_honest back → (left : Record Bytes) → G.may_leave back left → G.may_leave given left
-  -- 70 comes where a call on the record failed and nowhere else, 72 only for a bad row, and no fault but these and want
+  -- 70 comes where a call on the record failed and nowhere else, 72 only for a bad row, and no fault but these and out
   -- of memory
   pub counts : G.failed given ≡ 0 → ((e ≡ fault.Store) ↔ (0 < G.failed back))
   pub bad : G.is_honest back → e ≡ fault.BadStore → HasBadEntry G given members

@@ -4,7 +4,7 @@ use Rattle.px_replica.specs.declared.fault.NodeFault.{NodeFault}
 use Rattle.px_replica.specs.declared.fault.NodeFault.TheVariants.{Memory, TooLong, Full, BallotsSpent, PositionsSpent}
 use Rattle.px_replica.specs.declared.fault.NodeFault.TheVariants.{Store, BadStore, Failed}
 
--- none for lack of memory
+-- none when out of memory
 -- Example: TooLong is 41.
 abbrev pub node_fault_code : NodeFault → Option ℕ
 node_fault_code Memory = None

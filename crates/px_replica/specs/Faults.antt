@@ -6,7 +6,7 @@ use Rattle.px_model.specs.Spelling.{Bytes}
 use Rattle.px_replica.specs.declared.fault.NodeFault.{NodeFault}
 use Rattle.px_replica.specs.declared.fault.NodeFault.TheVariants as fault
 
--- a refusal is the model's; the other faults say nothing of its answer
+-- a refusal is the model's; the other faults leave the model's result open
 abbrev pub IsRefusedBy : NodeFault → Answer Bytes → Type 0
 IsRefusedBy fault.Full a = a ≡ Refused 60
 IsRefusedBy fault.BallotsSpent a = a ≡ Refused 61

@@ -1,4 +1,4 @@
--- What happens to one member, step after step, from one state to another: the calls that answered Ok, stops, openings.
+-- The events of one member, step after step, from one state to another: the calls that returned Ok, stops, openings.
 use Rattle.std.specs.Prelude.{◌≡◌, ℕ, true, false, List, [], ◌∷◌}
 use Rattle.px_model.specs.Node.{Record, Input}
 use Rattle.px_model.specs.Node.Input.{Asks, Ticks, Comes}
@@ -14,9 +14,9 @@ use Rattle.px_replica.specs.declared.datagram.Datagram.{Datagram}
 abbrev pub stopped : Record Bytes → NodeState Bytes
 stopped d = record { is_up = false; stored = d; volatile = nothing_volatile }
 
--- What happens to a member.
+-- An event of a member.
 pub data TraceEvent : Type 0 where
-  -- a call for this input answered Ok: it stands so then, and handed out these datagrams
+  -- a call for this input returned Ok: this is its state then, and it handed out these datagrams
   Calls : (input : Input Bytes) (after : NodeState Bytes) (out : List Datagram) → TraceEvent
   -- it stopped at some moment of a call for this input, or its store failed, and its record was left so
   Stops : (input : Input Bytes) (left : Record Bytes) → TraceEvent
@@ -29,7 +29,7 @@ IsInput g me (Asks command) = Unit {0}
 IsInput g me Ticks = Unit {0}
 IsInput g me (Comes sender message) = Passing g.members sender me message
 
--- these happened to the member one after the other, each a step of the model, and led it from s to t
+-- these are the member's events, one after the other, each a step of the model, from state s to state t
 abbrev pub Lived : Group → (me : ℕ) → (s : NodeState Bytes) → List TraceEvent → (t : NodeState Bytes) → Type 0
 Lived g me s [] t = t ≡ s
 Lived g me s (Calls x u out ∷ ds) t =

@@ -39,7 +39,7 @@ state_in {R} {G} r = running (G.stored r.records) (volatile_of r.member)
 abbrev pub IsUnspelled : Group → (me : ℕ) → Bytes → Type 0
 IsUnspelled g me bytes = (from : ℕ) (x : datagrams.Message) → DatagramBytes g from me x bytes → ⊥
 
--- what is said of a datagram that was done, and of one that was ignored
+-- what holds for a datagram that was done, and for one that was ignored
 abbrev pub MatchReceived : Received → (done ignored : Type 0) → Type 0
 MatchReceived received.Done done ignored = done
 MatchReceived (received.Ignored fault) done ignored = ignored

@@ -5,6 +5,6 @@ use Rattle.px_model.specs.Fits.{Passes, RecordFits}
 use Rattle.px_model.specs.Spelling.{Bytes}
 use Rattle.px_wire.specs.Sent.{is_command}
 
--- every row of the record can be told
+-- every row of the record can be spelled
 abbrev pub IsSound : (members : ℕ) → Record Bytes → Type 0
 IsSound n d = RecordFits (Passes is_command) n d

@@ -1,6 +1,6 @@
 //! Messages on their way as bytes.
 
-/// Bytes for a member, or for 255, whoever asked from outside.
+/// Bytes for a member, or for 255, the client outside the cluster that asked.
 pub struct Datagram {
     /// The member, or 255.
     pub to: u8,

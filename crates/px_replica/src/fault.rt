@@ -8,7 +8,7 @@ use thiserror::Error;
 /// Why a call of a node is refused. What is shown of a refusal is its number.
 #[derive(Clone, Copy, Debug, PartialEq, Eq, Error)]
 pub enum NodeFault {
-    /// No memory. The record, the volatile part and what is to be sent are as they were.
+    /// Out of memory. The record, the volatile part and what is to be sent are as they were.
     #[error("memory")]
     Memory,
     /// 41: no entry of the command has a spelling.
@@ -35,7 +35,7 @@ pub enum NodeFault {
 }
 
 impl NodeFault {
-    /// The number of the refusal; none for lack of memory.
+    /// The number of the refusal; none when out of memory.
     pub fn code(self) -> Option<u8>
         ensures { result ≡ node_fault_code self }
     {

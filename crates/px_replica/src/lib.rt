@@ -3,9 +3,9 @@
 //! # Organization
 //!
 //! - [`Replica`]: `ask`, `tick` and `receive` read the record, plan, spell what is sent, commit, settle, and hand out.
-//! - `specs/Made` says what a call makes, in the terms of px_model's world; `specs/Spelled` how messages are spelled.
+//! - `specs/Made` defines what a call does, in the terms of px_model's world; `specs/Spelled` how messages are spelled.
 //!
-//! Nothing leaves before the change that it rests on is committed, and all memory is taken before the commit.
+//! Nothing leaves before the change that it rests on is committed, and all memory is allocated before the commit.
 //!
 //! # Why
 //!

@@ -9,7 +9,7 @@ ghost use Rattle.px_replica.specs.inner.Props.{core_prop};
 use px_core::Core;
 use px_wire::Membership;
 
-/// A member, with the group that it sends to. All that it keeps can be told.
+/// A member, with the group that it sends to. All that it keeps can be spelled.
 #[derive(Drop)]
 pub(crate) struct Member {
     pub(crate) core: Core,

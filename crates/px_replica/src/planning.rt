@@ -106,7 +106,7 @@ impl Member {
         self.core.plan(&seen.meta, &seen.slot, seen.top, event)
     }
 
-    /// Takes over the plan that it made as it now stands, whose change is committed. Takes no memory.
+    /// Takes over the plan that it made in its present state, whose change is committed. Allocates nothing.
     pub(crate) fn settle(&mut self, plan: Plan) -> Sends
         requires { IsReady plan self.old }
         ensures volatile { volatile_of self.new ≡ volatile_after self.old.core plan }
@@ -131,7 +131,7 @@ impl Member {
         self.core.remember(position, entry)
     }
 
-    /// A restart in place: all is let go but what is learned. Takes no memory.
+    /// A restart in place: all is let go but what is learned. Allocates nothing.
     pub(crate) fn forget(&mut self)
         ensures volatile { volatile_of self.new ≡ nothing_volatile }
         ensures log { log_of self.new ≡ log_of self.old }

@@ -52,7 +52,7 @@ impl<R: Records> Replica<R> {
     /// Takes a command in: the number that it got. Nothing is sent. The entry's origin and number don't count.
     ///
     /// Refused with `Full` where 64 entries wait, else with `PositionsSpent` where every position is learned or every
-    /// number used: then, and where memory runs out, all is as it was. `Store` and `BadStore` are the record's; after
+    /// number used: then, and when out of memory, all is as it was. `Store` and `BadStore` are the record's; after
     /// either the replica is failed, and answers `Failed` to every call.
     pub fn ask(&mut self, entry: &EntryView) -> Result<u64, NodeFault>
         requires { is_command (view_of entry.now).command ≡ true }
@@ -163,7 +163,7 @@ impl<R: Records> Replica<R> {
         self.is_failed
     }
 
-    /// A restart in place: all is let go but the record and what is learned. Takes no memory.
+    /// A restart in place: all is let go but the record and what is learned. Allocates nothing.
     pub fn forget(&mut self)
         ensures volatile { (state_in self.new).volatile ≡ nothing_volatile }
         ensures records { records_of self.new ≡ records_of self.old }

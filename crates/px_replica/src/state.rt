@@ -29,7 +29,7 @@ pub struct Replica<R: Records> {
 impl<R: Records> Replica<R> {
     ghost use Rattle.px_replica.specs.Replicas.{records_of};
 
-    /// Gives the record back. Takes no memory.
+    /// Gives the record back. Allocates nothing.
     pub fn close(self) -> R
         ensures { result ≡ records_of self }
     {

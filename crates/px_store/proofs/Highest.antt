@@ -1,4 +1,4 @@
--- What the last row says of the record.
+-- What the last row shows of the record.
 use Rattle.std.proofs.Common.{◌≡◌, inl, inr, ℕ, pos, zero, suc, ◌<◌, List, [], ◌∷◌, map, Bool, true, false, None, Some, IsSome, Ordering, Less, Equal, Greater, refl, sym, ap, subst, ◌∙◌, arith}
 use Rattle.std.specs.Ordering.{is_gt, is_eq, int_cmp, ordering_reverse}
 use Rattle.sqlite.specs.declared.types.Value.{Value}

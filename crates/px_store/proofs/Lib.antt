@@ -2,7 +2,7 @@
 --
 -- ---- Forms
 --
--- - The trait's words are separate ghosts (`is_honest`, `stored`, `members`, `may_leave`, `failed`, `may_fail`,
+-- - The trait's terms are separate ghosts (`is_honest`, `stored`, `members`, `may_leave`, `failed`, `may_fail`,
 --   `is_good`); each reading call has the one clause `IsRead`. A law, `settled`, is behind the functions, or it is
 --   taken for a value.
 -- - A record of functions by position is equal by `fun_ext`, one part at a time (`Maps.log_put`, `Kept.whole`), so that a
@@ -13,19 +13,19 @@
 -- - What is put leaves the rows beside its key as one list (`Puts.others`, over `without_rowid`): rows under another key
 --   follow (`others_at`), and so does what speaks of all rows, as that the last one is good (`Good.last_stays`).
 -- - What is put is a `NewRow`, what is asked a `Question` and what is made a `NewTable`: one function runs the statements
---   of each (`run`, `ask`, `run_table`), and one record says what a call makes of a connection (`Wrote`, `Looked`,
+--   of each (`run`, `ask`, `run_table`), and one record states what a call makes of a connection (`Wrote`, `Looked`,
 --   `Grows`). What is particular to a statement is in lemmas by cases (`NewRows`, `Questions`, `Makes`).
--- - A text's meaning stands as a literal in `Texts.antt`, by `refl` with `unfolding understood everything`, of a question
+-- - A text's meaning is a literal in `Texts.antt`, by `refl` with `unfolding understood everything`, of a question
 --   in each format. One lemma on `INSERT OR REPLACE .. VALUES` serves all six changes (`Puts.replaced`).
 -- - The proofs speak of `Stored`, one record of what a connection shows (`view_of`), and not of the struct; the trait's
 --   clauses follow from it.
 -- - The methods are in files by what they do (`looking.rt`, `writing.rt`, `sql.rt`, `taking.rt`), the struct alone in
---   `keeper.rt`: a word of `specs/` that names a struct can't be cited by the file that declares it.
+--   `keeper.rt`: a definition in `specs/` that names a struct can't be cited by the file that declares it.
 -- - A store is read whole, judged by a function over what was read, and then brought up. With a join of two branches
 --   before a call the search fails; so cut, most goals need no answer, that a refused store is as it was among them.
 -- - The format is a parameter: clauses speak of `schema_at f`, `trees_at f` and `has_table`, so one body (`bring_at`)
---   serves all, and two lemmas say what a table shows that a format has, and what one that it lacks (`Adopts.with_table`,
---   `without_table`).
+--   serves all, and two lemmas state what a table shows that a format has, and what one that it lacks
+--   (`Adopts.with_table`, `without_table`).
 -- - `SELECT .. ORDER BY position DESC LIMIT 1` has one proof for any filter (`Tops.antt`).
 -- - Rows that are read ahead (`Turns.antt`): the code tests that their keys rise, so no order of the answer is needed. The
 --   clauses of `Ahead` speak of any table (`IsAhead`), and a ghost field of the keeper names the store's.

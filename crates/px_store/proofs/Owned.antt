@@ -1,4 +1,4 @@
--- Whose a store is says which format it has.
+-- The format of a store follows from whose it is.
 use Rattle.std.proofs.Common.{◌≡◌, ℕ, List, [], ◌∷◌, Bool, true, false, not, cond, ◌&&◌, Some, None, refl, sym, ◌∙◌}
 use Rattle.std.proofs.lemmas.Bool.{ne_eqb, and_parts, eqb-true}
 use Rattle.std.specs.Prelude.{Result, Ok, Err, IfErr, OnOk}
@@ -29,7 +29,7 @@ first_fails : (a b c : Bool) (e : AdoptFault) → a ≡ false → cond (not a) (
 first_fails true b c e is h = absurd cc
 first_fails false b c e is h = cc
 
--- the row of a store that isn't refused as one of this format says the format
+-- the row of a store that isn't refused as one of this format has the format
 one_row : (n : ℕ) (id : Identity) (floor : List Row) (r : Row) (more : Bool) → refusal_of n id (r ∷ []) floor more ≡ None → says_format n r ≡ true
 one_row n id floor r more h = first_holds (says_format n r) (says_member r && says_numbers r && are_floor_rows (number_in (column r 3)) floor) (says_owner id r) h
 

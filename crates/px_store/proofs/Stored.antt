@@ -59,7 +59,7 @@ reads members f g old new was same leaves = record {
   leaves = λ honest r left. (left.0, leaves honest left.0 left.1, left.2);
 }
 
--- what stands committed after a call that put a row
+-- what is committed after a call that put a row
 pub committed_put : (tree p : ℕ) (columns : List ℕ) (row : Row) (old new : State) → IsSettled new → old.now ≡ old.committed → Puts tree p columns row old.now.trees new.now.trees → Puts tree p columns row old.committed.trees new.committed.trees
 committed_put tree p columns row old new s begun h = subst₂ (λ (a b : Database). Puts tree p columns row a.trees b.trees) begun (sym s.committed) h
 

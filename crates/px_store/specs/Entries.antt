@@ -1,4 +1,4 @@
--- What the bytes of an entry say, as far as the record looks at them: who asked it, and its number there.
+-- What the record decodes of an entry's bytes: its origin, and its number there.
 use Rattle.std.specs.Prelude.{ℕ, ◌^◌, Bool, false, ◌&&◌, Option, None, Some, [], nat_lt}
 use Rattle.px_model.specs.Node.{Entry}
 use Rattle.px_model.specs.Spelling.{Bytes, entry_in}
@@ -17,6 +17,6 @@ abbrev pub is_member's : (members : ℕ) → Option (Entry Bytes) → Bool
 is_member's members None = false
 is_member's members (Some e) = nat_lt e.origin members && nat_lt e.number (2 ^ 48)
 
--- the bytes spell an entry that a member took in
+-- the bytes spell an entry that was submitted to a member
 unfoldable pub is_entry : (members : ℕ) → Bytes → Bool
 is_entry members bytes = is_member's members (entry_in bytes)

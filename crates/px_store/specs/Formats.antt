@@ -29,7 +29,7 @@ has_table t f = nat_lt t (tables_in f)
 abbrev pub trees_at : Format → Trees → Trees
 trees_at f db t = if has_table t f then db t else []
 
--- what the row for the whole node says of it
+-- the number of a format in the row for the whole node
 abbrev pub number_of : Format → ℕ
 number_of One = 1
 number_of Two = 2

@@ -20,7 +20,7 @@ has_rows (r ∷ rows) = true
 
 -- ---- the row for the whole node: id, format, cluster, members, node, round, number
 
--- the row says that the store has this format
+-- the row has this format
 abbrev pub says_format : ℕ → Row → Bool
 says_format format r = is_number (column r 1) && nat_eq (number_in (column r 1)) format
 
@@ -29,7 +29,7 @@ abbrev pub is_member_of : (cluster members node : ℕ) → Bool
 is_member_of cluster members node =
     nat_le cluster 4294967295 && (nat_le 1 members && (nat_le members 15 && nat_lt node members))
 
--- the row says of which cluster of 1 to 15 members the node is, and which of them
+-- the row has a cluster of 1 to 15 members and one of them
 abbrev pub says_member : Row → Bool
 says_member r = is_number (column r 2) && (is_number (column r 3) && (is_number (column r 4) &&
     is_member_of (number_in (column r 2)) (number_in (column r 3)) (number_in (column r 4))))
@@ -44,7 +44,7 @@ abbrev pub is_owner : Identity → (cluster members node : ℕ) → Bool
 is_owner i cluster members node =
     nat_eq cluster i.cluster && (nat_eq members i.members && nat_eq node i.node)
 
--- the row says that the store belongs to the node that opens
+-- the row is of the node that opens
 abbrev pub says_owner : Identity → Row → Bool
 says_owner i r = is_owner i (number_in (column r 2)) (number_in (column r 3)) (number_in (column r 4))
 

@@ -30,7 +30,7 @@ is_good members db LastEntry = IsLastGood any_row (IsEntryGood members (db 3)) (
 abbrev pub MayLeave : State → Record Bytes → Type 0
 MayLeave s found = (db : Trees) × s.may_leave db × (found ≡ record_in db)
 
--- what a connection shows of a record, where that many calls have failed: what is said of values holds where the disk
+-- what a connection shows of a record, where that many calls have failed: clauses on values hold where the disk
 -- returned what was written
 abbrev pub stored_of : (members failures : ℕ) → State → Stored
 stored_of members failures s = record {

@@ -1,4 +1,4 @@
--- What the rows of the four tables say of a record.
+-- The record that the rows of the four tables show.
 use Rattle.std.specs.Prelude.{◌≡◌, ℕ, ◌<◌, ◌/◌, ◌%◌, ◌^◌, pos, negsuc, Bool}
 use Rattle.std.specs.Prelude.{true, false, ◌&&◌}
 use Rattle.std.specs.Prelude.{if◌then◌else◌, List, [], ◌∷◌, map, filter, length, Option, Some, None, nat_eq}

@@ -6,7 +6,7 @@ use Rattle.px_records.specs.Records.{Place}
 
 -- what a connection shows of the record that it keeps
 pub record Stored : Type 1 where
-  -- what was written is what is read; what is said of values holds then
+  -- what was written is what is read; clauses on values hold then
   pub is_honest : Type 0
   -- the record, while no call has failed
   pub kept : Record Bytes

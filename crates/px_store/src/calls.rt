@@ -23,7 +23,7 @@ pub struct Identity {
     pub node: u8,
 }
 
-/// Why a statement failed: for lack of memory, with nothing changed and the connection serving, or else.
+/// Why a statement failed: out of memory, with nothing changed and the connection serving, or else.
 #[derive(Clone, Copy, PartialEq, Eq)]
 pub(crate) enum Trouble {
     Memory,
@@ -37,14 +37,14 @@ pub(crate) fn signed(n: u64) -> i64
     n as i64
 }
 
-/// Whether the system had no memory for a statement.
+/// Whether the system was out of memory for a statement.
 fn is_memory(error: &Error) -> bool
     ensures { IsTrue result ↔ (error.now ≡ Error.SqliteFailure ErrorCode.OutOfMemory) }
 {
     matches!(error, Error::SqliteFailure(ErrorCode::OutOfMemory))
 }
 
-/// Whether memory ran out and the connection still serves: it reads an empty text.
+/// Whether it was out of memory and the connection still serves: it reads an empty text.
 pub(crate) fn cause_of<S: Alter>(conn: &mut Connection<S>, error: Error) -> Trouble
     ensures memory { result ≡ Trouble.Memory → error ≡ Error.SqliteFailure ErrorCode.OutOfMemory }
     ensures serves { HasCleanDisk (state S.Store conn.new) → result ≡ Trouble.Memory →
@@ -62,8 +62,8 @@ pub(crate) fn cause_of<S: Alter>(conn: &mut Connection<S>, error: Error) -> Trou
     }
 }
 
-/// A row that is put in the place of the one with its key. The entry of a slot, or of what is learned, stands beside
-/// it, as bytes.
+/// A row that is put in the place of the one with its key. The entry of a slot, or of what is learned, is handed over
+/// beside it, as bytes.
 #[derive(Clone, Copy)]
 pub(crate) enum NewRow {
     /// The row for the whole node, with what identifies the node beside it.

@@ -39,7 +39,7 @@ fn examine_at<S: Alter>(
     }
 }
 
-/// What [`SqlRecords::reopen`](crate::SqlRecords::reopen) would refuse of a store, as its rows say: 73, 72 and 71, in this
+/// What [`SqlRecords::reopen`](crate::SqlRecords::reopen) would refuse of a store, by its rows: 73, 72 and 71, in this
 /// order. Nothing is changed.
 pub fn examine<S: Alter>(conn: &mut Connection<S>, identity: Identity) -> Result<(), AdoptFault>
     ensures known { OnOk result ((f : Format) × Began f (state S.Store conn.old)) }
@@ -68,7 +68,7 @@ pub fn examine<S: Alter>(conn: &mut Connection<S>, identity: Identity) -> Result
     }
 }
 
-/// Whose a store is, as its row for the whole node says: 73 without the tables of a format, 72 without one such row.
+/// Whose a store is, by its row for the whole node: 73 without the tables of a format, 72 without one such row.
 /// Nothing is changed.
 pub fn owner_in<S: Alter>(conn: &mut Connection<S>) -> Result<Identity, AdoptFault>
     ensures stays { HasCleanDisk (state S.Store conn.new) →

@@ -6,7 +6,7 @@ use thiserror::Error;
 /// Why a store isn't taken. Where more than one holds, the first of 70, 73, 72, 71 is reported.
 #[derive(Clone, Copy, Debug, PartialEq, Eq, Error)]
 pub enum AdoptFault {
-    /// Memory is wanting. The store shows the record that it showed.
+    /// Out of memory. The store shows the record that it showed.
     #[error("out of memory")]
     Memory,
     /// 70: the database refused a statement, or the connection is in a transaction. The store is as it was, or brought
@@ -16,7 +16,7 @@ pub enum AdoptFault {
     /// 73: the format isn't 1, 2 or 3, or the tables aren't those of the format. The store is as it was.
     #[error("the store has an unknown format")]
     StoreVersion,
-    /// 72: a row for the whole node is missing beside others, or says what no node writes. The store is as it was.
+    /// 72: a row for the whole node is missing beside others, or has what no node writes. The store is as it was.
     #[error("the store holds a bad row")]
     BadStore,
     /// 71: the store belongs to another cluster, to a cluster of another size, or to another node. The store is as it
@@ -26,7 +26,7 @@ pub enum AdoptFault {
 }
 
 impl AdoptFault {
-    /// The number of the refusal, none for lack of memory.
+    /// The number of the refusal, none when out of memory.
     pub fn code(&self) -> Option<u8>
         ensures { result ≡ code_of self.now }
     {

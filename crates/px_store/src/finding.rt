@@ -23,7 +23,7 @@ use crate::reading::{NUMBERS, ReadFault, floor_in_rows, number};
 use crate::tables::format_in;
 use sqlite::{Alter, Connection, Row};
 
-/// What the row for the whole node says, or nothing.
+/// What the row for the whole node has, or nothing.
 #[derive(Clone, Copy, PartialEq, Eq)]
 pub(crate) struct Found {
     pub(crate) has_row: bool,
@@ -98,7 +98,7 @@ pub(crate) fn refuse_lost<S: Alter>(conn: &mut Connection<S>) -> Result<(), Adop
     }
 }
 
-/// Whether the row says this format.
+/// Whether the row has this format.
 fn says_format(row: &Row, format: u64) -> Result<bool, AdoptFault>
     ensures value { IfOk result (λ b. b ≡ says_format format row.now) }
     ensures why { OnErr result (result ≡ Err AdoptFault.Memory) }
@@ -117,7 +117,7 @@ fn is_member_of(cluster: u64, members: u64, node: u64) -> bool
     cluster <= 4_294_967_295 && 1 <= members && members <= 15 && node < members
 }
 
-/// What the row for the whole node says, if a node writes such a row.
+/// What the row for the whole node has, if a node writes such a row.
 pub(crate) fn found_in_row(row: &Row) -> Result<Found, ReadFault>
     ensures good { OnOk result ((says_member row.now && says_numbers row.now) ≡ true) }
     ensures bad { result ≡ Err ReadFault.Bad → (says_member row.now && says_numbers row.now) ≡ false }
@@ -232,7 +232,7 @@ pub(crate) fn read_store<S: Alter>(
     })
 }
 
-/// Whether the row says this owner.
+/// Whether the row is this owner's.
 fn is_owner(found: &Found, identity: Identity) -> bool
     ensures { result ≡ is_owner identity found.now.cluster found.now.members found.now.node }
 {

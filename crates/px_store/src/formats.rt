@@ -14,7 +14,7 @@ pub enum Format {
 }
 
 impl Format {
-    /// What the row for the whole node says.
+    /// The number in the row for the whole node.
     pub fn number(self) -> u64
         ensures { result ≡ number_of self }
     {

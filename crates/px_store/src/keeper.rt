@@ -31,7 +31,7 @@ pub struct SqlRecords<S: Alter> {
 impl<S: Alter> SqlRecords<S> {
     ghost use Rattle.px_store.specs.View.{connection_of};
 
-    /// Gives the connection back, to be closed or taken again. It takes no memory, and may be called after a failure.
+    /// Gives the connection back, to be closed or taken again. It allocates nothing, and may be called after a failure.
     pub fn release(self) -> Connection<S>
         ensures { result ≡ connection_of self }
     {

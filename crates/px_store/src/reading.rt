@@ -1,4 +1,4 @@
-//! What the rows of an answer say.
+//! The decoding of an answer's rows.
 
 ghost use Rattle.std.specs.Prelude.{◌≡◌, ◌≢◌, ℕ, true, false, [], ◌∷◌, Err, IfOk, OnOk, OnErr};
 ghost use Rattle.std.specs.Prelude.{◌<◌, ◌≤◌, ◌^◌};
@@ -31,7 +31,7 @@ pub(crate) const NUMBERS: u64 = 281_474_976_710_656;
 /// The integers of a store are below it.
 pub(crate) const INTEGERS: u64 = 9_223_372_036_854_775_808;
 
-/// Why a row isn't read: for lack of memory, or since no commit writes it.
+/// Why a row isn't read: out of memory, or since no commit writes it.
 #[derive(Clone, Copy, PartialEq, Eq)]
 pub(crate) enum ReadFault {
     Memory,
@@ -77,7 +77,7 @@ fn bytes(row: &Row, at: usize) -> Result<Vec<u8>, ReadFault>
     }
 }
 
-/// Whether the bytes spell an entry that a member took in, as far as its first ten bytes say so.
+/// Whether the bytes spell an entry of a member, by their first ten bytes.
 #[tactic(auto, unfolding(crate::specs::Entries::is_entry))]
 pub(crate) fn is_entry_by(bytes: &[u8], members: u8) -> bool
     ensures { result ≡ is_entry members bytes.now }
@@ -257,7 +257,7 @@ fn meta_in_row(row: &Row, identity: Identity) -> Result<Numbers, ReadFault>
     })
 }
 
-/// What the row for the whole node says, which must be one of format 3 and of this node.
+/// The numbers of the row for the whole node, which must be one of format 3 and of this node.
 pub(crate) fn meta_in_rows(rows: &[Row], identity: Identity) -> Result<Numbers, ReadFault>
     ensures value { IfOk result (λ m. IsMetaIn identity.cluster identity.members identity.node m.round m.number
         rows.now) }

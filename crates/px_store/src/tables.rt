@@ -88,7 +88,7 @@ fn is_one(nodes: &[Op], depth: usize, at: usize) -> bool
     }
 }
 
-/// Whether the term says that the key is 1.
+/// Whether the term is that the key equals 1.
 fn is_key_one(nodes: &[Op], depth: usize, at: usize) -> bool
     ensures { IsTrue result ↔ (term_to nodes.now depth at ≡ key_is_one) }
 {

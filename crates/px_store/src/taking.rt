@@ -26,12 +26,12 @@ impl<S: Alter> SqlRecords<S> {
     /// or 3 the record of its rows, brought to format 3 in one transaction. What an older format lacks is 0, or nothing
     /// learned.
     ///
-    /// A refusal gives the connection back. 73 says that the schema is none of these, or that the row for the whole
-    /// node has another format, 72 that a row says what no node writes, or that this row is missing beside others, and
+    /// A refusal gives the connection back. 73 means that the schema is none of these, or that the row for the whole
+    /// node has another format, 72 that a row has what no node writes, or that this row is missing beside others, and
     /// 71 that the store is another node's, in this order. Such a store isn't written to. One without tables is never
     /// refused so.
     ///
-    /// Whatever it answers, a stop while it runs leaves what a stop left before, or the store of format 3, whole: its
+    /// Whatever it returns, a stop while it runs leaves what a stop left before, or the store of format 3, whole: its
     /// row for the whole node, and the rows that there were, which the node may take again. An opening that finds rows
     /// of format 3 finds their tables too, and so the record, or answers 73.
     pub fn adopt(

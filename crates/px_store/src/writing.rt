@@ -25,7 +25,7 @@ use px_records::StoreFault;
 use sqlite::Alter;
 
 impl<S: Alter> SqlRecords<S> {
-    /// Puts a row, with what the rows for the whole node then say.
+    /// Puts a row, after which the rows for the whole node have this `meta`.
     fn keep(&mut self, row: NewRow, bytes: &[u8], meta: Meta) -> Result<(), StoreFault>
         requires none { self.old.failures ≡ 0 }
         requires fits { AreIntegers row }

@@ -64,7 +64,7 @@ gives_accepted mine m e h b now = at (is_accepted (arrival_of mine e.known h))
     at true g = gives_kind m (with_header mine e h) h.kind b now g
     at false g = absurd cc
 
--- what happens to a receiver, as to one sender
+-- the events of a receiver, for one sender
 abbrev events_of : (member : ℕ) → List Event → List replay.Event
 events_of member [] = []
 events_of member (Starts mine ∷ es) = replay.Starts mine never ∷ events_of member es

@@ -19,11 +19,11 @@ sends_left w = w.sends_left
 abbrev pub period_of : {W : Type 0} → FaultyWire W → ℕ
 period_of w = w.period
 
--- how many never came to the wire below, up to 2^64 - 1
+-- how many never reached the wire below, up to 2^64 - 1
 abbrev pub missed_of : {W : Type 0} → FaultyWire W → ℕ
 missed_of w = w.missed
 
--- those of the wire below, and those that never came to it
+-- those of the wire below, and those that never reached it
 abbrev pub failures_of : {W : Type 0} → ℕ → FaultyWire W → ℕ
 failures_of below w = min (below + w.missed) (2 ^ 64 - 1)
 

@@ -16,7 +16,7 @@ use Rattle.px_transport.specs.Receiving.{Heard, Given, Whole, Joined, Held, Noth
 use Rattle.px_transport.specs.Receiving.{with_header}
 use Rattle.px_transport.specs.Receiving.{of_member, heard_after, given_by, reported_of}
 
--- ---- what happens to a receiver
+-- ---- a receiver's events
 
 pub data Event : Type 0 where
   -- it starts, with this start of its own, and has heard nobody

@@ -11,7 +11,7 @@ given_of w = take w.next (map (λ d. d.items) w.coming.items)
 abbrev pub sent_of : MemoryWire → List (ℕ × List ℕ)
 sent_of w = map (λ d. (d.0, d.1.items)) w.sent.items
 
--- what it was handed so far; none once memory was refused
+-- what it was handed so far; none once out of memory
 abbrev pub handed_of : MemoryWire → Option (List (ℕ × List ℕ))
 handed_of w = if w.is_whole then Some (sent_of w) else None
 

@@ -263,7 +263,7 @@ pub record Takes (keys : List (List ℕ)) (s : Sealer) (now : ℕ) (came : List 
   pub dropped_is : dropped' ≡ more_if (is_dropped (given_of s.start memory k.heard (opened keys s came) now)) dropped
   pub copies_is : copies' ≡ more_if (is_copy (given_of s.start memory k.heard (opened keys s came) now)) copies
 
--- the same of what came to the wire below, if anything
+-- the same of what the wire below received, if anything
 abbrev pub TakesAny : (keys : List (List ℕ)) → Sealer → (now : ℕ) → (came : Option (List ℕ)) → (room : ℕ) →
     (given : Option (List ℕ)) → (k k' : WireState) → (dropped dropped' copies copies' : ℕ) → Type 0
 TakesAny keys s now None room given k k' dropped dropped' copies copies' =

@@ -2,7 +2,7 @@
 //!
 //! # Organization
 //!
-//! - [`Wire`]: what a node asks of whoever carries its datagrams, in `specs/Wires`' words.
+//! - [`Wire`]: what a node requires of the carrier of its datagrams, in `specs/Wires`' terms.
 //! - [`MemoryWire`]: a wire in memory, which keeps all that went over it. [`FaultyWire`]: any wire, of which each
 //!   `k`-th receive and send fails, for tests of lost datagrams. [`LoopbackWire`]: any wire, which keeps what a member
 //!   sends to itself and gives it back.
@@ -21,8 +21,8 @@
 //!   contracts of `run_at_socket` and `run_sealed_at_socket` (node_control) are about the wire that was handed in.
 //! - **`Wire` is below nodes**, in a crate that knows none, so node_udp's proofs don't wait for theirs.
 //! - **A faulty wire reports what was given, not what it was handed**, since not all of that goes on.
-//! - **A wire that keeps what a member sends to itself** (`LoopbackWire`) hands it on below where 64 are kept or memory
-//!   is refused. These are datagrams like any other: what is kept may be lost, and is where the wire is taken apart.
+//! - **A wire that keeps what a member sends to itself** (`LoopbackWire`) hands it on below where 64 are kept or it is
+//!   out of memory. These are datagrams like any other: what is kept may be lost, and is where the wire is taken apart.
 //! - **`poll` has the clauses of `recv`**: no contract can distinguish a wait from none. Tests show that it waits for
 //!   nothing.
 //! - **A wire reports how long a caller may wait elsewhere** (`Wire::due`): a node with a control socket waits at that

@@ -15,7 +15,7 @@ use std::collections::VecDeque;
 const MOST_KEPT: usize = 64;
 
 /// A wire that keeps what a member sends to itself, and gives that back before it asks the wire below. Where 64 are
-/// kept or memory is refused, a datagram goes to the wire below as any other. In place of one that is longer than the
+/// kept or it is out of memory, a datagram goes to the wire below as any other. In place of one that is longer than the
 /// slice an empty one is given, which is no member's.
 pub struct LoopbackWire<W> {
     below: W,
@@ -36,7 +36,7 @@ impl<W: Drop> Drop for LoopbackWire<W> {
 }
 
 impl<W: Wire> LoopbackWire<W> {
-    /// The wire of the member `me`, which keeps nothing yet. Takes no memory.
+    /// The wire of the member `me`, which keeps nothing yet. Allocates nothing.
     pub fn new(alloc: Global, below: W, me: u8) -> LoopbackWire<W>
         ensures below { below_of result ≡ below }
         ensures me { me_of result ≡ me }

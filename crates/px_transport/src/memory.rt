@@ -37,7 +37,7 @@ impl Drop for MemoryWire {
 }
 
 impl MemoryWire {
-    /// A wire that gives these datagrams, and was handed nothing. Takes no memory.
+    /// A wire that gives these datagrams, and was handed nothing. Allocates nothing.
     pub fn new(alloc: Global, coming: Vec<Vec<u8>>) -> MemoryWire
         ensures coming { coming_of result ≡ map (λ d. d.items) coming.items }
         ensures given { given_of result ≡ [] }
@@ -54,7 +54,7 @@ impl MemoryWire {
         }
     }
 
-    /// What it was handed: for whom, and the bytes. `None` once memory was refused.
+    /// What it was handed: for whom, and the bytes. `None` once out of memory.
     pub fn sent(&self) -> Option<&[(u8, Vec<u8>)]>
         ensures { option_map (λ s. map (λ d. (d.0, d.1.items)) s.now) result ≡ handed_of self.now }
     {

@@ -51,7 +51,7 @@ impl Model for Outgoing {
 }
 
 impl Outgoing {
-    /// Nothing was sent. Takes no memory.
+    /// Nothing was sent. Allocates nothing.
     pub(crate) fn new(alloc: Global) -> Outgoing
         ensures { result ≡ new_to }
     {

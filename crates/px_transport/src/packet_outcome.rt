@@ -12,7 +12,7 @@ pub enum PacketOutcome<'a> {
     /// Which pieces of a datagram the sender of the packet has.
     Held(PiecesHeld),
     /// Nothing is given: the packet is of kind state, or has a piece of an unfinished datagram, or a body that isn't
-    /// what its kind says; or its sender is no member; or memory was refused.
+    /// that of its kind; or its sender is no member; or it was out of memory.
     Nothing,
     /// It isn't accepted.
     Dropped(Arrival),

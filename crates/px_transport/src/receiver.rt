@@ -181,7 +181,7 @@ impl Receiver {
         entry.peer.start()
     }
 
-    /// Takes an authentic packet, by its header and body, that came at a time in milliseconds. Where memory is refused
+    /// Takes an authentic packet, by its header and body, that came at a time in milliseconds. When out of memory
     /// a piece is lost, or the datagram of which it is the last, and nothing else changes.
     pub fn take<'a>(&mut self, header: &Header, body: &'a [u8], now: u64) -> PacketOutcome<'a>
         ensures { (mine : Start) (hs : List Heard) → Hears mine hs self.old → (m : Memory) ×
@@ -197,7 +197,7 @@ impl Receiver {
     }
 
     /// Which pieces of a datagram of a member have come, where that is to be reported at this time, as
-    /// [`Reassembly::report`] says. There may be another.
+    /// [`Reassembly::report`] has it. There may be another.
     pub fn report(&mut self, member: u8, now: u64) -> Option<PiecesHeld>
         ensures held { (mine : Start) (hs : List Heard) → Hears mine hs self.old →
             result ≡ due_held now (of_member hs member).unfinished }

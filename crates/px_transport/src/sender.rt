@@ -83,7 +83,7 @@ impl Sender {
     }
 
     /// Seals a packet for a member with the next counter, and hands it to the wire below. Whether it was sent; where no
-    /// counter is left or memory is refused nothing was handed over.
+    /// counter is left or it is out of memory nothing was handed over.
     pub(crate) fn send_packet<W: Wire>(
         &mut self,
         inner: &mut W,

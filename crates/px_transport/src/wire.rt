@@ -4,7 +4,7 @@ ghost use Rattle.std.specs.Prelude.{◌≡◌, ◌≤◌, ℕ, List, [], ◌∷�
 ghost use Rattle.px_transport.specs.Identities.{Identity};
 ghost use Rattle.px_transport.specs.Wires.{Adds, Counts, IsQuiet, WireEvent, Handed, gives};
 
-/// Where datagrams come from and go to. Members are distinguished by their numbers; 255 is whoever sent the datagram
+/// Where datagrams come from and go to. Members are distinguished by their numbers; 255 is the sender of the datagram
 /// that came last. A datagram that isn't sent is lost, as it may be on its way: nothing else follows from it. Of what
 /// it is handed a wire sends nothing again of its own accord: node_loop hands it again. A wire of packets adds packets
 /// that its layer needs.
@@ -44,7 +44,7 @@ pub trait Wire {
     fn due(&self, milliseconds: u32) -> u32
         ensures { result ≤ milliseconds };
 
-    /// Sends the bytes to a member, or with 255 to whoever sent the datagram that came last. Whether they were sent.
+    /// Sends the bytes to a member, or with 255 to the sender of the datagram that came last. Whether they were sent.
     fn send(&mut self, to: u8, bytes: &[u8]) -> bool
         ensures handed { Adds (traffic self.old) (traffic self.new) (Handed to bytes.now ∷ []) }
         ensures counts { Counts result (failed self.old) (failed self.new) }

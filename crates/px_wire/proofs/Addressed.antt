@@ -1,4 +1,4 @@
--- One byte says to whom a datagram goes.
+-- One byte has a datagram's addressee.
 use Rattle.std.proofs.Common.{ℕ, List, ap}
 use Rattle.std.specs.Prelude.{slice_set}
 use Rattle.px_wire.specs.Message.{Group, Message, HasSpelling, DatagramBytes}

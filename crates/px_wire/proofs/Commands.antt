@@ -37,7 +37,7 @@ some_there : {A : Type 0} (r : Option A) → is_some r ≡ true → (x : A) × (
 some_there None h = absurd cc
 some_there (Some x) h = (x, refl)
 
--- what stands after the number of an entry
+-- what follows the number of an entry
 abbrev late : entries.Entry → List ℕ
 late e = (entries.kind e.command ∷ entries.path (entries.path_of e.command)) ++ entries.rest e.command
 

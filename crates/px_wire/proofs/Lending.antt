@@ -1,4 +1,4 @@
--- The members' view of an entry's bytes says what the entry says.
+-- The members' view of an entry's bytes is the entry.
 use Rattle.std.proofs.Common.{◌≡◌, ℕ, ◌^◌, ◌<◌, ◌≤◌, true, leb, length, List, Option, Some, None, sym, ap, subst, ◌∙◌, arith}
 use Rattle.std.specs.Prelude.{option_map, IfSome}
 use Rattle.std.proofs.lemmas.Bool.{le-leb}

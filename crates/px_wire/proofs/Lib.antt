@@ -6,14 +6,14 @@
 --   so names and addresses share every lemma about loops. Lent lists (`Names`, `Addresses`) are a count and bytes with a
 --   ghost field that they are spelled, and iterators by `YieldsFirstBy`.
 -- - Datagrams: a table of fields for each kind, with absolute offsets; `first_fault` walks it. The code reads
---   `u64_at(bytes, 13)`, each reader says `ReadsField`, `ReadsEntry` or `ReadsBody` of its fields and its value, and
+--   `u64_at(bytes, 13)`, each reader states `ReadsField`, `ReadsEntry` or `ReadsBody` of its fields and its value, and
 --   closes by itself with `unfolding(fault_of)`.
--- - Values as they lie (`Lent`, `lent_in`): one function (`reading::entry_in`) joins pf_entry's reading with px_model's
+-- - Borrowed values (`Lent`, `lent_in`): one function (`reading::entry_in`) joins pf_entry's reading with px_model's
 --   view of the same bytes, by `Lending.read_lends`; all above sees an `Option Lent`.
 -- - No proper front: a reader by `>>=` from left to right (`Fronts`), `read (body x ++ more) ≡ Some (x, more)` by kind,
 --   and the law is ten lines. The header computes: `ap (drop 10)` of both sides leaves from, to, kind and body. So do `ap
 --   (drop 29)` for an entry's bytes (`Members.lent_are_bytes`) and `slice_set (spelling ..) 11 to` (`Addressed`).
--- - A head: what reads a number at a place answers an `Option` (`u64_in`), and the readers with faults stand on it. What
+-- - A head: what reads a number at a place answers an `Option` (`u64_in`), and the readers with faults use it. What
 --   `Head::read` answers is written by `>>=` in specs/inner (`head_in`), and closes by itself; that it is the message's
 --   head is one lemma by kind over `Stands` (`Heads.head_again`), for bytes that only begin with the datagram.
 -- - The log's messages: `message_of x ≡ as_sent (come_of x)` by `refl` for each kind but an Ask, which no member sends.

@@ -176,7 +176,7 @@ lent_accepted : (a : Option (kept.Proposal EntryView)) → accepted_of a ≡ len
 lent_accepted None = refl
 lent_accepted (Some x) = refl
 
--- whoever sends it is a member
+-- its sender is a member
 sent_lent : (n from to : ℕ) (x : declared.Message EntryView) → n ≤ 15 → from < n → fits.IsBetween n from to (come_of x) → message_of x ≡ as_sent (come_of x)
 sent_lent n from to (views.Prepare b p) le lt h = refl
 sent_lent n from to (views.Promise b p a) le lt h = ap (λ (r : Option (ℕ × Lent)). promise b p r) (lent_accepted a)

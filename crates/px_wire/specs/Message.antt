@@ -62,7 +62,7 @@ kind (ask_refused t c) = 10
 kind (prepare_all b p) = 11
 kind (promise_all b p top a) = 12
 
--- what stands after the kind
+-- what follows the kind
 abbrev pub body : Message → List ℕ
 body (prepare b p) = to_be_bytes w64 b ++ to_be_bytes w32 p
 body (promise b p a) = to_be_bytes w64 b ++ to_be_bytes w32 p ++ reported a
@@ -148,7 +148,7 @@ abbrev pub IsReported : Group → ℕ → Option (ℕ × Lent) → Type 0
 IsReported g b None = Unit {0}
 IsReported g b (Some a) = IsTrue (is_ballot g a.0) × (a.0 < b) × IsMembers g a.1
 
--- what stands after the kind: what proposes has the sender's ballot, what answers it the addressee's, a vote any
+-- what follows the kind: what proposes has the sender's ballot, what answers it the addressee's, a vote any
 -- member's
 abbrev pub IsBody : Group → ℕ → ℕ → Message → Type 0
 IsBody g from to (prepare b p) = IsTrue (is_ballot_of g from b) × IsTrue (is_position p)

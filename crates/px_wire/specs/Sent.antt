@@ -40,7 +40,7 @@ IsNumber k = k < 2 ^ 48
 
 -- ---- entries and messages
 
--- an entry of such an origin, which its bytes say
+-- an entry of such an origin, which is the one in its bytes
 pub record EntryFits (IsOrigin : ℕ → Type 0) (x : Lent) : Type 0 where
   pub origin : IsOrigin x.origin
   pub number : IsNumber x.number

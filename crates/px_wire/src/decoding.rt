@@ -12,7 +12,7 @@ use crate::fault::WireFault;
 use crate::membership::Membership;
 use crate::reading::datagram_of;
 
-/// The sender and the message that the datagram spells for this member, or its first fault. Takes no memory: the
+/// The sender and the message that the datagram spells for this member, or its first fault. Allocates nothing: the
 /// message's entry is in the bytes.
 ///
 /// Errors are 50 to 57, the fields in order, and 56 at the first byte past the last field ([`WireFault`]).

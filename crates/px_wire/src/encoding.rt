@@ -227,7 +227,7 @@ fn put_header(out: &mut Vec<u8>, m: &Membership, to: u8, kind: Kind) -> Result<(
 /// The one spelling of a message to a member, or to 255, a client. The message has one: its ballots, position and
 /// entry are allowed for the sender `m.me()` and the addressee. Its entry's bytes are copied.
 ///
-/// Fails for lack of memory alone.
+/// Fails only when out of memory.
 pub fn encode(
     alloc: Global,
     m: &Membership,
@@ -246,7 +246,7 @@ pub fn encode(
 /// The same of a message as a member of the log sends it. What a step sends fits, so it has a spelling: a node shows
 /// the second condition by its plan.
 ///
-/// Fails for lack of memory alone.
+/// Fails only when out of memory.
 pub fn encode_sent(
     alloc: Global,
     m: &Membership,

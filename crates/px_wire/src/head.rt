@@ -11,7 +11,7 @@ use crate::limits::{
 };
 use crate::reading::{u8_in, u32_in, u64_in};
 
-/// What a datagram says before its entry: who sends it to whom, and what it is about.
+/// What a datagram has before its entry: who sends it to whom, and what it is about.
 #[derive(Clone, Copy, PartialEq, Eq)]
 pub struct Head {
     /// The sender: a member, or 255 for a client.
@@ -125,9 +125,9 @@ fn head_in(bytes: &[u8]) -> Option<Head>
 }
 
 impl Head {
-    /// The head of the datagram with which the bytes begin, of whatever group it is and whoever it is for. Takes no
-    /// memory, and looks at a few fixed places alone: so it costs the same for a long datagram, and bytes that spell
-    /// no message may have a head too. What follows the datagram, as a tag, changes nothing.
+    /// The head of the datagram with which the bytes begin, of any group and to any addressee. Allocates nothing, and
+    /// looks at a few fixed places alone: so it costs the same for a long datagram, and bytes that spell no message may
+    /// have a head too. What follows the datagram, as a tag, changes nothing.
     pub fn read(bytes: &[u8]) -> Option<Head>
         // Where the bytes spell a message, it is the head of that.
         ensures spelled { (g : Group) (from to : ℕ) (message : Message) →
@@ -140,8 +140,8 @@ impl Head {
         head_in(bytes)
     }
 
-    /// A position below which the sender has learned all, as its message shows: whoever proposes or votes at a
-    /// position, or lacks it, has learned all below, and whoever reports its entry has learned that too. 0 where the
+    /// A position below which the sender has learned all, as its message shows: a member that proposes or votes at a
+    /// position, or lacks it, has learned all below, and one that reports its entry has learned that too. 0 where the
     /// message shows none.
     pub fn learned_below(&self) -> u32
         ensures { result ≡ learned_below self.now }

@@ -4,7 +4,7 @@ ghost use Rattle.std.specs.Prelude.{◌≡◌};
 ghost use Rattle.px_wire.specs.Heads.{number_of};
 ghost use Rattle.px_wire.specs.inner.Heads.{kind_in};
 
-/// The kind of a message. What each one says is at the variant of [`Message`](crate::Message) with its name.
+/// The kind of a message. The fields of each are at the variant of [`Message`](crate::Message) with its name.
 #[derive(Clone, Copy, PartialEq, Eq)]
 pub enum Kind {
     /// A prepare request for one position.

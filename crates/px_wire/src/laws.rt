@@ -85,7 +85,7 @@ pub fn what_has_a_spelling_fits()
         AreBytes (lent_bytes message) → HasSpelling g from to message → sent.Fits g.members from to message }
 {}
 
-/// What goes to one member and says nothing of it, has a spelling to each other one.
+/// A message to one member whose fields don't depend on the addressee has a spelling to each other one.
 pub fn what_is_for_all_goes_to_each()
     ensures { (g : Group) (from to other : ℕ) (message : datagrams.Message) →
         g.members ≤ MEMBERS → is_for_all message ≡ true → other < g.members →

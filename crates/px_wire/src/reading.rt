@@ -145,7 +145,7 @@ fn position_at(bytes: &[u8], at: usize) -> Result<u32, WireFault>
     Ok(number)
 }
 
-/// No byte stands past the last field.
+/// No byte follows the last field.
 fn end_at(bytes: &[u8], end: usize) -> Result<(), WireFault>
     ensures { Answers (λ x. x) result (first_fault [] end bytes.now) tt }
 {

@@ -28,7 +28,7 @@ pub struct Reader {
     alloc: Global,
 }
 
-/// A node with an empty record in memory. None where there is no memory, and for 255, who has none.
+/// A node with an empty record in memory. None when out of memory, and for 255, who has none.
 pub fn node_of(alloc: Global, m: Membership) -> Option<Node<Kept>> {
     if m.me() >= m.members() {
         return None;
@@ -48,7 +48,7 @@ fn is_written_again(alloc: Global, m: &Membership, bytes: &[u8]) -> Result<bool,
     Ok(written.as_slice() == bytes)
 }
 
-/// Whether nothing came to the node yet that it took.
+/// Whether the node has accepted nothing yet.
 fn is_new(node: &Node<Kept>) -> bool {
     node.front() == 0 && node.applied() == 0 && node.round() == 0 && !node.has_failed()
 }

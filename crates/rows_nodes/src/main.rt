@@ -1,16 +1,16 @@
-//! Members of three, and datagrams that come to them, line by line: the stored input has the lines, the stored output
-//! what each gives.
+//! Members of a cluster of three, and datagrams that they receive, line by line: the stored input has the lines, the
+//! stored output what each gives.
 //!
-//! A line of the input is a form, a name and words:
+//! A line of the input is a form, a name and arguments:
 //!
 //! - `run` and steps: `ask:MEMBER:DIGITS`, the command of the entry with these hexadecimal digits, `tick:MEMBER`,
 //!   `stop:MEMBER`, a tick of which what is sent is lost, behind which the member starts anew, or a message's number,
-//!   which comes to its addressee. Written are all messages that were handed out, what each member shows, and what it
+//!   which its addressee receives. Written are all messages that were handed out, what each member shows, and what it
 //!   leaves in its record.
 //! - `until` and steps: the same, but that a refused call ends the run.
-//! - `stops` and steps: what the first member's record shows, opened again, behind the first that many steps, for each
-//!   number of them; and where its first, second .. commit fails before its change or after it, until none fails. A
-//!   member that failed must refuse each further call and hand nothing out, else the line says `wrong`.
+//! - `stops` and steps: what the first member's record shows, opened again, after the first n steps, for each n; and
+//!   where its first, second .. commit fails before its change or after it, until none fails. A member that failed must
+//!   refuse each further call and hand nothing out, else the line is `wrong`.
 //! - `encode`, a reader, digits and a number: the datagram with these digits and that many times `x`.
 //!
 //! Any other line is a name, who reads (a member of the three of cluster 7, or 255) and a datagram's bytes in
@@ -18,14 +18,14 @@
 //! each of its proper fronts, by length, and for each byte, for each value that it may be set to, it is written what
 //! the reader answers, runs of equal answers together. An answer is a fault's code and offset, or `same`: read, and
 //! written again as those bytes. A member's node gets each that is refused too, and must ignore it with that fault,
-//! hand out nothing, and stay as it was, else the answer is `wrong`. With a word `x1000` before the bytes they come to
-//! a new node that many times, and one line says what it did.
+//! hand out nothing, and stay as it was, else the answer is `wrong`. With `x1000` before the bytes a new node receives
+//! them that many times, and one line shows what it did.
 //!
-//! Of a `run`, `until` or `encode`, a call that finds no memory is made again: that is what `scripts/refused-memory`
-//! compares. Where a call finds no memory, nothing may be handed out, and the member must show what it showed before,
-//! else the run says `wrong`. A line that begins with `memory` has how many calls were refused so, and behind how many
-//! datagrams less was applied than learned. `nothing` stands where the program itself found no memory for a line, or
-//! can't read it.
+//! Of a `run`, `until` or `encode`, a call that is out of memory is made again: that is what `scripts/refused-memory`
+//! compares. Where a call is out of memory, nothing may be handed out, and the member must show what it showed before,
+//! else the run prints `wrong`. A line that begins with `memory` has how many calls were refused so, and behind how
+//! many datagrams less was applied than learned. `nothing` is printed where the program itself is out of memory for a
+//! line, or can't read it.
 #![tactic(auto)]
 
 mod answer;

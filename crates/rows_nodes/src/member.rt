@@ -1,4 +1,4 @@
-//! A member, and what stands after a call of it that found no memory.
+//! A member, and its state after a call of it that was out of memory.
 
 ghost use Rattle.std.specs.Prelude.{◌≡◌};
 
@@ -88,7 +88,7 @@ pub fn look<R: Records>(node: &Node<R>) -> Seen {
 /// What was refused so far.
 #[derive(Clone, Copy)]
 pub struct Counters {
-    /// Datagrams that were refused for lack of memory.
+    /// Datagrams that were refused since it was out of memory.
     pub datagrams: u32,
     /// Ticks that were.
     pub ticks: u32,
@@ -169,7 +169,7 @@ impl Counters {
         }
     }
 
-    /// The call was refused for lack of memory.
+    /// The call was refused: out of memory.
     fn count(&mut self, event: Event) {
         match event {
             Event::Asks(_) => self.commands = self.commands.saturating_add(1),
@@ -199,7 +199,7 @@ impl Counters {
     }
 }
 
-/// Makes the call, so often again as memory runs out, or once: whether it was done.
+/// Makes the call, again as often as it is out of memory, or once: whether it was done.
 pub fn take<R: Records>(
     node: &mut Node<R>,
     event: Event,

@@ -22,7 +22,7 @@ pub fn reader_of(number: &str) -> Option<Membership> {
     }
 }
 
-/// How many times a datagram arrives, by a word `x1000`.
+/// How many times a datagram arrives, by an argument `x1000`.
 fn times_of(word: &str) -> Option<u32> {
     word.strip_prefix('x')?.parse::<u32>().ok()
 }

@@ -128,7 +128,7 @@ impl<R: Records + Drop> Run<R> {
         Some(take(node, Event::Ticks, out, &mut self.counters, self.is_once))
     }
 
-    /// The message comes to its addressee.
+    /// The addressee receives the message.
     fn deliver(&mut self, number: usize, out: &mut Vec<Datagram>) -> Option<bool> {
         let datagram = self.sent.get(number)?;
         let node = self.members.get_mut(datagram.to as usize)?;
@@ -178,7 +178,7 @@ impl<R: Records + Drop> Run<R> {
     }
 
     /// The step happens, and what it hands out is on its way: whether it was done. None where it is no step, or the
-    /// program itself found no memory.
+    /// program itself was out of memory.
     pub fn happen(&mut self, step: Step) -> Option<bool> {
         let mut out = Vec::new(self.alloc);
         let is_done = self.take_step(step, &mut out);

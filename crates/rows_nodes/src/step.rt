@@ -1,4 +1,4 @@
-//! The words in a run.
+//! The steps of a run.
 
 /// What happens at a member.
 #[derive(Clone, Copy)]
@@ -9,12 +9,12 @@ pub enum Step<'a> {
     Tick(usize),
     /// Its clock ticks, and it stops as soon as the change is recorded: what it sends is lost, and it starts anew.
     Stop(usize),
-    /// The message of this number comes to its addressee.
+    /// The addressee receives the message of this number.
     Deliver(usize),
 }
 
 impl<'a> Step<'a> {
-    /// The step of a word, if it is one.
+    /// The step that an argument spells, if it is one.
     pub fn read(word: &'a str) -> Option<Step<'a>> {
         let (form, rest) = word.split_once(':').unwrap_or(("", word));
         let (number, digits) = rest.split_once(':').unwrap_or((rest, ""));

@@ -45,7 +45,7 @@ fn bytes_of(alloc: Global, digits: &str, more: usize) -> Option<Vec<u8>> {
     Some(bytes)
 }
 
-/// The reader and the bytes of a line behind its first word.
+/// The reader and the bytes of a line after its form.
 fn datagram(alloc: Global, line: &str) -> Option<(Membership, Vec<u8>)> {
     let (_form, rest) = line.split_once(' ')?;
     let (_name, rest) = rest.split_once(' ')?;
@@ -56,8 +56,8 @@ fn datagram(alloc: Global, line: &str) -> Option<(Membership, Vec<u8>)> {
     Some((reader, bytes))
 }
 
-/// The length of what is written for the message of these bytes, and how often memory ran out before: it is written
-/// again then. None where other bytes are written.
+/// The length of what is written for the message of these bytes, and how often it was out of memory before: it is
+/// written again then. None where other bytes are written.
 fn length_of(alloc: Global, reader: &Membership, bytes: &[u8]) -> Option<(usize, u32)> {
     for refused in 0..TRIES {
         match write_once(alloc, reader, bytes) {
@@ -69,7 +69,7 @@ fn length_of(alloc: Global, reader: &Membership, bytes: &[u8]) -> Option<(usize,
     None
 }
 
-/// Writes that a datagram of this length is written as it was read, and how often memory ran out before.
+/// Writes that a datagram of this length is written as it was read, and how often it was out of memory before.
 fn write_same(rt: &HostRuntime, length: usize, refused: u32) -> io::Result<()> {
     if refused > 0 {
         println!(rt; "memory: receive 0 tick 0 ask 0 encode {refused} late 0")?;

@@ -11,7 +11,7 @@ use std::alloc::{AllocError, Global};
 use std::fs;
 use std::io::{self, Cursor};
 
-/// The words, in which `~` stands for a blank, with the program's name before them.
+/// The arguments, in which `~` stands for a blank, with the program's name before them.
 pub(crate) fn words_of(alloc: Global, words: &str) -> Result<Vec<String>, AllocError> {
     let mut all = Vec::new(alloc);
     all.push(String::from_str(alloc, "pfx")?)?;
@@ -36,7 +36,7 @@ pub(crate) fn print_run(
     Ok(())
 }
 
-/// Runs the program's words at the control socket.
+/// Runs the program with these arguments at the control socket.
 fn run(rt: &HostRuntime, operator: &Operator<'_>, words: &str, input: &str) -> io::Result<()> {
     let alloc = rt.alloc();
     let owned = words_of(alloc, words)?;

@@ -1,10 +1,10 @@
 //! Requests to a node of a cluster of one, and what is answered: the stored input has the requests, the stored output
 //! what is to be written.
 //!
-//! A row of the input is a line `== METHOD PATH?QUERY`, behind which `json` may stand for a client that wants JSON, and
+//! A row of the input is a line `== METHOD PATH?QUERY`, which `json` may follow for a client that wants JSON, and
 //! the text up to the newline before the next such line is its body. What is before the first one is passed over.
 //! Of each row the output has the same line, a line `-- CODE`, and the answer's body. Between two rows the node's clock
-//! ticks, and what it sends to itself comes.
+//! ticks, and what it sends to itself is received.
 //!
 //! A row `== FOLLOW` runs `follow` over a new node, with rulesets in the folder and the file `lines` as its output. Its
 //! body has changes, a line each, with `|` for a newline. At each ask what was written so far is printed: the rulesets,
@@ -12,11 +12,11 @@
 //! rulesets, but lines with the members' guard, which are printed in the end. A row `== FOLLOW LATE` has rulesets in a
 //! folder that is made before the third ask.
 //!
-//! A row `== RUN WORDS` runs `ask` or `follow` with these words, in which `~` stands for a blank, and the body as the
-//! input, at the control socket of another node, which runs for a few turns for each connection. Of each request the
-//! first line is printed, and the head of the answer without its date and length; then a line `-- STATUS`, and what the
-//! program wrote. In a row `== LATE WORDS` the node's clock ticks at the end of its turns alone, and in a row
-//! `== CUT WORDS` half of the answer comes, and nothing more in time. `== SOCKET` prints the mode of that control
+//! A row `== RUN ARGUMENTS` runs `ask` or `follow` with these arguments, in which `~` stands for a blank, and the body
+//! as the input, at the control socket of another node, which runs for a few turns for each connection. Of each request
+//! the first line is printed, and the head of the answer without its date and length; then a line `-- STATUS`, and what
+//! the program wrote. In a row `== LATE ARGUMENTS` the node's clock ticks at the end of its turns alone, and in a row
+//! `== CUT ARGUMENTS` half of the answer comes, and nothing more in time. `== SOCKET` prints the mode of that control
 //! socket, and `== FILE NAME` a file. Of a file that can't be opened the path is printed.
 //!
 //! A row `== NODE N` runs the first of N members at its control socket, with the timer that a node has, and a clock of
@@ -27,16 +27,16 @@
 //! |---|---|
 //! | `pass N` | N milliseconds pass |
 //! | `datagram HEX` | a datagram comes |
-//! | `pfx WORDS` | as a row `== PFX WORDS` |
+//! | `pfx ARGUMENTS` | as a row `== PFX ARGUMENTS` |
 //! | `K` | client K connects; a client that isn't there connects first in the steps below too |
 //! | `K tcp` | client K connects to the port of figures |
 //! | `K METHOD TARGET BODY` | client K sends a request; without a target the front of one |
 //!
-//! A row `== PFX WORDS` runs the program's `node`, `key`, or `ask` over UDP, in a cluster of two, of which `@1` is the
-//! address of the first member, `@2` that of the second, at which the row listens, and `@3` that of figures of the node
-//! of such rows: it prints what came to the second member.
-//! `== SUM NAME` prints a sum of a file's bytes, which shows whether it has changed.
-//! `== STRANGER` prints how many bytes are given of datagrams of a member and of a stranger where members are heard.
+//! A row `== PFX ARGUMENTS` runs the program's `node`, `key`, or `ask` over UDP, in a cluster of two, of which `@1` is
+//! the address of the first member, `@2` that of the second, at which the row listens, and `@3` that of figures of the
+//! node of such rows: it prints what the second member received. `== SUM NAME` prints a sum of a file's bytes, which
+//! shows whether it has changed. `== STRANGER` prints how many bytes are given of datagrams of a member and of a
+//! stranger where members are heard.
 #![tactic(auto)]
 
 mod asking;

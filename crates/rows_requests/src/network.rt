@@ -1,4 +1,4 @@
-//! The program `pfx` in a cluster of two: the row is the second member, and prints what comes to it.
+//! The program `pfx` in a cluster of two: the row is the second member, and prints what it receives.
 
 use crate::asking::{print_run, words_of};
 use cli_node::run_net;
@@ -93,8 +93,8 @@ impl Network {
         Ok(())
     }
 
-    /// Runs the program's words, in which `@1` and `@2` stand for the addresses of the members, and `@3` for that of
-    /// figures.
+    /// Runs the program with these arguments, in which `@1` and `@2` stand for the addresses of the members, and `@3`
+    /// for that of figures.
     pub(crate) fn run(&self, rt: &HostRuntime, words: &str) -> io::Result<()> {
         let alloc = rt.alloc();
         let words = words.replace(alloc, "@1", self.first.as_str())?;

@@ -69,7 +69,7 @@ fn send(sent: &mut Vec<Datagram>, out: Vec<Datagram>) -> Result<(), NodeFault> {
     Ok(())
 }
 
-/// The message of this number comes to its addressee; what that sends is appended.
+/// The addressee receives the message of this number; what that sends is appended.
 fn deliver<R: Records>(
     alloc: Global,
     nodes: &mut Vec<Node<R>>,

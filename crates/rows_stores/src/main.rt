@@ -5,16 +5,14 @@
 //!
 //! Each store is that of a member of 3, and a line's parts are between ` | `.
 //!
-//! | Line | Does |
-//! |---|---|
-//! | `in FILE \| TASK \| ..` | opens the store in the file, or in empty ones in memory, `in memory`, and does the tasks |
-//! | `twice FILE \| TASK \| ..` | the same; opens the file once more, which must be refused; does the tasks again |
-//! | `plain K WHEN \| STEP, .. \| STEP, ..` | steps over a record in memory whose `K`-th commit fails `before` or `after`
-//! its change (0: none does), then steps over the record itself |
-//! | `stops BEFORE \| SQL \| RECORD \| CHANGE \| RECORD \| ..` | a run in files that stop (see [`stops`]) |
-//! | `node-stops BEFORE \| SQL \| RECORD \| STEP \| RECORD \| ..` | a node's run in files that stop |
-//! | `nodes in memory` | a run of three nodes over empty stores in memory, one of which stops (see [`cluster`]) |
-//! | `text FILE`, `folder FILE`, `cut FILE BYTES` | writes a file, makes a folder, leaves the first bytes of the file |
+//! | Line | Does | |---|---| | `in FILE \| TASK \| ..` | opens the store in the file, or in empty ones in memory, `in
+//! memory`, and does the tasks | | `twice FILE \| TASK \| ..` | the same; opens the file once more, which must be
+//! refused; does the tasks again | | `plain K WHEN \| STEP, .. \| STEP, ..` | steps over a record in memory whose
+//! `K`-th commit fails `before` or `after` its change (0: none does), then steps over the record itself | | `stops
+//! BEFORE \| SQL \| RECORD \| CHANGE \| RECORD \| ..` | a run in files that stop (see [`stops`]) | | `node-stops BEFORE
+//! \| SQL \| RECORD \| STEP \| RECORD \| ..` | a node's run in files that stop | | `nodes in memory` | a run of three
+//! nodes over empty stores in memory, one of which stops (see [`cluster`]) | | `text FILE`, `folder FILE`, `cut FILE
+//! BYTES` | writes a file, makes a folder, leaves the first bytes of the file |
 //!
 //! | Task | Does |
 //! |---|---|
@@ -23,7 +21,7 @@
 //! | `node STEP, .. then STEP, ..` | a node's steps (see [`node`]) over the store of member 0, then those of its
 //! record, which the node gave back and which is taken again |
 //! | `sql STATEMENTS` | runs statements that answer nothing |
-//! | `count` | reads the format that its row says, and counts its tables |
+//! | `count` | reads the format in its row, and counts its tables |
 //!
 //! The steps are those of [`record`].
 //!
@@ -66,7 +64,7 @@ use crate::stops::{CHANGES, STEPS, stops};
 use crate::store::plain;
 use std::io;
 
-/// Does what the line says, and what came of it is appended. Whether there was memory for that.
+/// Does what the line asks for, and appends what came of it. False when out of memory for that.
 fn done(rt: &HostRuntime, line: &str, out: &mut String) -> bool {
     let (word, rest) = line.split_once(' ').unwrap_or((line, ""));
     let (file, tasks) = rest.split_once(" | ").unwrap_or((rest, ""));
@@ -85,7 +83,7 @@ fn done(rt: &HostRuntime, line: &str, out: &mut String) -> bool {
     }
 }
 
-/// Does what the line says, and prints what came of it.
+/// Does what the line asks for, and prints what came of it.
 fn tell(rt: &HostRuntime, line: &str) -> io::Result<()> {
     let mut out = String::new(rt.alloc());
     let shown = if done(rt, line, &mut out) {

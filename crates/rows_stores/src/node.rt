@@ -4,7 +4,7 @@
 //! |---|---|
 //! | `ask` | asks it to load `block from 10/8` at main |
 //! | `tick` | its clock ticks |
-//! | `receive DIGITS` | the datagram of these hexadecimal digits comes to it |
+//! | `receive DIGITS` | it receives the datagram of these hexadecimal digits |
 //!
 //! A step reports `done` and how many datagrams the node hands out, `ignored`, or the number of its fault. A node that
 //! doesn't open does no step, and reports the number.

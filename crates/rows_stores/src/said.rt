@@ -1,4 +1,4 @@
-//! What came of a line, as text. Each call appends, and answers whether there was memory for that.
+//! What came of a line, as text. Each call appends; false when out of memory.
 use px_model::{Entry, Slot};
 use px_records::StoreFault;
 use std::fmt::Write;
@@ -13,7 +13,7 @@ pub(crate) fn say(out: &mut String, text: &str) -> bool {
 pub(crate) enum Refused {
     /// It is none that there is, or none that a member of three makes.
     Line,
-    /// Memory is wanting.
+    /// Out of memory.
     Memory,
     /// What is read behind the change isn't what was changed.
     Lost,

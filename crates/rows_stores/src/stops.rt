@@ -1,6 +1,6 @@
 //! The files of a store stop at one call after the other.
 //!
-//! A line says what is counted of the store before, the statements that make it, or none, what its record shows then,
+//! A line has what is counted of the store before, the statements that make it, or none, what its record shows then,
 //! and changes of the record (`stops`) or steps of a node over it (`node-stops`), each with what the record shows
 //! behind it. What the record shows is shown by `show`, the slots of the first two positions and what is learned at the
 //! first. A stop must leave a store as it was or one of format 3 with four tables; taken again, or opened again by a
@@ -14,11 +14,11 @@ use std::fmt::Write;
 /// What is done with a store, and how its record is looked at.
 #[derive(Clone, Copy)]
 pub(crate) struct Work {
-    /// The word of the task.
+    /// The name of the task.
     task: &'static str,
     /// What is behind the steps.
     look: &'static str,
-    /// The tasks that tell what a stop left.
+    /// The tasks that show what a stop left.
     again: &'static str,
 }
 
@@ -45,7 +45,7 @@ struct Run<'a> {
     parts: &'a [&'a str],
     /// The tasks that make the changes and look.
     tasks: &'a str,
-    /// The tasks that tell what a stop left.
+    /// The tasks that show what a stop left.
     again: &'a str,
 }
 
@@ -88,7 +88,7 @@ impl Run<'_> {
     }
 }
 
-/// How many changes were made as far as the store said, and what was reported behind them.
+/// How many changes were made as far as the output shows, and what was reported behind them.
 fn made(said: &str) -> (usize, &str) {
     let mut rest = said;
     let mut count = 0usize;
@@ -104,7 +104,7 @@ fn made(said: &str) -> (usize, &str) {
     (count, rest)
 }
 
-/// What a stop leaves, where the changes said this, the store is counted so, and its record is this.
+/// How a run ended, by what the changes printed, what is counted of the store then, and what its record shows.
 fn judged(run: Run, said: &str, counted: &str, again: &str) -> Came {
     if counted != run.before && counted != "format 3 of 4 tables" {
         return Came::InParts;
@@ -126,7 +126,7 @@ fn judged(run: Run, said: &str, counted: &str, again: &str) -> Came {
     }
 }
 
-/// What a stop leaves. None where memory runs out.
+/// What a stop leaves. None when out of memory.
 fn attempted(alloc: Global, run: Run, held: &Held, stop: Stop) -> Option<Came> {
     let (mut said, mut found) = (String::new(alloc), String::new(alloc));
     let left = attempt(alloc, held, stop, run.tasks, &mut said);

@@ -107,7 +107,7 @@ fn take_node<S: Alter + Drop>(
     }
 }
 
-/// The format that the store's row says.
+/// The format in the store's row.
 fn format_of<S: Alter>(conn: &mut Connection<S>) -> Option<u32> {
     let row = conn.query_row("SELECT format FROM meta", &[]).ok()?;
     row.get::<u32>(0).ok()

@@ -1,7 +1,7 @@
-//! What is timed. The first word says what, the others how much of it:
+//! What is timed. The first argument names it, the others are how much of it:
 //!
-//! - `table FAMILY BUILDS LOOKUPS` makes a table of IPv4 (4) or IPv6 (6) so often, and looks that many addresses up:
-//!   `found` and how many it holds.
+//! - `table FAMILY BUILDS LOOKUPS` makes a table of IPv4 (4) or IPv6 (6) BUILDS times, and looks that many addresses
+//!   up: `found` and how many it holds.
 //! - `packets TIMES TEXT ..` reads each text as a packet that many times: `found` and how often it was one.
 //! - `events LEARNED EVENTS` takes that many events through a member that has learned that many entries: `front` and
 //!   the first position that isn't learned then.
@@ -10,8 +10,8 @@
 //! - `tag ANEW BYTES TIMES` makes the tags of that many datagrams of that many bytes, the key made ready for each (1)
 //!   or once (0): `sum` and that of their first bytes.
 //!
-//! With no words each line of the standard input has them, tabs between. The status is 2 for other words, and 1 where
-//! memory runs out or the answer can't be written.
+//! With no arguments each line of the standard input has them, tabs between. The status is 2 for other arguments, and 1
+//! where it is out of memory or the answer can't be written.
 #![tactic(auto)]
 
 mod datagrams;
@@ -28,18 +28,18 @@ use std::process::ExitCode;
 /// Why there is no answer.
 #[derive(Clone, Copy)]
 enum Fault {
-    /// The words are none of those.
+    /// The arguments are none of those.
     Words,
-    /// Memory is wanting, or the answer can't be written.
+    /// Out of memory, or the answer can't be written.
     Memory,
 }
 
-/// The number that a word says.
+/// The number that an argument gives.
 fn number(words: &[&str], at: usize) -> Option<u32> {
     words.get(at)?.parse::<u32>().ok()
 }
 
-/// The two numbers that the words say.
+/// The two numbers that the arguments give.
 fn two(words: &[&str]) -> Option<(u32, u32)> {
     if words.len() != 3 {
         return None;
@@ -47,7 +47,7 @@ fn two(words: &[&str]) -> Option<(u32, u32)> {
     Some((number(words, 1)?, number(words, 2)?))
 }
 
-/// The three numbers that the words say.
+/// The three numbers that the arguments give.
 fn three(words: &[&str]) -> Option<(u32, u32, u32)> {
     if words.len() != 4 {
         return None;
@@ -107,7 +107,7 @@ fn tag_sum(alloc: Global, words: &[&str]) -> Result<u64, Fault> {
     }
 }
 
-/// What the words give: a name and a number.
+/// What the arguments give: a name and a number.
 fn answer(alloc: Global, words: &[&str]) -> Result<(&'static str, u64), Fault> {
     let Some(first) = words.first() else {
         return Err(Fault::Words);
@@ -122,7 +122,7 @@ fn answer(alloc: Global, words: &[&str]) -> Result<(&'static str, u64), Fault> {
     }
 }
 
-/// Writes what the words give.
+/// Writes what the arguments give.
 fn tell(rt: &HostRuntime, words: &[&str]) -> Result<(), Fault> {
     let (name, number) = answer(rt.alloc(), words)?;
     match println!(rt; "{name} {number}") {
@@ -168,7 +168,7 @@ fn tell_all(rt: &HostRuntime, words: &[String]) -> Result<(), Fault> {
     }
 }
 
-/// The words of the program, its name first.
+/// The command-line arguments of the program, its name first.
 fn words_of(rt: &HostRuntime) -> io::Result<Vec<String>> {
     let mut words = Vec::new(rt.alloc());
     for word in std::env::args(rt)? {

@@ -77,7 +77,7 @@ impl Record {
         Ok(())
     }
 
-    /// One step of the member, whole. An event that can't come is refused for lack of memory.
+    /// One step of the member, whole. An event that can't come is refused as out of memory.
     pub(crate) fn step(&mut self, core: &mut Core, event: &Event) -> Result<Sends, CoreFault> {
         if !core.takes(event) {
             return Err(CoreFault::Memory);

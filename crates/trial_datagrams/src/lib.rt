@@ -1,7 +1,7 @@
 //! Tests of entries, datagrams, tags, packets and sockets: bytes written by hand from their formats, read and written
-//! again. What no contract says is tried here: that the definitions spell what other programs send (the vectors of RFC
-//! 4231), and that a call doesn't always answer out of memory; pieces in any order, which packets are accepted, files
-//! of keys and starts, and a command asked over UDP.
+//! again. What no contract states is tried here: that the definitions spell what other programs send (the vectors of
+//! RFC 4231), and that a call doesn't always answer out of memory; pieces in any order, which packets are accepted,
+//! files of keys and starts, and a command asked over UDP.
 //!
 //! The tests are in a crate of their own, since a crate with tests is proved twice.
 #![tactic(auto)]

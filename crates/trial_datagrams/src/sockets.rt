@@ -260,7 +260,7 @@ fn each_receive_of_a_client_waits(rt: HostRuntime) {
     assert!(rt; answers(&mut one, &mut client));
 }
 
-/// Whether polls and receives take three datagrams in order, and a poll waits for none.
+/// Whether polls and receives give three datagrams in order, and a poll waits for none.
 fn polls<W: Wire>(one: &mut W, other: &mut W) -> bool {
     let is_none = has_none(one);
     let is_sent = other.send(0, b"first") && other.send(0, b"later") && other.send(0, b"last");

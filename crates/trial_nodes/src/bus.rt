@@ -101,7 +101,7 @@ impl Bus {
         }
     }
 
-    /// The message of this number comes to its addressee. Whether it isn't refused.
+    /// The addressee receives the message of this number. Whether it isn't refused.
     fn deliver(&mut self, number: usize) -> bool {
         let Some((sender, to, place)) = self.sent.get(number).copied() else {
             return false;
@@ -112,7 +112,7 @@ impl Bus {
         }
     }
 
-    /// The messages of these numbers, a blank between, come to their addressees, in that order.
+    /// The addressees receive the messages of these numbers, a blank between, in that order.
     pub(crate) fn deliver_all(&mut self, numbers: &str) -> bool {
         for number in numbers.split(' ') {
             if !self.deliver(number.parse::<usize>().unwrap_or(usize::MAX)) {

@@ -1,4 +1,4 @@
-//! Members that tell how far they are, and what they are sent again.
+//! Members that show how far they are, and what they are sent again.
 
 use crate::members::{coming, member};
 use node_loop::{Room, TickTimer, round};

@@ -1,17 +1,17 @@
 //! Steps of a run, and what is looked for between them.
 //!
-//! A line of a run is a word and numbers:
+//! A line of a run is a keyword and numbers:
 //!
 //! - `ask MEMBER COMMAND`, `tick MEMBER`, `deliver MESSAGE ..`: it happens, and what is sent goes onto the bus.
-//! - To the first member comes `promiseall SENDER`, for its first round with nothing accepted, `accept`, of its own
+//! - The first member receives `promiseall SENDER`, for its first round with nothing accepted, `accept`, of its own
 //!   first round, `prepare BALLOT` of member 1, `vote SENDER POSITION` for that round, `need SENDER POSITION`, or
-//!   `outside`, an ask of whoever is no member.
+//!   `outside`, an ask of a client.
 //! - `numbers ROUND NUMBER`, `promised BALLOT`: put into the first member's record, as by hand. `remember` starts it
 //!   anew with an entry learned at the first position, `forget` in place.
 //! - `sent MANY`, `line MESSAGE TEXT`, `front MEMBER POSITION`, `learned MEMBER POSITION ORIGIN NUMBER LENGTH`,
 //!   `unlearned MEMBER POSITION`, `meta ROUND NUMBER` and `unaccepted`, of the first member's record: it must be so.
-//! - `refused CODE`: the first member refuses a tick so. `asked CODE TIMES`: it answers that many askings so, 0 takes
-//!   them in.
+//! - `refused CODE`: the first member refuses a tick so. `asked CODE TIMES`: it answers that many askings so, 0 accepts
+//!   them.
 use crate::bus::Bus;
 use crate::member::{Member, spelling};
 use px_core::Core;
@@ -31,7 +31,7 @@ fn ask(bus: &mut Bus, member: u8, command: u8) -> bool {
     }
 }
 
-/// A message with the entry of this origin and number arrives at the first member, if the word is that of one.
+/// A message with the entry of this origin and number arrives at the first member, if the keyword is that of one.
 fn come_with(bus: &mut Bus, word: &str, sender: u8, position: u32) -> Option<bool> {
     let bytes = match word {
         "outside" => spelling(255, 9, 7),
@@ -130,7 +130,7 @@ fn place(number: u64) -> u32 {
     (number % 1_000_000) as u32
 }
 
-/// Something arrives at the first member. None where the word is another.
+/// Something arrives at the first member. None where the keyword is another.
 fn come(bus: &mut Bus, word: &str, first: u64, second: u64) -> Option<bool> {
     let position = place(second);
     Some(match word {
@@ -157,7 +157,7 @@ fn come(bus: &mut Bus, word: &str, first: u64, second: u64) -> Option<bool> {
     })
 }
 
-/// Something is put into the first member, or looked for there, if there is such a member. None where the word is
+/// Something is put into the first member, or looked for there, if there is such a member. None where the keyword is
 /// another.
 fn put(member: &mut Member, word: &str, first: u64, second: u64) -> Option<bool> {
     Some(match word {

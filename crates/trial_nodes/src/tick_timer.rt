@@ -39,7 +39,7 @@ const LEARNED: View = View {
     ..LEADING
 };
 
-/// One that lacks two entries, of which it has just been told one.
+/// One that lacks two entries, of which it has just been sent one.
 const TOLD: View = View {
     front: 7,
     has_learned: true,

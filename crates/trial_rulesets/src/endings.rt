@@ -1,10 +1,10 @@
-//! How a run ends that can't read its words, its input or its output.
+//! How a run ends that can't read its arguments or its input, or write its output.
 
 use crate::runs::{QUICK, SYN_PACKET, ran};
 use pf_tool::Status;
 use std::io::{self, Error, ErrorKind, Read, Write};
 
-/// What words that there aren't end with, and how many bytes are written.
+/// What unknown arguments end with, and how many bytes are written.
 fn printed(rt: &HostRuntime, words: &[&str]) -> (u8, usize) {
     let mut reader = QUICK;
     let mut out = Vec::new(rt.alloc());
@@ -57,7 +57,7 @@ impl Write for FailingWriter {
     }
 }
 
-/// The words in a run that reads rules and one packet.
+/// The arguments of a run that reads rules and one packet.
 const WORDS: [&str; 3] = ["pfx", "test", SYN_PACKET];
 
 /// Whether a run whose reader fails ends as failed, and writes nothing.
@@ -108,7 +108,7 @@ impl Write for OnceFailingWriter {
     }
 }
 
-/// Whether these words write nothing behind a write that failed.
+/// Whether a run with these arguments writes nothing after a write that failed.
 fn is_silent(rt: &HostRuntime, words: &[&str]) -> bool {
     let mut reader = QUICK;
     let mut writer = OnceFailingWriter {

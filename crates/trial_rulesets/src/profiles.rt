@@ -4,8 +4,7 @@ use pf_grammar::{ParseFault, Place, Profile, parse, show_items};
 use std::alloc::Global;
 use std::test::Fail;
 
-/// Of a ruleset that is accepted 0 and how many rules it comes to, of a refused one the number of the cause and the
-/// line.
+/// For an accepted ruleset 0 and the number of its rules, for a refused one the number of the cause and the line.
 fn answer(alloc: Global, text: &str, place: Place, profile: Profile) -> Result<(u8, u64), Fail> {
     match parse(alloc, text.as_bytes(), place, profile) {
         Ok(loaded) => Ok((0, loaded.items.len() as u64)),

@@ -2,7 +2,7 @@
 
 use std::test::Fail;
 
-/// Refuses what isn't so, and says of which text.
+/// Fails with this text where something isn't so.
 pub(crate) fn expect(is_so: bool, text: &str) -> Result<(), Fail> {
     if is_so { Ok(()) } else { Err(Fail::new(text)) }
 }

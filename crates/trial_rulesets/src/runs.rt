@@ -1,4 +1,4 @@
-//! Runs of the program's words, as the tests make them.
+//! Runs of the program with arguments, as the tests make them.
 
 use cli_io::REFUSALS;
 use pf_tool::{Status, run};

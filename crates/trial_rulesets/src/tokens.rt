@@ -487,7 +487,7 @@ fn lists_in_lists(rt: HostRuntime) -> Result<(), Fail> {
     Ok(())
 }
 
-/// A word and a list in braces, taken one by one.
+/// A keyword and a list in braces, read one by one.
 fn take_list<'t: 's, 's>(parser: &mut Parser<'t, 's>) -> Result<(), Fail> {
     expect(parser.begins(b"set"), "set stands first")?;
     expect(parser.accept(b"set"), "set")?;

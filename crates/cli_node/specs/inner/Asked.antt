@@ -12,7 +12,7 @@ use Rattle.cli_node.specs.declared.outcome.Outcome.TheVariants.{NoAnswer, Sound,
 use Rattle.cli_node.specs.inner.Outcomes.{answer_outcome}
 
 -- The command was asked of the node in one datagram, and the first answer within the waits is shown; or none was sent,
--- since memory ran out or the command is too long.
+-- since it was out of memory or the command is too long.
 abbrev pub IsAsked : {W : Type 0} → (traffic : W → List WireEvent → Type 0) → (old new : W) → Membership →
     (node waits : ℕ) → Command → Outcome → Type 0
 IsAsked traffic old new m node waits command outcome =
@@ -22,7 +22,7 @@ IsAsked traffic old new m node waits command outcome =
     (λ es es'. Listens (group m) node waits (es ++ Handed node bytes ∷ []) answer es'))
     ⊎ (((outcome ≡ Memory) ⊎ (outcome ≡ Refused 41)) × IsQuiet (traffic old) (traffic new))
 
--- nothing was asked: memory ran out, the input couldn't be read, or what is to be asked is refused
+-- nothing was asked: out of memory, the input couldn't be read, or what is to be asked is refused
 abbrev pub IsUnasked : Outcome → Type 0
 IsUnasked Memory = ⊤
 IsUnasked Unread = ⊤

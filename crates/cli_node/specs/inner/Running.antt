@@ -58,7 +58,7 @@ RunsHere G m sealing hears members given outcome back made =
 abbrev pub Anything : {A : Type 0} → A → Type 0
 Anything x = Unit {0}
 
--- there is no wire, or no memory: its record is opened alone
+-- there is no wire, or it is out of memory: its record is opened alone
 abbrev pub IsAlone : {R : Type 0} → Ghosts R → Membership → (given : R) → Outcome → (back : R) → Type 0
 IsAlone G m given outcome back =
     (how : Ended) × (without : Outcome) × Runs G m given [] [] how back

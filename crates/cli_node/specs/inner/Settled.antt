@@ -81,7 +81,7 @@ AreSettings is_of_file None file = settings_of file ≡ no_members
 AreSettings is_of_file (Some path) file =
     (text : List ℕ) × is_of_file text × (parse_document text ≡ Some (settings_of file))
 
--- What `node` gives: its file's refusal, memory ran out, or what its settings give.
+-- What `node` gives: its file's refusal, out of memory, or what its settings give.
 abbrev pub IsNode : (ran checked : NodeWords → Outcome → Type 0) → (is_of_file : (text : List ℕ) → Type 0) →
     ArgMatches → Outcome → Type 0
 IsNode ran checked is_of_file matches outcome = IsUnsettled (first_value (found_of matches) (codes "config")) outcome

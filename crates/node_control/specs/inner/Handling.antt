@@ -17,25 +17,25 @@ use Rattle.node_control.specs.declared.service.HttpService.{HttpService}
 use Rattle.node_control.specs.inner.Asking.{path_of, asked_for, is_of_figures}
 use Rattle.node_control.specs.inner.Observing.{AreKept}
 
--- a response says an answer, its status and its body; or it is 503 without one, if memory runs out for it
+-- a response has an answer's status and body; or it is 503 with an empty body, if it is out of memory for that
 abbrev pub Says : Response → AnswerValue → Type 0
 Says r a = ((r.status ≡ a.code) × (r.body.items ≡ a.body)) ⊎ ((r.status ≡ 503) × (r.body.items ≡ []))
 
--- the request handler answered the request, over what was counted, and the response says that answer
+-- the request handler answered the request, over what was counted, and the response has that answer
 pub record IsAnswered {R : Type 0} {G : Ghosts R} (s t : RequestHandler R G) (counted : Counters) (request : Request)
     (r : Response) : Type 0 where
   pub answer : AnswerValue
   pub answers : Answers s t counted request answer
   pub says : Says r answer
 
--- nothing was asked and nothing changes; the response says this answer
+-- nothing was asked and nothing changes; the response has this answer
 pub record IsTurnedAway {R : Type 0} {G : Ghosts R} (c d : HttpService R G) (a : AnswerValue) (r : Response) :
     Type 0 where
   pub still : d.handler ≡ c.handler
   pub left : d.changes_left ≡ c.changes_left
   pub says : Says r a
 
--- clients change nothing of what the loop says of the node
+-- clients change nothing of what the loop reports of the node
 pub record IsKept {R : Type 0} {G : Ghosts R} (c d : HttpService R G) : Type 0 where
   pub listening : d.is_listening ≡ c.is_listening
   pub counted : AreKept c.counters d.counters

@@ -1,4 +1,4 @@
--- Who is heard, and what is said of that on standard error. Times are in microseconds.
+-- Who is heard, and what is written about that on standard error. Times are in microseconds.
 use Rattle.std.specs.Prelude.{ℕ, zero, suc, ◌+◌, ◌-◌, ◌*◌, ◌/◌, ◌==◌, ◌&&◌, ◌||◌, Bool, true, false, not, List, []}
 use Rattle.std.specs.Prelude.{◌∷◌, length}
 use Rattle.std.specs.Prelude.{min, nat_le, nat_lt, Option, Some, None, is_some, slice_get, slice_set, unwrap_or}
@@ -33,7 +33,7 @@ count_heard now h = heard_below h.m.me now h.heard h.m.members
 abbrev pub is_alone : (now : ℕ) → Hearing → Bool
 is_alone now h = nat_le (2 * (count_heard now h + 1)) h.m.members
 
--- what is said once a majority is heard no longer, or again; the latter unless warnings alone are wanted
+-- what is written once a majority is heard no longer, or again; the latter unless only warnings are written
 abbrev pub said_by : (alone said quiet : Bool) → (heard : ℕ) → Said
 said_by true true quiet n = Nothing
 said_by true false quiet n = Alone n
@@ -50,14 +50,14 @@ judged now h = record h { is_said = is_alone now h }
 
 -- ---- messages
 
--- a message with this head came: of another member, or of whoever is none
+-- a message with this head came: of another member, or of a sender that is no member
 abbrev pub heard_by : (now : ℕ) → Head → Hearing → Hearing
 heard_by now head h =
     if head.from == h.m.me then h
     else if nat_le h.m.members head.from then record h { others = up_to_max (h.others + 1) }
     else record h { heard = slice_set h.heard head.from now; others = 0 }
 
--- it is said once that a member's message is of a position near the end of the log
+-- it is written once that a member's message is of a position near the end of the log
 abbrev pub is_of_other : Head → Hearing → Bool
 is_of_other head h = not (head.from == h.m.me) && nat_lt head.from h.m.members
 
@@ -83,7 +83,7 @@ after_round now heads c h =
 
 -- ---- what others have
 
--- it is said that the node has caught up, if it lacked for long what others have
+-- it is written that the node has caught up, if it lacked for long what others have
 abbrev pub says_caught_up : (lacks : Bool) → (now : ℕ) → (since : Option ℕ) → (quiet : Bool) → Bool
 says_caught_up lacks now None quiet = false
 says_caught_up lacks now (Some since) quiet = not lacks && (not quiet && not (is_within since now LACKING))

@@ -18,7 +18,7 @@ use Rattle.node_control.specs.inner.Rows.{up_to_max, sampled, reported, sent_mor
 use Rattle.node_control.specs.inner.Watching.{is_proposed, proposed_then, stood_since, seconds_since}
 
 -- what was seen by now: the members' rows, what was counted in all, how many datagrams came in the round, the time,
--- when what members show was kept last, the front and since when it has stood, the proposal of another member, how
+-- when what members show was kept last, the front and since when it hasn't moved, the proposal of another member, how
 -- often a proposal was refused by a higher round, and the most bytes of a datagram that fits no packet, since the front
 -- moved; and who is heard
 pub record Seen : Type 0 where
@@ -66,7 +66,7 @@ kept_at now s = if is_due s.sampled_at now then record s { sampled_at = now; row
 abbrev pub waits_at : (front : ℕ) → (waiting : Bool) → Seen → Bool
 waits_at front waiting s = waiting || is_proposed front s.now s.proposed
 
--- the node's front, and since when it has stood; what is counted of that begins anew where the front moved
+-- the node's front, and since when it hasn't moved; what is counted of that begins anew where the front moved
 abbrev pub stood_at : (front : ℕ) → (waiting : Bool) → Seen → Seen
 stood_at front waiting s =
     if front == s.front then record s { since = stood_since false (waits_at front waiting s) s.since s.now }
@@ -142,7 +142,7 @@ listened lacks heads c s = record s { hearing = after_look lacks s.now heads c s
 
 -- ---- what is reported
 
--- What is counted for clients after a round that came to this. A turn that neither took a datagram nor is to be
+-- What is counted for clients after a round with this result. A turn that neither received a datagram nor is to be
 -- followed by a wait was a tick.
 pub record IsShown (s : Seen) (made : Progress) (old new : Counters) : Type 0 where
   pub up : new.up ≡ s.now / 1000000

@@ -48,6 +48,6 @@ ended_as n k (Ok false) = Front n k
 ended_as n k (Ok true) = Stopped n k
 ended_as n k (Err e) = Fault e
 
--- there is no control socket or no port for figures, or memory ran out for them
+-- there is no control socket or no port for figures, or it was out of memory for them
 abbrev pub IsSocketless : Ended → Type 0
 IsSocketless ended = (ended ≡ NoControlSocket) ⊎ ((ended ≡ NoPort) ⊎ (ended ≡ Fault fault.Memory))

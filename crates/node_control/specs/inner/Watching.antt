@@ -1,4 +1,4 @@
--- What is reported of how a node stands, from what came over its wire.
+-- What is reported of a node's state, from what came over its wire.
 use Rattle.std.specs.Prelude.{ℕ, ◌-◌, ◌/◌, ◌==◌, ◌&&◌, Bool, true, false, List, [], ◌∷◌, Option, Some, None}
 use Rattle.std.specs.Prelude.{nat_le, nat_lt}
 use Rattle.std.specs.Prelude.{if◌then◌else◌}
@@ -6,7 +6,7 @@ use Rattle.px_wire.specs.declared.head.Head.{Head}
 use Rattle.px_wire.specs.Heads.{proposal_in}
 use Rattle.node_control.specs.declared.observer.TheConstants.{PROPOSED}
 
--- a proposal is kept where it isn't below the front; an older one stands else
+-- a proposal is kept where it isn't below the front; else the older one is
 abbrev pub proposed_then : (front now : ℕ) → Option ℕ → (was : Option (ℕ × ℕ)) → Option (ℕ × ℕ)
 proposed_then front now None was = was
 proposed_then front now (Some p) was = if nat_le front p then Some (p, now) else was
@@ -25,14 +25,14 @@ abbrev pub is_proposed : (front now : ℕ) → Option (ℕ × ℕ) → Bool
 is_proposed front now None = false
 is_proposed front now (Some (p, at)) = nat_le front p && nat_lt (now - at) PROPOSED
 
--- since when commands have waited while the front stood
+-- since when commands have waited while the front didn't move
 abbrev pub stood_since : (has_moved waits : Bool) → Option ℕ → (now : ℕ) → Option ℕ
 stood_since has_moved false since now = None
 stood_since true true since now = Some now
 stood_since false true None now = Some now
 stood_since false true (Some t) now = Some t
 
--- n whole seconds, none where nothing stands
+-- n whole seconds, 0 where there is no time
 abbrev pub seconds_since : Option ℕ → (now : ℕ) → ℕ
 seconds_since None now = 0
 seconds_since (Some t) now = (now - t) / 1000000

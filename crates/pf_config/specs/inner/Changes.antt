@@ -7,7 +7,7 @@ use Rattle.pf_config.specs.declared.fault.ConfigFault.TheVariants.{Memory}
 
 -- ---- the commands on one table
 
--- a call fails for lack of memory, or with the fault that is defined
+-- a call fails out of memory, or with the fault that is defined
 abbrev pub FailsWith : {A : Type 0} → ConfigFault → Result A ConfigFault → Type 0
 FailsWith Memory r = Unit {0}
 FailsWith NoTable r = r ≡ Err NoTable

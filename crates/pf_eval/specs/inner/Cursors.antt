@@ -6,12 +6,12 @@ use Rattle.pf_eval.specs.declared.fault.PacketFault.TheVariants.{Memory, BadPack
 use Rattle.pf_eval.specs.declared.cursor.End as code
 use Rattle.pf_eval.specs.PacketTexts.{Word, End, is_blank, words}
 
--- the words in a string of which this word, if there is one, and what is behind it were cut
+-- the tokens in a string of which this token, if there is one, and what follows it were cut
 abbrev pub cut_words : Option (Word × Word) → List Word
 cut_words None = []
 cut_words (Some cut) = cut.0 ∷ words cut.1
 
--- the text begins with a word
+-- the text begins with a token
 abbrev pub begins_plain : List ℕ → Bool
 begins_plain [] = false
 begins_plain (b ∷ bytes) = not (is_blank b)
@@ -22,7 +22,7 @@ left c = words c.rest.now
 abbrev pub end_of : code.End → End
 end_of e = record { addr = e.addr; port = e.port }
 
--- a value was read, and these words are left, or none was
+-- a value was read, and these tokens are left, or none was
 abbrev pub Reads : {X : Type 0} → Option X → List Word → Option (X × List Word) → Type 0
 Reads None ws read = read ≡ None
 Reads (Some x) ws read = read ≡ Some (x, ws)

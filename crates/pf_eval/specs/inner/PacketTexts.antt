@@ -2,7 +2,7 @@
 use Rattle.std.specs.Prelude.{Bool, true, false, List, [], ◌∷◌}
 use Rattle.pf_eval.specs.PacketTexts.{Word}
 
--- ---- reading from the front: a value and the words behind it, or none
+-- ---- reading from the front: a value and the tokens after it, or none
 
 abbrev pub is_empty : List Word → Bool
 is_empty [] = true

@@ -38,7 +38,7 @@ abbrev pub last_some : {X : Type 0} → (X → Option Spot) → List X → Optio
 last_some f [] = None
 last_some f (x ∷ xs) = or_else (last_some f xs) (f x)
 
--- of rules with the indices from i on, what the first one comes to that comes to something
+-- the first result of f for rules with the indices from i on
 abbrev pub first_rule : (ℕ → AnyRule → Option Spot) → ℕ → List AnyRule → Option Spot
 first_rule f i [] = None
 first_rule f i (rule ∷ rules) = or_else (f i rule) (first_rule f (i + 1) rules)
@@ -73,7 +73,7 @@ other_spot tables k p i r = if r.quick then None else rule_spot tables k p i r
 abbrev pub ending : (quick : Bool) → (stop last : Option Spot) → Option Spot
 ending quick stop last = if quick then or_else stop last else stop
 
--- where a rule ends the evaluation; stop and last say what the target of an anchor rule gives
+-- where a rule ends the evaluation; stop and last are what the target of an anchor rule gives
 abbrev pub rule_stop : Tables → (stop last : Target → Option Spot) → PacketValue → Path → ℕ → AnyRule →
     Option Spot
 rule_stop tables stop last k p i (FilterRule r) = quick_spot tables k p i r
@@ -160,7 +160,7 @@ abbrev pub candidates_of : Walk → List AnyRule → List Candidate
 candidates_of Stops = stops_of
 candidates_of Others = others_of
 
--- ---- rules that stand alone, with nothing in any anchor
+-- ---- rules without tables, with nothing in any anchor
 
 abbrev pub no_spot : Target → Option Spot
 no_spot t = None

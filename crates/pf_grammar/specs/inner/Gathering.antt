@@ -37,7 +37,7 @@ with_change sofar (changes.AddsAnchors headings) =
     with_items sofar (map (λ (h : Heading). Anchors h) (map heading_of headings.items))
 with_change sofar (changes.AddsItems items) = with_items sofar (items_of items.items)
 
--- what the statement changes, or its refusal; unless memory ran out
+-- what the statement changes, or its refusal; unless out of memory
 abbrev pub Judges : Sofar → Result Change ParseFault → Result Sofar Refusal → Type 0
 Judges sofar (Ok change) read = read ≡ Ok (with_change sofar change)
 Judges sofar (Err faults.Memory) read = Unit {0}

@@ -37,7 +37,7 @@ IsNamed (lab.Ask m c) bytes = EntryBytes (unnamed c) bytes
 IsNamed (lab.Tick m) bytes = Unit {0}
 IsNamed (lab.Deliver k) bytes = Unit {0}
 
--- what the member me receives, as its bytes say
+-- what the member me receives, as its bytes spell it
 abbrev pub IsInput : Group → (me : ℕ) → What → Input Bytes → Type 0
 IsInput g me (what.Ask e) x = x ≡ Asks (view_of e).command
 IsInput g me what.Tick x = x ≡ Ticks

@@ -1,4 +1,4 @@
--- That a record can be told is a fact, and no more.
+-- That a record is sound is a proposition: it has at most one proof.
 use Rattle.std.specs.Prelude.{◌≤◌, ℕ, true, Option, None, Some, IfSome, refl}
 use Rattle.std.specs.Coded.{×_prop, Coded, Coded-set, code_by, coded×, coded_ℕ, coded_list, coded_option}
 use mathlib.Core.Bool.{Bool-set}

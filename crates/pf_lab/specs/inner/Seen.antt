@@ -32,7 +32,7 @@ line_value line.State = State
 line_value (line.Log m) = Log m
 line_value line.Sent = Sent
 
--- the value is answered, or its refusal; nothing is said of out of memory
+-- the value is returned, or its refusal; out of memory isn't specified
 abbrev pub Reads : {X Y : Type 0} → (X → Y) → Result X LineFault → Asked Y → Type 0
 Reads view (Ok x) value = value ≡ Ok (view x)
 Reads view (Err Memory) value = Unit {0}

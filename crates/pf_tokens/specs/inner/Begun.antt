@@ -8,7 +8,7 @@ abbrev pub begins_with_equals : List Placed → Bool
 begins_with_equals [] = false
 begins_with_equals (p ∷ ps) = is_equals p.token
 
--- a word comes first, and stands on the line
+-- a word token comes first, and is on the line
 abbrev pub IsWordOn : ℕ → List Placed → Type 0
 IsWordOn line [] = ⊥
 IsWordOn line (p ∷ ps) = (p.line ≡ line) × (is_some_word p.token ≡ true)

@@ -1,4 +1,4 @@
--- Where the last definition of each name stands.
+-- The place of the last definition of each name.
 use Rattle.std.specs.Prelude.{◌≡◌, ℕ, Bool, true, List, Option, Some, None, option_map, is_some}
 use Rattle.std.specs.List.{slice_get}
 use Rattle.std.specs.Ordering.{nat_cmp}
@@ -26,7 +26,7 @@ is_there ds (Some at) = is_some (slice_get ds at)
 abbrev pub place_of : BTreeMap (Vec ℕ) ℕ → List ℕ → Option ℕ
 place_of last name = get_by (λ (k : Vec ℕ). slice_cmp nat_cmp name k.items) last
 
--- each name is found where its last definition stands
+-- each name is found where its last definition is
 abbrev pub IsIndex : List Definition → BTreeMap (Vec ℕ) ℕ → Type 0
 IsIndex ds last = (name : List ℕ) → text_of ds name ≡ text_at ds (place_of last name)
 

@@ -1,4 +1,4 @@
--- What an output of the code stands for.
+-- The value of an output of the code.
 use Rattle.std.specs.Prelude.{string_bytes}
 use Rattle.pf_tool.specs.declared.output.Output.{Output}
 use Rattle.pf_tool.specs.Tool.{Written}

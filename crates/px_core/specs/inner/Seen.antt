@@ -24,7 +24,7 @@ plan_of n me log v plan = record {
   sends = sends_of n me plan.sends;
 }
 
--- the plan, by the core as it stands
+-- the plan, by the core in its present state
 abbrev pub plan_in : Core → Plan → node.Plan Bytes
 plan_in core plan = plan_of core.members core.me (log_in core) (volatile_in core) plan
 

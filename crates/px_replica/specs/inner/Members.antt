@@ -18,7 +18,7 @@ planned_by m plan = record {
   sends = sends_of m.group.members m.group.me plan.sends;
 }
 
--- The plan is one of the member as it stands, and what it keeps when it has settled can be told.
+-- The plan is one of the member as it is, and what it keeps when it has settled can be spelled.
 pub record IsReady (plan : Plan) (m : Member) : Type 0 where
   pub is_for : IsFor plan m.core
   pub fits : PlanFits is_command (state_of m.core) (planned m.core plan)

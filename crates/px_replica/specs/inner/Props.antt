@@ -1,4 +1,4 @@
--- That logs agree, and that what a core keeps can be told, are facts and no more.
+-- That logs agree, and that what a core keeps can be spelled, are propositions.
 use Rattle.std.specs.Prelude.{◌≡◌, ◌%◌, ℕ, Bool, true, false, Option, None, Some, IfSome, refl}
 use Rattle.std.specs.Coded.{×_prop, Unit-prop, Coded, Coded-set, code_by, coded×, coded_ℕ, coded_list, coded_option}
 use mathlib.Core.Bool.{Bool-set}

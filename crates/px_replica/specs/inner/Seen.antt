@@ -14,7 +14,7 @@ pub record IsSeen (d : Record Bytes) (reads : Reads) (s : Seen) : Type 0 where
   pub meta : meta_of s.meta ≡ d.meta
   pub read : IsRead reads d (slot_of s.slot) s.top
 
--- what was read can be told, whoever kept it
+-- what was read can be spelled, whatever keeps the record
 pub record SeenFits (members : ℕ) (s : Seen) : Type 0 where
   pub meta : MetaFits members (meta_of s.meta)
   pub here : SlotFits (Passes is_command) members (slot_of s.slot)

@@ -10,7 +10,7 @@ abbrev pub read_in : Option (Vec ℕ Global) → Option (Entry Bytes)
 read_in None = None
 read_in (Some e) = Some (entry_of e.items)
 
--- if there are any, they spell an entry that a member took in
+-- if there are any, they spell an entry that was submitted to a member
 abbrev pub is_entry_in : (members : ℕ) → Option (Vec ℕ Global) → Bool
 is_entry_in members None = true
 is_entry_in members (Some e) = is_entry members e.items

@@ -69,11 +69,11 @@ AreIntegers (Slot p promised ballot) = (promised < 2 ^ 63) × (ballot < 2 ^ 63)
 AreIntegers (Floor ballot) = ballot < 2 ^ 63
 AreIntegers (Learned p) = ⊤
 
--- it stands alone under its key, and nothing else differs where the key had one row of its own or none
+-- it is the only row with its key, and nothing else differs where the key had one row of its own or none
 abbrev pub IsPut : Identity → NewRow → Bytes → Trees → Trees → Type 0
 IsPut id r bytes = Puts (tree_of r) (key_of r) (columns_of r) (row_of id r bytes)
 
--- What putting a row makes of a connection: after Ok it stands, committed; when out of memory nothing differs;
+-- What putting a row makes of a connection: after Ok it is stored, committed; when out of memory nothing differs;
 -- and a stop at this moment leaves what it left before, or the rows with it put.
 pub record Wrote (id : Identity) (r : NewRow) (bytes : Bytes) (answer : Result (Unit {0}) Trouble) (old new : State)
     : Type 0 where

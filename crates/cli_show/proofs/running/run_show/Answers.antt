@@ -1,4 +1,4 @@
--- what the run came to is written, and there is no outcome of words that aren't understood
+-- what the run gave is written, and there is no outcome of arguments that aren't understood
 use Rattle.std.proofs.Common.{None, Some}
 use Rattle.cli_show.proofs.Writing.{misused}
 use Rattle.cli_show.proofs.running.run_show.Goals as goal

@@ -1,4 +1,4 @@
--- what is sent to one can be told
+-- what is sent to one can be spelled
 use Rattle.std.proofs.Common.{rules, ◌≡◌, List, [], ◌∷◌, refl, sym, subst}
 use Rattle.px_wire.specs.Message.{group}
 use Rattle.px_replica.specs.Spelled.{IsSpelled, AreSpelled}
