@@ -6,3 +6,5 @@ pub mod Parts
 pub mod Scripts
 pub mod Fronts
 pub mod Reading
+pub mod Misuse
+pub mod Rules

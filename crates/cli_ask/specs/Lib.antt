@@ -1,11 +1,14 @@
 pub mod Sending
+pub mod Arguments
 pub mod Calls
 pub mod Replies
 pub mod Showing
-pub mod Telling
+pub mod Reporting
 pub mod Asking
+pub mod Reading
 pub mod Checking
 pub mod Scripts
 pub mod Scripting
 pub mod Answers
 pub mod Outcomes
+pub mod Running

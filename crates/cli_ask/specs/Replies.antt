@@ -10,6 +10,8 @@ use Rattle.httparse.specs.Grammar.{ReadsResponse, ResponseHead, status_code}
 use Rattle.httparse.specs.Spans.{name_and_value}
 use Rattle.cli_io.specs.Written.{AppendsFront}
 use Rattle.cli_ask.specs.Calls.{Request}
+use Rattle.cli_ask.specs.declared.exchange.AskFault.{AskFault}
+use Rattle.cli_ask.specs.declared.exchange.AskFault.TheVariants as fault
 use Rattle.cli_ask.specs.declared.exchange.Reply.{Reply}
 use Rattle.cli_ask.specs.declared.reply.TheConstants.{FIELDS}
 
@@ -107,6 +109,13 @@ abbrev pub IsAnswerTo : {S : Type 0} → (is_new : S → Type 0) → (contents r
 IsAnswerTo {S} is_new contents remaining r a =
     (new : S) × (sent : S) × is_new new × AppendsFront (contents new) (contents sent) (request_bytes r)
     × IfSome (remaining sent) (λ bytes. IsAnswer bytes a)
+
+-- Why a request has no answer: the connection for it wasn't made; or one was, over which none came; or it was out of
+-- memory.
+abbrev pub IsUnanswered : {S : Type 0} → (is_new : S → Type 0) → (is_refused : Type 0) → AskFault → Type 0
+IsUnanswered is_new is_refused fault.Memory = Unit {0}
+IsUnanswered is_new is_refused fault.NoAnswer = is_refused
+IsUnanswered {S} is_new is_refused fault.BadAnswer = (new : S) × is_new new
 
 -- they are none: no head, or one of more than 64 fields, or a body that isn't as long as its head gives
 abbrev pub IsNoAnswer : List ℕ → Type 0

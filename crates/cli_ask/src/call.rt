@@ -8,7 +8,7 @@ use std::alloc::{AllocError, Global};
 
 /// What a request is for.
 #[derive(Clone, Copy, PartialEq, Eq)]
-pub(crate) enum Kind {
+pub enum Kind {
     /// To read what a subcommand of the node itself asks for.
     Read,
     /// To read a listing of pfctl's.
@@ -25,7 +25,7 @@ pub(crate) enum Kind {
 
 /// A request as HTTP has it.
 #[derive(Drop)]
-pub(crate) struct Call {
+pub struct Call {
     pub(crate) method: &'static str,
     pub(crate) target: String,
     pub(crate) body: Vec<u8>,

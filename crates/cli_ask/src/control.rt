@@ -1,20 +1,22 @@
 //! Whoever answers at a control socket.
 
-ghost use Rattle.std.specs.Prelude.{◌≡◌, ◌≤◌, ℕ, List, [], ◌∷◌, Some, Err, IfOk};
+ghost use Rattle.std.specs.Prelude.{◌≡◌, ◌≤◌, ℕ, List, [], ◌∷◌, Some, Err, IfOk, string_bytes};
 ghost use Rattle.cli_ask.specs.Calls.{call_value};
 ghost use Rattle.cli_ask.specs.Replies.{reply_value};
 ghost use Rattle.cli_ask.specs.Asking.{Event, Asked, Looked, Adds, answer_value, asked_count};
+ghost use Rattle.cli_ask.specs.Reading.{ReadAt};
 ghost use Rattle.cli_ask.specs.Showing.{printable};
 ghost use Rattle.cli_ask.specs.declared.exchange.AskFault.TheVariants as fault;
 
 use crate::call::Call;
-use crate::exchange::{AskFault, Deadline, Dial, Reply, exchange};
+use crate::exchange::{AskFault, ControlSocket, Deadline, Dial, Reply, exchange, read_over};
 use crate::showing::shown;
 use std::alloc::Global;
+use std::net::Net;
 use std::time::Clock;
 
 /// A peer that answers as a node does at its control socket.
-pub(crate) trait Control {
+pub trait Control {
     // these requests were made and answered, and the clock was read, so far, in order
     ghost exchanged: { Self → List Event → Type 0 };
 
@@ -47,7 +49,7 @@ fn printable(alloc: Global, reply: Reply) -> Result<Reply, AskFault>
 
 /// A peer that is reached over connections, by a clock.
 #[derive(Drop)]
-pub(crate) struct Reached<'a, D, RT> {
+pub struct Reached<'a, D, RT> {
     pub(crate) dial: D,
     pub(crate) rt: &'a RT,
 }
@@ -66,4 +68,65 @@ impl<D: Dial, RT: Clock> Control for Reached<'_, D, RT> {
     fn is_over(&mut self, deadline: Deadline) -> bool {
         deadline.left(self.rt).is_err()
     }
+}
+
+/// Where control sockets are.
+pub trait ControlSockets<'a> {
+    /// One by itself, over which a request is made.
+    type Socket: Dial + Drop;
+
+    // this is the control socket at this path
+    ghost is_at: { Self → (path : List ℕ) → Self.Socket → Type 0 };
+
+    /// The control socket at a path.
+    fn socket_at(&'a self, path: &'a str) -> Self::Socket
+        ensures { is_at self.now path.now result };
+
+    /// Whoever answers at one.
+    type Peer: Control + Drop;
+
+    // this one answers at the control socket at this path
+    ghost answers_at: { Self → (path : List ℕ) → Self.Peer → Type 0 };
+
+    /// Whoever answers at the control socket at a path.
+    fn peer_at(&'a self, path: &'a str) -> Self::Peer
+        ensures { answers_at self.now path.now result };
+}
+
+impl<'a, RT: Net + Clock + 'a> ControlSockets<'a> for RT {
+    type Socket = ControlSocket<'a, RT>;
+
+    ghost is_at = { λ _ path socket. socket.path.now ≡ path };
+
+    fn socket_at(&'a self, path: &'a str) -> ControlSocket<'a, RT> {
+        ControlSocket { rt: self, path }
+    }
+
+    type Peer = Reached<'a, ControlSocket<'a, RT>, RT>;
+
+    ghost answers_at = { λ _ path peer. peer.dial.path.now ≡ path };
+
+    fn peer_at(&'a self, path: &'a str) -> Reached<'a, ControlSocket<'a, RT>, RT> {
+        Reached {
+            dial: ControlSocket { rt: self, path },
+            rt: self,
+        }
+    }
+}
+
+/// What is read at a control socket under a target, in one request: an answer whose status is 200, within 10 seconds.
+/// The socket is the one that `sockets` has at this path: for the system's they are `rt`.
+pub fn read_at<'a, RT: Clock, C: ControlSockets<'a>>(
+    rt: &RT,
+    sockets: &'a C,
+    alloc: Global,
+    path: &'a str,
+    target: String,
+) -> Result<Reply, AskFault>
+    ensures { ReadAt (C.is_at sockets.now) C.Socket.dialed C.Socket.is_refused C.Socket.is_new
+        C.Socket.Stream.contents C.Socket.Stream.remaining path.entry.now (string_bytes target)
+        (answer_value result) }
+{
+    let mut socket = sockets.socket_at(path);
+    read_over(rt, alloc, &mut socket, target)
 }

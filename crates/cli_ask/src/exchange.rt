@@ -1,8 +1,10 @@
 //! One request and its answer over a Unix socket.
 
-ghost use Rattle.std.specs.Prelude.{◌≡◌, ◌⊎◌, ℕ, ◌+◌, ⊤, IfOk};
+ghost use Rattle.std.specs.Prelude.{◌≡◌, ◌⊎◌, ℕ, ◌+◌, ⊤, IfOk, IfErr, string_bytes};
 ghost use Rattle.cli_ask.specs.Calls.{call_value};
-ghost use Rattle.cli_ask.specs.Replies.{IsAnswerTo, reply_value};
+ghost use Rattle.cli_ask.specs.Asking.{answer_value};
+ghost use Rattle.cli_ask.specs.Replies.{IsAnswerTo, IsUnanswered, reply_value};
+ghost use Rattle.cli_ask.specs.Reading.{IsRead};
 
 use crate::call::{Call, Kind};
 use crate::reply::{reply_in, request_bytes};
@@ -49,7 +51,7 @@ pub struct Reply {
 
 /// Until when answers are waited for, however they come.
 #[derive(Clone, Copy)]
-pub(crate) struct Deadline {
+pub struct Deadline {
     /// When that began; none where the clock can't be read, and then the time is over.
     start: Option<Instant>,
     seconds: u32,
@@ -82,11 +84,14 @@ impl Deadline {
 }
 
 /// The peer that answers at a control socket, each request over a connection of its own.
-pub(crate) trait Dial {
+pub trait Dial {
     type Stream: Read + Write + Drop;
 
     // the number of connections that were asked for so far
     ghost dialed: { Self → ℕ → Type 0 };
+
+    // the connection that was asked for last wasn't made
+    ghost is_refused: { Self → Type 0 };
 
     // nothing was written to this connection or read of it
     ghost is_new: { Self.Stream → Type 0 };
@@ -94,12 +99,13 @@ pub(crate) trait Dial {
     /// A connection, written and read until the deadline.
     fn dial(&mut self, deadline: Deadline) -> io::Result<Self::Stream>
         ensures dialed { (n : ℕ) → dialed self.old n → dialed self.new (n + 1) }
-        ensures new { IfOk result is_new };
+        ensures new { IfOk result is_new }
+        ensures refused { IfErr result (λ _. is_refused self.new) };
 }
 
 /// A stream that is read until the deadline.
 #[derive(Drop)]
-pub(crate) struct Timed<'a, RT> {
+pub struct Timed<'a, RT> {
     rt: &'a RT,
     stream: UnixStream,
     deadline: Deadline,
@@ -125,7 +131,7 @@ impl<RT: Clock> Write for Timed<'_, RT> {
 
 /// A control socket.
 #[derive(Clone, Copy)]
-pub(crate) struct ControlSocket<'a, RT> {
+pub struct ControlSocket<'a, RT> {
     pub(crate) rt: &'a RT,
     pub(crate) path: &'a str,
 }
@@ -135,6 +141,8 @@ impl<'a, RT: Net + Clock> Dial for ControlSocket<'a, RT> {
 
     // no contract can count what the system does
     ghost dialed = { λ _ _. ⊤ };
+
+    ghost is_refused = { λ _. ⊤ };
 
     ghost is_new = { λ _. ⊤ };
 
@@ -159,6 +167,7 @@ pub(crate) fn exchange<D: Dial>(
     ensures dialed { (n : ℕ) → D.dialed control.old n → D.dialed control.new n ⊎ D.dialed control.new (n + 1) }
     ensures answer { IfOk result (λ r. IsAnswerTo D.is_new D.Stream.contents D.Stream.remaining (call_value call.now)
         (reply_value r)) }
+    ensures none { IfErr result (IsUnanswered D.is_new (D.is_refused control.new)) }
 {
     let bytes = request_bytes(alloc, call)?;
     let Ok(mut stream) = control.dial(deadline) else {
@@ -173,20 +182,27 @@ pub(crate) fn exchange<D: Dial>(
     }
 }
 
-/// What is read at a control socket under a target, in one request: an answer whose status is 200, within 10 seconds.
-pub fn read_at<RT: Net + Clock>(
+/// What is read under a target, in one request over a connection: an answer whose status is 200, within 10 seconds.
+pub(crate) fn read_over<RT: Clock, D: Dial>(
     rt: &RT,
     alloc: Global,
-    control: &str,
+    control: &mut D,
     target: String,
-) -> Result<Reply, AskFault> {
+) -> Result<Reply, AskFault>
+    ensures dialed { (n : ℕ) → D.dialed control.old n → D.dialed control.new n ⊎ D.dialed control.new (n + 1) }
+    ensures read { IsRead D.is_new D.Stream.contents D.Stream.remaining (D.is_refused control.new)
+        (string_bytes target) (answer_value result) }
+{
     let deadline = Deadline::new(rt, PATIENCE);
     let call = Call::get(alloc, target, Kind::Read);
-    let mut socket = ControlSocket { rt, path: control };
-    let reply = exchange(alloc, &mut socket, &call, deadline)?;
-    if reply.code == 200 {
-        Ok(reply)
-    } else {
-        Err(AskFault::BadAnswer)
+    match exchange(alloc, control, &call, deadline) {
+        Ok(reply) => {
+            if reply.code == 200 {
+                Ok(reply)
+            } else {
+                Err(AskFault::BadAnswer)
+            }
+        }
+        Err(fault) => Err(fault),
     }
 }

@@ -4,14 +4,15 @@
 //!
 //! - [`run_control_ask`]: the subcommand `ask` with `--control`, over any reader and writer.
 //! - [`read_at`], [`pause`]: one read at a control socket with its [`Reply`], and the time between two.
+//! - [`ControlSockets`]: where control sockets are; for the system's the handle itself.
 //! - [`change_line`]: the line of a change that is sent, and [`laws`]: it is read as the arguments that it was made of.
 //!
-//! Within: `words` has the arguments as `clap` reads them, `arguments` what is sent for them, a `call` with its
+//! Within: `options` has the arguments as `clap` reads them, `arguments` what is sent for them, a `call` with its
 //! `target`, `checking` what they are refused for before that. `control` is a trait for the peer that answers,
 //! `exchange` one request over the socket, `reply` its bytes and those of the answer. `asking` has how often it is
 //! asked, `commands` what is answered of a command, `verdicts` verdicts in parts, `answers` whether an answer is that
 //! the request succeeded, `outcome` what a run writes and how it ends, `showing` an answer for a terminal, `script`
-//! reads the changes of a script, `scripting` asks them, and `telling` has the messages on standard error.
+//! reads the changes of a script, `scripting` asks them, and `reporting` has the messages on standard error.
 //!
 //! # Why
 //!
@@ -32,20 +33,21 @@ mod commands;
 mod control;
 mod exchange;
 pub mod laws;
+mod options;
 mod outcome;
 mod reply;
+mod reporting;
 mod running;
 mod script;
 mod scripting;
 mod sending;
 mod showing;
 mod target;
-mod telling;
 mod verdicts;
-mod words;
 
 pub use asking::pause;
 pub use cli_io::Status;
-pub use exchange::{AskFault, Reply, read_at};
+pub use control::{ControlSockets, read_at};
+pub use exchange::{AskFault, Reply};
 pub use running::run_control_ask;
 pub use sending::change_line;

@@ -1,26 +1,28 @@
 //! A run of `ask` with `--control`.
 
 ghost use Rattle.std.specs.Prelude.{◌≡◌, IfOk, IfErr, map, option_map};
-ghost use Rattle.clap.specs.Words.{found_of, rows_of};
+ghost use Rattle.clap.specs.Words.{found_of, rows_of, subcommand_rows_of};
+ghost use Rattle.cli_ask.specs.Arguments.{given_in, given_of};
 ghost use Rattle.cli_ask.specs.Asking.{answer_value};
 ghost use Rattle.cli_io.specs.Sources.{IsText, IsNamed};
 ghost use Rattle.cli_ask.specs.Outcomes.{number_at, IsUnread, HasNoText};
 ghost use Rattle.cli_ask.specs.Outcomes.{Replied, AsksWith, Asks};
 ghost use Rattle.cli_ask.specs.Outcomes.{are_there, has_others, seconds_by, refusal_in, IsScript, IsNoScript};
 ghost use Rattle.cli_ask.specs.Outcomes.{RunsScript, Runs};
+ghost use Rattle.cli_ask.specs.Running.{Ran};
 
 use crate::arguments::{call_in, has_option, is_given, value_of};
 use crate::asking::ask_at;
 use crate::call::Kind;
 use crate::checking::{Refused, refusal_of};
 use crate::commands::is_command;
-use crate::control::{Control, Reached};
-use crate::exchange::{AskFault, ControlSocket, Reply};
+use crate::control::{Control, ControlSockets};
+use crate::exchange::{AskFault, Reply};
+use crate::options::command;
 use crate::outcome::{Outcome, refused, write_outcome};
+use crate::reporting::report_left;
 use crate::script::refused_script;
 use crate::scripting::{ScriptRequest, ask_script};
-use crate::telling::tell_left;
-use crate::words::command;
 use clap::ArgMatches;
 use cli_io::{
     InputFault, Sources, Status, UNREADABLE, misused, out_of_memory, source_named, values_in,
@@ -79,7 +81,7 @@ fn replied<E: Write>(kind: Kind, answer: Result<Reply, AskFault>, errors: &mut E
     match answer {
         Ok(reply) => {
             if is_command(kind) {
-                let _said = tell_left(reply.front, errors);
+                let _logged = report_left(reply.front, errors);
             }
             Outcome::Answered(kind, reply)
         }
@@ -274,48 +276,69 @@ fn run_at<RT: Net + Clock + Sources, C: Control, R: Read, W: Write, E: Write>(
     }
 }
 
+/// What is given with the subcommand `ask`.
+fn given_in<'m, 'a>(matches: &'m ArgMatches<'a>) -> Option<&'m ArgMatches<'a>>
+    ensures { option_map (λ m. rows_of (found_of m.now)) result ≡ given_in (subcommand_rows_of matches.now) }
+{
+    match matches.subcommand() {
+        Some((name, inner)) => if name == "ask" { Some(inner) } else { None },
+        None => None,
+    }
+}
+
 /// What the subcommand `ask` with `--control` asks for, the program's name first: a request at a node's control socket,
 /// whose answer is written; with `--script` each change of a script, one after the other. Arguments of a change that
 /// are refused wherever they are asked (40, 24, 1 to 3, 41), and a ruleset that the grammar refuses, are refused before
 /// the node is asked, unless `--unchecked` is among them. An argument with a control character is refused (40) in any
-/// case. 85 where nobody answers at the socket, 86 where the answer is cut short or none.
+/// case. 85 where nobody answers at the socket, 86 where the answer is cut short or none. The node is the one that
+/// `sockets` has at the path of `--control`: for the system's control sockets they are `rt`.
 ///
 /// The status is 1 where a change was refused or its outcome isn't known in time, where not all addresses of `-T test`
 /// match, and of every refusal. Messages on `errors` are how many positions are left once few are, and, where that
 /// is a terminal, at which line a script is.
-pub fn run_control_ask<RT: Net + Clock + Sources, S: AsStr, R: Read, W: Write, E: Write>(
+pub fn run_control_ask<
+    'a,
+    RT: Net + Clock + Sources,
+    C: ControlSockets<'a>,
+    S: AsStr,
+    R: Read,
+    W: Write,
+    E: Write,
+>(
     rt: &RT,
+    sockets: &'a C,
     alloc: Global,
-    words: &[S],
+    arguments: &'a [S],
     reader: &mut R,
     writer: &mut W,
     errors: &mut E,
     is_terminal: bool,
-) -> Status {
+) -> Status
+    ensures { Ran (C.answers_at sockets.now) C.Peer.exchanged (given_of (map S.text arguments.now))
+        (IsText (RT.has rt.now) (R.remaining reader.old)) result (W.contents writer.old) (W.contents writer.new) }
+{
     let Ok(command) = command(alloc) else {
         return out_of_memory(writer);
     };
-    let matches = match command.try_get_matches_from(words) {
+    let matches = match command.try_get_matches_from(arguments) {
         Ok(matches) => matches,
         Err(error) => return misused(alloc, &error, writer),
     };
-    match matches.subcommand_matches("ask") {
-        Some(inner) => match inner.get_str("control") {
-            Some(path) => run_at(
-                rt,
-                alloc,
-                inner,
-                &mut Reached {
-                    dial: ControlSocket { rt, path },
-                    rt,
-                },
-                reader,
-                writer,
-                errors,
-                is_terminal,
-            ),
-            None => write_outcome(alloc, refused(40), writer),
-        },
-        None => Status::Usage,
-    }
+    let Some(inner) = given_in(&matches) else {
+        return Status::Usage;
+    };
+    let Some(path) = value_of(inner, "control") else {
+        return write_outcome(alloc, refused(40), writer);
+    };
+    let mut peer = sockets.peer_at(path);
+    run_at(
+        rt,
+        alloc,
+        inner,
+        &mut peer,
+        reader,
+        writer,
+        errors,
+        is_terminal,
+    )
 }

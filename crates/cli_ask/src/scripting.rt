@@ -10,8 +10,8 @@ use crate::answers::outcome_behind;
 use crate::asking::ask_at;
 use crate::control::Control;
 use crate::exchange::{AskFault, Reply};
+use crate::reporting::{report_left, report_line};
 use crate::script::{Change, Left, ScriptFault, next_change};
-use crate::telling::{tell_left, tell_line};
 use cli_io::{Status, out_of_memory, write_bytes};
 use std::alloc::{AllocError, Global};
 use std::io::Write;
@@ -71,7 +71,7 @@ fn make<RT: Net + Clock, C: Control, E: Write>(
     };
     match ask_at(rt, alloc, control, &call, seconds) {
         Ok(reply) => {
-            let _said = tell_left(reply.front, errors);
+            let _logged = report_left(reply.front, errors);
             Ok(went_by(alloc, reply)?)
         }
         Err(fault) => Err(fault),
@@ -145,7 +145,7 @@ pub(crate) fn ask_script<RT: Net + Clock, C: Control, W: Write, E: Write>(
         };
         if change.line >= request.from {
             if request.is_terminal {
-                let _said = tell_line(change.line, errors);
+                let _logged = report_line(change.line, errors);
             }
             if let Some(status) = ask_one(
                 rt,

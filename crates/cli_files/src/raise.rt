@@ -14,13 +14,13 @@ pub enum RaiseFault {
     #[error("out of memory")]
     Memory,
     /// There is none, and none is to be made.
-    #[error("it is missing, beside a store that isn't new: --new-starts makes one")]
+    #[error("it is missing, beside a store that isn't new: --new-starts creates one")]
     Missing,
     /// It is no regular file, or can't be read.
     #[error("it can't be read")]
     Unread,
     /// It is no file of starts of this version, or of as many members.
-    #[error("it is no file of starts of this cluster (version 1), or is damaged")]
+    #[error("it isn't a file of starts of this cluster (version 1), or is damaged")]
     Damaged,
     /// Each number of a start was used.
     #[error("all numbers of starts are used")]

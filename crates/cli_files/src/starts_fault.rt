@@ -13,7 +13,7 @@ pub enum StartsFault {
     #[error("out of memory")]
     Memory,
     /// It doesn't begin with the line of this version.
-    #[error("it is no file of starts of version 1")]
+    #[error("it isn't a file of starts of version 1")]
     Version,
     /// A line isn't one of a member, or there are more than 15.
     #[error("it is damaged")]

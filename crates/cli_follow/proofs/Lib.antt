@@ -7,4 +7,6 @@ pub mod Loads
 pub mod Runs
 pub mod Writes
 pub mod Endings
+pub mod Rules
+pub mod Misuse
 pub mod Kept

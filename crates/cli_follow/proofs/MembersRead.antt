@@ -16,7 +16,7 @@ use Rattle.node_udp.specs.declared.address.Address.{Address}
 use Rattle.node_udp.specs.Addresses.{address_of, shown_address, shown_ip}
 use Rattle.pf_scripts.specs.Lines.{lines, words_in, words_if}
 use Rattle.cli_ask.specs.Sending.{is_graphic, has_control, is_plain, change_line}
-use Rattle.cli_nft.specs.Words.{member_at, members_at, members_in}
+use Rattle.cli_nft.specs.Options.{member_at, members_at, members_in}
 use Rattle.cli_follow.specs.Members.{texts_on, members_or, members_among, members_reported, IsAddress, members_line, AreRead}
 
 -- ---- what the laws below say
@@ -34,7 +34,7 @@ abbrev pub Lines : Type 0
 Lines = (args : List (List ℕ)) (line text : List ℕ) → change_line args ≡ Some line →
     lines (line ++ 10 ∷ text) ≡ record { content = line; has_newline = true } ∷ lines text
 
--- ---- words
+-- ---- the parts of a line
 
 graphic_is : (b : ℕ) → is_ascii_graphic b ≡ true → is_graphic b ≡ true
 graphic_is b h = grind (arith, nat_tests, h)

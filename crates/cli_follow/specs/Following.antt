@@ -71,7 +71,7 @@ abbrev pub or_ends : Followed → Option LinesApplied → LinesApplied
 or_ends f None = record { followed = f; is_whole = false }
 or_ends f (Some t) = t
 
--- Example: three lines of which the second has an odd digit: one is taken.
+-- Example: three lines of which the second has an odd digit: one is accepted.
 abbrev pub lines_applied : Followed → List ScriptLine → LinesApplied
 lines_applied f [] = record { followed = f; is_whole = true }
 lines_applied f (l ∷ ls) = or_ends f (option_map (λ g. lines_applied g ls) (next_of f (decode_of l.content)))

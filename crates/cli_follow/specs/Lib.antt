@@ -4,4 +4,6 @@ pub mod Members
 pub mod Exchanges
 pub mod Output
 pub mod Places
+pub mod Arguments
+pub mod Running
 pub mod inner

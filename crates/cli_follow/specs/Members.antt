@@ -8,7 +8,7 @@ use Rattle.node_udp.specs.declared.address.Address.{Address}
 use Rattle.node_udp.specs.Addresses.{shown_address}
 use Rattle.pf_scripts.specs.Lines.{ScriptLine, lines, words_in, spaced}
 use Rattle.nft_rules.specs.declared.guard.Member.{Member}
-use Rattle.cli_nft.specs.Words.{member_at, members_in}
+use Rattle.cli_nft.specs.Options.{member_at, members_in}
 use Rattle.cli_nft.specs.declared.members.TheConstants.{MEMBERS_MAX}
 
 -- strings, if there are some

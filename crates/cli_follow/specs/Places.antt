@@ -51,11 +51,19 @@ are_good rows = go_together (has_nft rows) (first_of (codes "interfaces") rows) 
 abbrev pub folder_of : Option TextFiles → Option (List ℕ)
 folder_of files = option_map (λ f. string_bytes f.folder) files
 
--- lines for nft(8) are written where these are asked for, with the guard unless it is declined; rulesets for pfctl(8)
--- go into the folder that is named
-pub record IsWantedBy (rows : List Row) (p : Places) : Type 0 where
+-- what there is, if there is something, is what the file at the path that is named has
+-- Example: without a path there is nothing.
+abbrev pub IsAt : (has : (path text : List ℕ) → Type 0) → (path text : Option (List ℕ)) → Type 0
+IsAt has path None = Unit {0}
+IsAt has None (Some text) = ⊥
+IsAt has (Some path) (Some text) = has path text
+
+-- lines for nft(8) are written where these are asked for, for the interfaces of the file that is named, and with the
+-- guard unless it is declined; rulesets for pfctl(8) go into the folder that is named
+pub record IsWantedBy (has : (path text : List ℕ) → Type 0) (rows : List Row) (p : Places) : Type 0 where
   pub good : are_good rows ≡ true
   pub lines : is_some p.interfaces ≡ has_nft rows
+  pub file : IsAt has (first_of (codes "interfaces") rows) (option_map (λ v. v.items) p.interfaces)
   pub guard : p.is_guarded ≡ (has_nft rows && not (has_no_guard rows))
   pub folder : folder_of p.files ≡ first_of (codes "pf") rows
 
@@ -68,9 +76,9 @@ abbrev pub IsRefusedWith : List Row → (code : ℕ) → Type 0
 IsRefusedWith rows code = IsRefusedIf (are_good rows) (has_nft rows) code
 
 -- the places, or the number of the refusal
-abbrev pub ArePlaces : List Row → Result Places ℕ → Type 0
-ArePlaces rows (Ok p) = IsWantedBy rows p
-ArePlaces rows (Err code) = IsRefusedWith rows code
+abbrev pub ArePlaces : (has : (path text : List ℕ) → Type 0) → List Row → Result Places ℕ → Type 0
+ArePlaces has rows (Ok p) = IsWantedBy has rows p
+ArePlaces has rows (Err code) = IsRefusedWith rows code
 
 -- ---- ends
 
@@ -108,8 +116,8 @@ NotFollowed given now rows s before written = Adds given now []
     × (Appends before written [] × (IsNoEnding s × ((s ≡ status.Refused) → (code : ℕ) × IsRefusedWith rows code)))
 
 -- the log is followed to the places that the arguments name, or it isn't
-abbrev pub FollowedBy : (given now : List Exchange → Type 0) → List Row → (turns : ℕ) → Status →
-    (before written : Option (List ℕ)) → Type 0
-FollowedBy given now rows turns s before written =
-    ((p : Places) × (IsWantedBy rows p × FollowedTo given now p turns s before written))
+abbrev pub FollowedBy : (given now : List Exchange → Type 0) → (has : (path text : List ℕ) → Type 0) → List Row →
+    (turns : ℕ) → Status → (before written : Option (List ℕ)) → Type 0
+FollowedBy given now has rows turns s before written =
+    ((p : Places) × (IsWantedBy has rows p × FollowedTo given now p turns s before written))
     ⊎ NotFollowed given now rows s before written

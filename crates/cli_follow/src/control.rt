@@ -1,6 +1,6 @@
 //! What a node answers at its control socket.
 
-ghost use Rattle.std.specs.Prelude.{◌≡◌, List, [], ◌∷◌, ⊤, IfOk, string_bytes};
+ghost use Rattle.std.specs.Prelude.{◌≡◌, ℕ, List, [], ◌∷◌, ⊤, IfOk, string_bytes};
 ghost use Rattle.cli_follow.specs.Exchanges.{Exchange, Entries, Status, Adds, asked};
 ghost use Rattle.cli_follow.specs.Places.{entries_target};
 
@@ -24,13 +24,13 @@ pub trait Control {
     fn status(&mut self, alloc: Global) -> Result<Reply, AskFault>
         ensures { Adds (exchanged self.old) (exchanged self.new) (asked Status result ∷ []) };
 
-    /// Says why nobody answers, where that is known.
+    /// Logs why nobody answers, where that is known.
     fn tell<E: Write>(&self, errors: &mut E);
 }
 
 /// A control socket.
 #[derive(Clone, Copy)]
-pub(crate) struct ControlSocket<'a, RT> {
+pub struct ControlSocket<'a, RT> {
     pub(crate) rt: &'a RT,
     pub(crate) path: &'a str,
 }
@@ -49,7 +49,7 @@ fn read<RT: Net + Clock>(
     target: Result<String, AllocError>,
 ) -> Result<Reply, AskFault> {
     match target {
-        Ok(target) => read_at(socket.rt, alloc, socket.path, target),
+        Ok(target) => read_at(socket.rt, socket.rt, alloc, socket.path, target),
         Err(AllocError) => Err(AskFault::Memory),
     }
 }
@@ -68,7 +68,30 @@ impl<RT: Net + Clock> Control for ControlSocket<'_, RT> {
 
     fn tell<E: Write>(&self, errors: &mut E) {
         if let Err(error) = knock(self.rt, self.path) {
-            let _said = writeln!(errors, "pfx: {}: {error}", Shown(self.path));
+            let _logged = writeln!(errors, "pfx: {}: {error}", Shown(self.path));
         }
+    }
+}
+
+/// Where control sockets are.
+pub trait ControlSockets<'a> {
+    /// Whoever answers at one.
+    type Peer: Control + Drop;
+
+    // this one answers at the control socket at this path
+    ghost answers_at: { Self → (path : List ℕ) → Self.Peer → Type 0 };
+
+    /// Whoever answers at the control socket at a path.
+    fn peer_at(&'a self, path: &'a str) -> Self::Peer
+        ensures { answers_at self.now path.now result };
+}
+
+impl<'a, RT: Net + Clock + 'a> ControlSockets<'a> for RT {
+    type Peer = ControlSocket<'a, RT>;
+
+    ghost answers_at = { λ _ path peer. peer.path.now ≡ path };
+
+    fn peer_at(&'a self, path: &'a str) -> ControlSocket<'a, RT> {
+        ControlSocket { rt: self, path }
     }
 }

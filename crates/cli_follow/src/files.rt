@@ -10,7 +10,7 @@ ghost use Rattle.cli_follow.specs.inner.Files.{file_value, file_name, file_at, f
 ghost use Rattle.cli_follow.specs.inner.Files.{is_gone, with_gone};
 
 use crate::followed_configuration::FollowedConfiguration;
-use crate::follower::say;
+use crate::follower::log_change;
 use pf_config::Config;
 use pf_dump::{PathText, texts};
 use pf_rules::Name;
@@ -116,7 +116,7 @@ fn are_put(files: &[TextFile]) -> bool
     files.iter().all(|file| file.is_put)
 }
 
-/// Writes a file that isn't there: what is under this path is taken away first, a link too, whose target stays as it
+/// Writes a file that isn't there: what is at this path is removed first, a link too, whose target stays as it
 /// is.
 fn write_new<F: Files>(rt: &F, path: &str, text: &str) -> io::Result<()>
     ensures { OnOk result (IsWritten F.File.contents text.now) }
@@ -304,11 +304,11 @@ impl TextFiles {
             ≡ with_gone (files_of followed.now.config) self.old.written.items))) }
     {
         let Some(files) = files_of(alloc, &followed.config)? else {
-            return say(errors, alloc, followed.position, "refused 91\n");
+            return log_change(errors, alloc, followed.position, "refused 91\n");
         };
         let is_behind = !self.put_all(rt, alloc, files)?;
         if is_behind && !self.is_behind {
-            say(
+            log_change(
                 errors,
                 alloc,
                 followed.position,

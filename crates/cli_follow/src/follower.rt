@@ -104,15 +104,15 @@ fn is_behind(front: Option<u32>, position: u32) -> bool
     }
 }
 
-/// Says what came at a position.
-pub(crate) fn say<E: Write>(
+/// Logs what was written for a position.
+pub(crate) fn log_change<E: Write>(
     errors: &mut E,
     alloc: Global,
     position: u32,
     what: &str,
 ) -> Result<(), AllocError> {
     let line = format!(in alloc; "pfx: at {position} {what}")?;
-    let _said = errors.write_all(line.as_bytes());
+    let _logged = errors.write_all(line.as_bytes());
     Ok(())
 }
 
@@ -176,7 +176,7 @@ impl Nft {
         let position = followed.position;
         match self.kernel.load(alloc, &followed.config, position)? {
             Step::Same => Ok(()),
-            Step::Refused(line) => Ok(say(errors, alloc, position, line.as_str())?),
+            Step::Refused(line) => Ok(log_change(errors, alloc, position, line.as_str())?),
             Step::Lines(lines) => write_lines(writer, lines.as_slice()),
         }
     }

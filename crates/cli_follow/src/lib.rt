@@ -2,16 +2,17 @@
 //!
 //! # Organization
 //!
-//! - [`run_follow`]: the subcommand, over any writers; [`follow`]: its loop, over whoever answers as a node does
-//!   ([`Control`]): what it writes is what the answers lead to.
+//! - [`run_follow`]: the subcommand, over any writers, at the node that control sockets ([`ControlSockets`]) have at a
+//!   path; [`follow`]: its loop, over whoever answers as a node does ([`Control`]): what it writes is what the answers
+//!   lead to.
 //! - [`FollowedConfiguration`]: the configuration after the first entries of a log, as a control socket's lines give
 //!   them.
 //! - [`Kernel`]: what nft(8) is to load, one position after the other; it knows neither sockets nor files.
 //! - [`members_are_read`]: the members that a node names are read as such.
 //!
-//! Within: `words` has the arguments as `clap` reads them, `running` the loop, `control` the control socket, `follower`
-//! what an answer leads to, `places` where it is written, `files` the rulesets for pfctl(8), `members` where a node's
-//! members listen.
+//! Within: `options` has the arguments as `clap` reads them, `running` the loop, `control` the control socket,
+//! `follower` what an answer leads to, `places` where it is written, `files` the rulesets for pfctl(8), `members` where
+//! a node's members listen.
 //!
 //! # Why
 //!
@@ -25,7 +26,7 @@
 //!   change.
 //! - Lines go to standard output as nft takes them; all refusals go to standard error, 40 and 89 too, and so does
 //!   `memory`, since what reads the output is nft. What `clap` writes of arguments goes to standard output, as of every
-//!   word.
+//!   subcommand.
 //! - The loop ends with its output, at `--turns`, or out of memory, and at nothing else: a control socket where
 //!   nobody answers is asked again, since nodes are restarted.
 //! - It pauses by a read of a stream of its own that times out, as `cli_ask` does: there is no handle for waiting.
@@ -46,11 +47,11 @@ mod follower;
 mod kernel;
 mod laws;
 mod members;
+mod options;
 mod places;
 mod running;
-mod words;
 
-pub use control::Control;
+pub use control::{Control, ControlSockets};
 pub use files::TextFiles;
 pub use followed_configuration::{FollowedConfiguration, TakeFault};
 pub use follower::WriteFault;

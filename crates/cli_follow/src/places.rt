@@ -1,12 +1,12 @@
 //! What is to be written where, by the arguments.
 
-ghost use Rattle.std.specs.Prelude.{◌≡◌, IfOk, option_map};
+ghost use Rattle.std.specs.Prelude.{◌≡◌, IfOk, IfSome, option_map};
 ghost use Rattle.clap.specs.Words.{found_of, rows_of, first_of};
 ghost use Rattle.cli_follow.specs.Places.{is_given, folder_of, ArePlaces};
 
 use crate::files::TextFiles;
 use clap::ArgMatches;
-use cli_io::Shown;
+use cli_io::{Shown, Sources};
 use cli_nft::{machine_in, read_file};
 use std::alloc::{AllocError, Global};
 use std::fs::{self, Files};
@@ -24,7 +24,7 @@ pub(crate) struct Places {
 }
 
 /// The value of an option.
-fn value_of<'a>(matches: &ArgMatches<'a>, id: &str) -> Option<&'a str>
+pub(crate) fn value_of<'a>(matches: &ArgMatches<'a>, id: &str) -> Option<&'a str>
     ensures { option_map (λ v. v.now) result ≡ first_of id.now (rows_of (found_of matches.now)) }
 {
     matches.get_str(id)
@@ -41,12 +41,14 @@ fn is_given(matches: &ArgMatches<'_>, id: &str) -> bool
 }
 
 /// The text of a file of interfaces; none where it lists none.
-fn interfaces_in<RT: Files>(
-    rt: &RT,
+fn interfaces_in<T: Sources>(
+    sources: &T,
     alloc: Global,
     file: &str,
-) -> Result<Option<Vec<u8>>, AllocError> {
-    let Some(text) = read_file(rt, alloc, file)? else {
+) -> Result<Option<Vec<u8>>, AllocError>
+    ensures { IfOk result (λ o. IfSome o (λ text. T.has sources.now file.now text.items)) }
+{
+    let Some(text) = read_file(sources, alloc, file)? else {
         return Ok(None);
     };
     match machine_in(alloc, text.as_slice())? {
@@ -64,18 +66,18 @@ fn why_unread<RT: Files>(rt: &RT, file: &str) -> io::Result<()> {
     Ok(())
 }
 
-/// Says why a file lists no interfaces.
-fn say_interfaces<RT: Files, E: Write>(rt: &RT, file: &str, errors: &mut E) {
+/// Logs why a file lists no interfaces.
+fn log_interfaces<RT: Files, E: Write>(rt: &RT, file: &str, errors: &mut E) {
     let shown = Shown(file);
     match why_unread(rt, file) {
         Ok(()) => {
-            let _said = writeln!(
+            let _logged = writeln!(
                 errors,
-                "pfx: interfaces {shown}: a word is no name, a name is there twice, or there are too many names"
+                "pfx: interfaces {shown}: it has a malformed name, a name twice, or too many names"
             );
         }
         Err(error) => {
-            let _said = writeln!(errors, "pfx: interfaces {shown}: {error}");
+            let _logged = writeln!(errors, "pfx: interfaces {shown}: {error}");
         }
     }
 }
@@ -92,13 +94,13 @@ fn files_in(alloc: Global, folder: Option<&str>) -> Result<Option<TextFiles>, Al
 
 /// Where the arguments want it written. 40 where they want it nowhere, `--nft` and `--interfaces` aren't both there, or
 /// `--no-member-guard` is without them; 89 where the file lists no interfaces, which is logged on standard error.
-pub(crate) fn places_for<RT: Files, E: Write>(
+pub(crate) fn places_for<RT: Files + Sources, E: Write>(
     rt: &RT,
     alloc: Global,
     matches: &ArgMatches<'_>,
     errors: &mut E,
 ) -> Result<Result<Places, u8>, AllocError>
-    ensures { IfOk result (λ places. ArePlaces (rows_of (found_of matches.now)) places) }
+    ensures { IfOk result (λ places. ArePlaces (RT.has rt.now) (rows_of (found_of matches.now)) places) }
 {
     let files = files_in(alloc, value_of(matches, "pf"))?;
     let is_guarded = !is_given(matches, "no-member-guard");
@@ -122,7 +124,7 @@ pub(crate) fn places_for<RT: Files, E: Write>(
             files,
         })),
         None => {
-            say_interfaces(rt, file, errors);
+            log_interfaces(rt, file, errors);
             Ok(Err(89))
         }
     }

@@ -1,26 +1,30 @@
 //! A run of `follow`.
 
-ghost use Rattle.std.specs.Prelude.{◌≡◌, ◌+◌, ℕ, Err, IfOk, IfErr, codes, option_map};
-ghost use Rattle.clap.specs.Words.{found_of, rows_of, one_text};
+ghost use Rattle.std.specs.Prelude.{◌≡◌, ◌+◌, ◌⊎◌, ℕ, Err, IfOk, IfErr, codes, map, option_map};
+ghost use Rattle.clap.specs.Words.{found_of, rows_of, one_of, kind_of, subcommand_rows_of};
+ghost use Rattle.clap.specs.declared.error.kind.ErrorKind.TheVariants.{OutOfMemory};
+ghost use Rattle.cli_io.specs.Written.{IsMisused};
+ghost use Rattle.cli_follow.specs.Arguments.{given_in, given_of};
 ghost use Rattle.cli_follow.specs.Output.{AsksEntries, wanted, Went, Stopped, Ends};
 ghost use Rattle.cli_follow.specs.inner.Seen.{follower_of, wanted_of, due_in, stage_in, stage_if, Leads, Fails};
 ghost use Rattle.cli_follow.specs.Output as code;
 ghost use Rattle.cli_follow.specs.Places.{AreTurns, IsEnding, IsNoEnding, FollowedTo, FollowedBy};
+ghost use Rattle.cli_follow.specs.Running.{RanOut, Ran};
 
-use crate::control::{Control, ControlSocket};
+use crate::control::{Control, ControlSockets};
 use crate::files::TextFiles;
 use crate::follower::{Due, Follower, WriteFault, is_again};
-use crate::places::{Places, places_for};
-use crate::words::command;
-use clap::ArgMatches;
+use crate::options::command;
+use crate::places::{Places, places_for, value_of};
+use clap::error::ErrorKind;
+use clap::{ArgMatches, Error};
 use cli_ask::{AskFault, pause};
-use cli_io::{Status, misused};
+use cli_io::{Sources, Status, misused};
 use std::alloc::{AllocError, Global};
 use std::convert::AsStr;
 use std::fs::Files;
 use std::io::Write;
 use std::net::Net;
-use std::time::Clock;
 
 /// How long it waits between two asks, but for entries that weren't all, in milliseconds.
 const PAUSE: u64 = 50;
@@ -30,7 +34,7 @@ const NO_GUARD: &[u8] =
     b"pfx: no member guard: rules that drop the members' own datagrams cut this node off, and no command mends them\n";
 
 /// Logs that there is no answer, and why nobody answers, unless that was logged last.
-fn say_nothing<C: Control, E: Write>(
+fn log_refusal<C: Control, E: Write>(
     control: &C,
     errors: &mut E,
     fault: AskFault,
@@ -44,7 +48,7 @@ fn say_nothing<C: Control, E: Write>(
         AskFault::BadAnswer => "pfx: refused 86, asked again\n",
         _ => "pfx: refused 85, asked again\n",
     };
-    let _said = errors.write_all(line.as_bytes());
+    let _logged = errors.write_all(line.as_bytes());
     if fault == AskFault::NoAnswer {
         control.tell(errors);
     }
@@ -159,7 +163,7 @@ fn rest<RT: Net, C: Control, E: Write>(
     match due {
         Due::More => *said = None,
         Due::Nothing(fault) => {
-            say_nothing(control, errors, fault, said);
+            log_refusal(control, errors, fault, said);
             pause(rt, PAUSE);
         }
         _ => {
@@ -231,9 +235,7 @@ fn refused<E: Write>(alloc: Global, code: u8, errors: &mut E) -> Status
 fn another<E: Write>(errors: &mut E) -> Status
     ensures { IsEnding (Err WriteFault.Another) result }
 {
-    match errors.write_all(
-        b"pfx: the log at the control socket is another than the one followed\n",
-    ) {
+    match errors.write_all(b"pfx: the log at the control socket isn't the one followed\n") {
         Ok(()) => Status::Refused,
         Err(_) => Status::Failed,
     }
@@ -253,7 +255,7 @@ fn memory<E: Write>(errors: &mut E) -> Status
 fn closed<E: Write>(errors: &mut E) -> Status
     ensures { IsEnding (Err WriteFault.Closed) result }
 {
-    let _said = errors.write_all(b"pfx: the output is closed\n");
+    let _logged = errors.write_all(b"pfx: the output is closed\n");
     Status::Failed
 }
 
@@ -276,7 +278,7 @@ fn follow_to<RT: Files + Net, C: Control, W: Write, E: Write>(
         files,
     } = places;
     if interfaces.is_some() && !is_guarded {
-        let _said = errors.write_all(NO_GUARD);
+        let _logged = errors.write_all(NO_GUARD);
     }
     let ended = follow(
         rt, alloc, control, turns, interfaces, is_guarded, files, writer, errors,
@@ -298,7 +300,7 @@ fn status_of<E: Write>(ended: Result<(), WriteFault>, errors: &mut E) -> Status
 
 /// How many times entries are asked for.
 fn turns_in(matches: &ArgMatches<'_>) -> u64
-    ensures { AreTurns (one_text (found_of matches.now) (codes "turns")) result }
+    ensures { AreTurns (one_of (codes "turns") (rows_of (found_of matches.now))) result }
 {
     match matches.get_one::<u64>("turns") {
         Some(turns) => turns,
@@ -307,7 +309,7 @@ fn turns_in(matches: &ArgMatches<'_>) -> u64
 }
 
 /// Follows the log at a control socket as the matches ask for.
-fn followed<RT: Files + Net, C: Control, W: Write, E: Write>(
+fn followed<RT: Files + Net + Sources, C: Control, W: Write, E: Write>(
     rt: &RT,
     alloc: Global,
     matches: &ArgMatches<'_>,
@@ -315,9 +317,9 @@ fn followed<RT: Files + Net, C: Control, W: Write, E: Write>(
     writer: &mut W,
     errors: &mut E,
 ) -> Status
-    ensures { (turns : ℕ) × (AreTurns (one_text (found_of matches.now) (codes "turns")) turns
-        × FollowedBy (C.exchanged control.old) (C.exchanged control.new) (rows_of (found_of matches.now)) turns result
-        (W.contents writer.old) (W.contents writer.new)) }
+    ensures { (turns : ℕ) × (AreTurns (one_of (codes "turns") (rows_of (found_of matches.now))) turns
+        × FollowedBy (C.exchanged control.old) (C.exchanged control.new) (RT.has rt.now)
+        (rows_of (found_of matches.now)) turns result (W.contents writer.old) (W.contents writer.new)) }
 {
     let turns = turns_in(matches);
     match places_for(rt, alloc, matches, errors) {
@@ -327,35 +329,69 @@ fn followed<RT: Files + Net, C: Control, W: Write, E: Write>(
     }
 }
 
-/// What the subcommand `follow` asks for, the program's name first: the rules of a running node's configuration, whole,
-/// once it has applied a command and each time that what it applies changes them; for nft(8) to the writer, for
-/// pfctl(8) into files. Refusals go to `errors`.
-pub fn run_follow<RT: Files + Net + Clock, S: AsStr, W: Write, E: Write>(
-    rt: &RT,
+/// What is wrong with the arguments, on the output; out of memory, on standard error.
+fn refuse<W: Write, E: Write>(
     alloc: Global,
-    words: &[S],
+    error: &Error,
     writer: &mut W,
     errors: &mut E,
-) -> Status {
+) -> Status
+    ensures memory { kind_of error.now ≡ OutOfMemory →
+        RanOut result (W.contents writer.old) (W.contents writer.new) }
+    ensures ran { RanOut result (W.contents writer.old) (W.contents writer.new)
+        ⊎ IsMisused result (W.contents writer.old) (W.contents writer.new) }
+{
+    if error.kind() == ErrorKind::OutOfMemory {
+        return memory(errors);
+    }
+    misused(alloc, error, writer)
+}
+
+/// What is given with the subcommand `follow`.
+fn given_in<'m, 'a>(matches: &'m ArgMatches<'a>) -> Option<&'m ArgMatches<'a>>
+    ensures { option_map (λ m. rows_of (found_of m.now)) result ≡ given_in (subcommand_rows_of matches.now) }
+{
+    match matches.subcommand() {
+        Some((name, inner)) => if name == "follow" { Some(inner) } else { None },
+        None => None,
+    }
+}
+
+/// What the subcommand `follow` asks for, the program's name first: the rules of a running node's configuration, whole,
+/// once it has applied a command and each time that what it applies changes them; for nft(8) to the writer, for
+/// pfctl(8) into files. Refusals go to `errors`. The node is the one that `sockets` has at the path of `--control`: for
+/// the system's control sockets they are `rt`.
+pub fn run_follow<
+    'a,
+    RT: Files + Net + Sources,
+    C: ControlSockets<'a>,
+    S: AsStr,
+    W: Write,
+    E: Write,
+>(
+    rt: &RT,
+    sockets: &'a C,
+    alloc: Global,
+    arguments: &'a [S],
+    writer: &mut W,
+    errors: &mut E,
+) -> Status
+    ensures { Ran (C.answers_at sockets.now) C.Peer.exchanged (RT.has rt.now) (given_of (map S.text arguments.now))
+        result (W.contents writer.old) (W.contents writer.new) }
+{
     let Ok(command) = command(alloc) else {
         return memory(errors);
     };
-    let matches = match command.try_get_matches_from(words) {
+    let matches = match command.try_get_matches_from(arguments) {
         Ok(matches) => matches,
-        Err(error) => return misused(alloc, &error, writer),
+        Err(error) => return refuse(alloc, &error, writer, errors),
     };
-    match matches.subcommand_matches("follow") {
-        Some(inner) => match inner.get_str("control") {
-            Some(path) => followed(
-                rt,
-                alloc,
-                inner,
-                &mut ControlSocket { rt, path },
-                writer,
-                errors,
-            ),
-            None => Status::Usage,
-        },
-        None => Status::Usage,
-    }
+    let Some(inner) = given_in(&matches) else {
+        return Status::Usage;
+    };
+    let Some(path) = value_of(inner, "control") else {
+        return refused(alloc, 40, errors);
+    };
+    let mut peer = sockets.peer_at(path);
+    followed(rt, alloc, inner, &mut peer, writer, errors)
 }

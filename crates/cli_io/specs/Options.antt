@@ -1,7 +1,8 @@
 -- The options of subcommands, as `clap` has them.
-use Rattle.std.specs.Prelude.{Some}
+use Rattle.std.specs.Prelude.{ℕ, true, Some}
 use Rattle.clap.specs.Words.{Rule, Text, new_rule}
 use Rattle.clap.specs.declared.builder.action.ArgAction.TheVariants.{Set, SetTrue}
+use Rattle.clap.specs.declared.builder.value_parser.ValueParser.TheVariants.{Unsigned}
 
 -- --NAME
 abbrev pub flag_rule : Text → Rule
@@ -10,3 +11,11 @@ flag_rule name = record (new_rule name) { long = Some name; action = Some SetTru
 -- --NAME VALUE
 abbrev pub value_rule : Text → Rule
 value_rule name = record (new_rule name) { long = Some name; action = Some Set }
+
+-- --NAME VALUE, which has to be given
+abbrev pub needed_rule : Text → Rule
+needed_rule name = record (value_rule name) { required = true }
+
+-- --NAME N, from one number up to another
+abbrev pub number_rule : Text → (least most : ℕ) → Rule
+number_rule name least most = record (value_rule name) { parser = Some (Unsigned least most) }

@@ -5,11 +5,11 @@ use crate::numbers::{
 };
 use crate::paragraph::Explanation;
 
-const TEXT_STAYS: &str = "Nothing of the text is taken; what was loaded before stays as it was.";
+const TEXT_STAYS: &str = "The ruleset isn't loaded; what was loaded before stays as it was.";
 
 const COMMAND_STAYS: &str = "The command changes nothing; a script goes on with its next line.";
 
-const ASK_STAYS: &str = "Nothing is taken in, and the node goes on.";
+const ASK_STAYS: &str = "The command isn't accepted, and the node goes on.";
 
 const STORE_STAYS: &str = "The node isn't started, and the store stays as it was.";
 
@@ -18,16 +18,15 @@ pub const REFUSALS: [Explanation; 44] = [
     Explanation {
         code: 1,
         name: "no number in an address",
-        meaning: "a piece of an address that is no number; for -T test also a ! or a\n         \
+        meaning: "a component of an address that is no number; for -T test also a ! or a\n         \
             prefix",
         after: COMMAND_STAYS,
-        remedy: "Write numbers of 0 to 255, in IPv6 groups of 1 to 4 hexadecimal\n         \
-            digits.",
+        remedy: "Write numbers of 0 to 255, in IPv6 groups of 1 to 4 hexadecimal digits.",
     },
     Explanation {
         code: 2,
         name: "address of no form",
-        meaning: "an address with too few or too many pieces",
+        meaning: "an address with too few or too many components",
         after: COMMAND_STAYS,
         remedy: "IPv4 has four numbers, in a prefix one to four; IPv6 has eight groups,\n         \
             or :: once.",
@@ -42,10 +41,10 @@ pub const REFUSALS: [Explanation; 44] = [
     Explanation {
         code: 10,
         name: "unknown character",
-        meaning: "a byte that begins no token, a string that doesn't close",
+        meaning: "a character that begins no token; a string without its closing quote",
         after: TEXT_STAYS,
-        remedy: "From the named line on, look for a character that the language hasn't,\n         \
-            or for a missing quote.",
+        remedy: "From the named line on, look for a character that isn't in the\n         \
+            language, or for a missing quote.",
     },
     Explanation {
         code: 11,
@@ -59,8 +58,8 @@ pub const REFUSALS: [Explanation; 44] = [
     Explanation {
         code: 12,
         name: "syntax error",
-        meaning: "what the grammar doesn't spell; a block on x/*, an anchor rule with\n         \
-            neither name nor block, set, a table or a macro in a block",
+        meaning: "a statement that isn't in the grammar; a block on x/*; an anchor rule\n         \
+            with neither name nor block; set, a table or a macro in a block",
         after: TEXT_STAYS,
         remedy: "Compare the statement with the grammar. States, routes, users and\n         \
             clocks of pf.conf(5) aren't part of it.",
@@ -77,7 +76,7 @@ pub const REFUSALS: [Explanation; 44] = [
     Explanation {
         code: 14,
         name: "no combination of one family",
-        meaning: "no combination of one family",
+        meaning: "no combination of addresses of one family",
         after: TEXT_STAYS,
         remedy: "Give source and destination addresses of one family, that of inet or\n         \
             inet6 where that is written.",
@@ -85,8 +84,8 @@ pub const REFUSALS: [Explanation; 44] = [
     Explanation {
         code: 15,
         name: "reserved anchor name",
-        meaning: "a name in an anchor rule that begins with _, but \"_k\" alone, without a\n         \
-            block, behind the k-th unnamed block of its ruleset",
+        meaning: "a name in an anchor rule that begins with _, except \"_k\" alone, without\n         \
+            a block, after the k-th unnamed block of its ruleset",
         after: TEXT_STAYS,
         remedy: "Choose a name without _ in front: such names are those of unnamed\n         \
             blocks.",
@@ -132,7 +131,7 @@ pub const REFUSALS: [Explanation; 44] = [
         name: "const table",
         meaning: "a table that may not be changed (const)",
         after: COMMAND_STAYS,
-        remedy: "Change the text that has the table, and load it.",
+        remedy: "Change the ruleset that declares the table, and load it.",
     },
     Explanation {
         code: 22,
@@ -151,22 +150,22 @@ pub const REFUSALS: [Explanation; 44] = [
     Explanation {
         code: 24,
         name: "bad path",
-        meaning: "no path of an anchor, a block deeper than 8 names",
+        meaning: "a malformed path of an anchor; a block deeper than 8 names",
         after: "The command changes nothing.",
         remedy: "A path is 1 to 8 names between slashes, none of which begins with _.",
     },
     Explanation {
         code: NO_PACKET,
         name: "no packet",
-        meaning: "no packet in the form of pfx test",
-        after: "The verdicts before it are printed, and none behind it.",
+        meaning: "a packet that isn't in the form of pfx test",
+        after: "The verdicts before it are printed, and none after it.",
         remedy: "Compare the packet with pfx test --help: one family, ports for tcp and\n         \
             udp alone, an icmp-type as a number.",
     },
     Explanation {
         code: 40,
-        name: "words that don't go together",
-        meaning: "words that don't go together, another file than -, an unknown line",
+        name: "invalid arguments",
+        meaning: "arguments that form no command, another file than -, an unknown line",
         after: COMMAND_STAYS,
         remedy: "Look at pfx ctl --help, or at pfx ask --help.",
     },
@@ -175,13 +174,13 @@ pub const REFUSALS: [Explanation; 44] = [
         name: "change too long",
         meaning: "a change of more than 32,768 bytes or 4,096 addresses",
         after: COMMAND_STAYS,
-        remedy: "Cut the change in two: a text into anchors, addresses into several\n         \
+        remedy: "Divide the change: a ruleset into anchors, addresses into several\n         \
             commands.",
     },
     Explanation {
         code: WAITING_FULL,
         name: "64 commands wait",
-        meaning: "a command, since 64 wait",
+        meaning: "a command, while 64 others wait",
         after: ASK_STAYS,
         remedy: "See by pfx ask --control PATH status that a majority is heard, and ask\n         \
             again.",
@@ -191,18 +190,18 @@ pub const REFUSALS: [Explanation; 44] = [
         name: "no round left",
         meaning: "a tick, since every round is used",
         after: "The node proposes nothing more; what was learned stays.",
-        remedy: "Make a successor: pfx show --store FILE --script, whose commands\n         \
-            pfx ask --script asks of a new cluster.",
+        remedy: "Set up a successor: pfx show --store FILE --script, whose commands pfx\n         \
+            ask --script asks of a new cluster.",
     },
     Explanation {
         code: POSITIONS_SPENT,
         name: "no position left",
-        meaning: "a command, since every position or number is used, or at a control\n         \
-            socket those left are of commands that wait",
-        after: "Nothing is taken in; what was learned stays, and verdicts are\n         \
+        meaning: "a command, since every position or number is used; at a control socket\n         \
+            also since those left are reserved for waiting commands",
+        after: "The command isn't accepted; what was learned stays, and verdicts are\n         \
             answered.",
-        remedy: "Make a successor: pfx show --store FILE --script, whose commands\n         \
-            pfx ask --script asks of a new cluster.",
+        remedy: "Set up a successor: pfx show --store FILE --script, whose commands pfx\n         \
+            ask --script asks of a new cluster.",
     },
     Explanation {
         code: 70,
@@ -211,8 +210,8 @@ pub const REFUSALS: [Explanation; 44] = [
             has it open",
         after: "The change is made whole or not at all; the node sends nothing of it,\n         \
             and ends.",
-        remedy: "Of a full disk, make room and start the node again on it; of a disk that\n         \
-            fails the record is lost. See that one node alone uses the store.",
+        remedy: "If the disk is full, make room and start the node again. If the disk\n         \
+            fails, the record is lost. See that only one node uses the store.",
     },
     Explanation {
         code: 71,
@@ -232,14 +231,14 @@ pub const REFUSALS: [Explanation; 44] = [
     Explanation {
         code: 73,
         name: "unknown store",
-        meaning: "a store with other tables, or of a later program",
+        meaning: "a store with other tables, or of a later version",
         after: STORE_STAYS,
         remedy: "See that the file is a node's store; run the program that wrote it.",
     },
     Explanation {
         code: 80,
         name: "node failed",
-        meaning: "everything, by a node whose store failed",
+        meaning: "any request to a node whose store failed",
         after: "The node learns and sends nothing more.",
         remedy: "End it, mend what made its store fail (70, 72), and start it again.",
     },
@@ -253,33 +252,33 @@ pub const REFUSALS: [Explanation; 44] = [
     Explanation {
         code: 82,
         name: "bad address",
-        meaning: "no address, or one that the system refuses",
+        meaning: "a malformed address, or one that the system refuses",
         after: "No socket is open, and the store stays as it was.",
         remedy: "Write 192.0.2.1:4711, [2001:db8::1]:4711 or host:4711, each of one\n         \
-            family; see that the own port is free.",
+            family; see that the node's port is free.",
     },
     Explanation {
         code: 83,
         name: "bad key file",
-        meaning: "a key's file: it can't be read or made, isn't 64 hexadecimal digits, or\n         \
-            others may read it",
-        after: "The node isn't started, and its store isn't looked at.",
+        meaning: "a key file: it can't be read or created, isn't 64 hexadecimal digits,\n         \
+            or others may read it",
+        after: "The node isn't started, and its store isn't read.",
         remedy: "Make a key by pfx key, and let its owner alone read the file (mode\n         \
             0600).",
     },
     Explanation {
         code: 84,
         name: "bad control socket",
-        meaning: "a control socket: another node answers there, something else is\n         \
-            there, or the system refuses the socket",
+        meaning: "a control socket: another node answers there, something else is there,\n         \
+            or the system refuses the socket",
         after: STORE_STAYS,
-        remedy: "Give each node a control socket of its own, in a folder that the\n         \
-            node may write.",
+        remedy: "Give each node a control socket of its own, in a folder that the node\n         \
+            may write.",
     },
     Explanation {
         code: 85,
         name: "nobody answers",
-        meaning: "an ask, since nobody answers at the control socket",
+        meaning: "a request, since nobody answers at the control socket",
         after: "Nothing was asked.",
         remedy: "See that the node runs with --control and this very path, and that you\n         \
             may open the socket.",
@@ -287,86 +286,86 @@ pub const REFUSALS: [Explanation; 44] = [
     Explanation {
         code: 86,
         name: "broken answer",
-        meaning: "an answer at a control socket that is cut short or none of HTTP's",
-        after: "What was asked may have been taken in all the same.",
-        remedy: "See what came of it by pfx ask --control PATH log, and ask again.",
+        meaning: "an answer at a control socket that is cut short, or isn't HTTP",
+        after: "The request may have been accepted.",
+        remedy: "See by pfx ask --control PATH log whether it was, or ask again.",
     },
     Explanation {
         code: 87,
         name: "anchor in itself",
-        meaning: "rules for nftables: an anchor rule's target is the anchor that holds\n         \
-            it",
+        meaning: "rules for nftables: an anchor rule's target is the anchor that holds it",
         after: "Nothing is rendered.",
         remedy: "Let the anchor rule name another anchor.",
     },
     Explanation {
         code: 88,
         name: "too many rules a packet",
-        meaning: "rules by which a packet may be asked of too many rules: of more than\n         \
-            100,000 they aren't rendered for nftables, of more than 10,000 a\n         \
-            running node computes no verdict",
+        meaning: "a ruleset that may compare a packet with too many rules: with more than\n         \
+            100,000 it isn't rendered for nftables, with more than 10,000 a running\n         \
+            node computes no verdict",
         after: "Nothing is rendered or computed.",
         remedy: "Let fewer anchor rules name one anchor, or nest them less deep.",
     },
     Explanation {
         code: 89,
         name: "bad file of interfaces",
-        meaning: "a file of interfaces: it can't be read, has a word that is no name, a\n         \
-            name twice, or more than 1,024",
+        meaning: "a file of interfaces: it can't be read, has a malformed name, a name\n         \
+            twice, or more than 1,024",
         after: "Nothing is rendered.",
-        remedy: "A line of the file has an interface and its groups, with blanks\n         \
-            between them.",
+        remedy: "A line of the file has an interface and its groups, with blanks between\n         \
+            them.",
     },
     Explanation {
         code: UNREADABLE,
         name: "file can't be read",
         meaning: "a file that can't be read, has more than 16,777,216 bytes, or holds\n         \
             packets that aren't UTF-8",
-        after: "Nothing of it is taken.",
+        after: "Nothing of it is used.",
         remedy: "See that the file is there, and that you may read it.",
     },
     Explanation {
         code: NO_SCRIPT,
         name: "no script",
-        meaning: "a script of a store's configuration: none gives it",
+        meaning: "a configuration that no script gives",
         after: "No script is printed, and the store stays as it was.",
         remedy: "Look by -s at what the store holds, and load it by hand.",
     },
     Explanation {
         code: 92,
         name: "bad file of settings",
-        meaning: "a node's file of settings: it isn't TOML, has an unknown setting or a\n         \
-            value of another kind; me, cluster or store that neither it nor an\n         \
-            option gives; other-key without a key, metrics without a control\n         \
-            socket",
+        meaning: "a node's settings: the file isn't TOML, or has an unknown setting or a\n         \
+            value of another type; me, cluster or store is given neither there nor\n         \
+            by an option; other-key without a key, metrics without a control socket",
         after: "No node is started.",
-        remedy: "Look at the named line, which standard error says more of, and at the\n         \
+        remedy: "See standard error, which names the line and the reason, and the\n         \
             example in pfx-node(8).",
     },
     Explanation {
         code: 93,
         name: "no store",
-        meaning: "a node's store that isn't there, or has no byte: its settings come from a\n         \
-            file, and --new isn't given",
-        after: "No node is started, and no store is made.",
-        remedy: "Start a node that never ran once with --new. Where it ran its record is\n         \
-            lost: don't start it, and make a successor. See that all is mounted.",
+        meaning: "a node's store that is missing or empty, with settings from a file and\n         \
+            without --new",
+        after: "No node is started, and no store is created.",
+        remedy: "If the node never ran, start it once with --new. If it ran, its record\n         \
+            is lost: don't start it, and set up a successor. See that all is\n         \
+            mounted.",
     },
     Explanation {
         code: 94,
-        name: "file is there",
-        meaning: "a file that is to be made and is there: a store with --new, a new key's",
-        after: "Nothing is made, and the file stays as it was.",
+        name: "file exists",
+        meaning: "a file to create that exists: a store with --new, a new key file",
+        after: "Nothing is created, and the file stays as it was.",
         remedy: "Start a node on its store without --new; give a new key a name of its\n         \
             own.",
     },
     Explanation {
         code: 95,
         name: "bad file of starts",
-        meaning: "the file STORE-starts of a node with a key: it is missing beside a store\n         \
-            that isn't new, is damaged or another cluster's, or can't be written",
+        meaning: "the file STORE-starts of a node with a key: it is missing beside a\n         \
+            store that isn't new, is damaged or another cluster's, or can't be\n         \
+            written",
         after: "The node isn't started. Its store and the file stay as they were.",
         remedy: "Bring the file back, or start the node once with --new-starts, which\n         \
-            makes a missing one.",
+            creates a missing one.",
     },
 ];

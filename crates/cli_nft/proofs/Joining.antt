@@ -2,7 +2,7 @@
 use Rattle.std.proofs.Common.{◌≡◌, List, ◌∷◌, [], ◌++◌, Option, Some, None, option_map, refl, ap, append_assoc}
 use Rattle.node_udp.specs.declared.address.Address.{Address}
 use Rattle.nft_rules.specs.declared.guard.Member.{Member}
-use Rattle.cli_nft.specs.Words.{member_at, and_member}
+use Rattle.cli_nft.specs.Options.{member_at, and_member}
 
 -- members that were read, before those that are still to be read
 abbrev pub with_front : List Member → Option (List Member) → Option (List Member)

@@ -3,7 +3,7 @@ use Rattle.std.proofs.Common.{◌≡◌, ℕ, List, Option, Some, None, Result, 
 use Rattle.std.specs.Str.Parse.{ParsesUnsigned}
 use Rattle.clap.specs.Words.{Text}
 use Rattle.clap.specs.Matches.{ReadsOne}
-use Rattle.cli_nft.specs.Words.{IsPosition}
+use Rattle.cli_nft.specs.Options.{IsPosition}
 
 pub is_read : {E : Type 0} (gives : Text → Result ℕ E → Type 0) →
     ((t : Text) (r : Result ℕ E) → gives t r → ParsesUnsigned 32 10 t r) →

@@ -11,10 +11,10 @@ use Rattle.clap.specs.declared.parser.matches.ArgMatches.{ArgMatches}
 use Rattle.nft_rules.specs.declared.guard.Member.{Member}
 use Rattle.cli_io.proofs.Fronts.{nothing_written}
 use Rattle.cli_nft.specs.Running.{Wrote, Ran}
-use Rattle.cli_nft.specs.Words.{nft_app, named_in, members_named, position_text, IsPosition, IsPositionOf}
+use Rattle.cli_nft.specs.Options.{nft_app, named_in, members_named, position_text, IsPosition, IsPositionOf}
 
-pub memory : (words : List Text) (s : Status) (input old new : Option (List ℕ)) → (s ≡ Failed) ⊎ ((s ≡ Memory) × Appends old new (line (codes "memory"))) → Ran words s input old new
-memory words s input old new h = inr (elim h [
+pub memory : (arguments : List Text) (s : Status) (input old new : Option (List ℕ)) → (s ≡ Failed) ⊎ ((s ≡ Memory) × Appends old new (line (codes "memory"))) → Ran arguments s input old new
+memory arguments s input old new h = inr (elim h [
   | inl failed ↦ subst (λ e. IsMisused e old new) (sym failed) tt
   | inr both ↦ subst (λ e. IsMisused e old new) (sym both.0) both.1
 ])
@@ -24,23 +24,23 @@ memory words s input old new h = inr (elim h [
 simple : is_simple nft_app ≡ true
 simple = refl
 
-pub named : (a : App) (words : List Text) (m : ArgMatches) (ms : Option (List Member)) → a ≡ nft_app → HasMatchesOf a words m →
-    ms ≡ named_in (subcommand_rows_of m) → ms ≡ members_named words
+pub named : (a : App) (arguments : List Text) (m : ArgMatches) (ms : Option (List Member)) → a ≡ nft_app → HasMatchesOf a arguments m →
+    ms ≡ named_in (subcommand_rows_of m) → ms ≡ members_named arguments
 unfolding members_named
-named a words m ms same h e =
-    let P : App → Type 0 = λ b. HasMatchesOf b words m in
+named a arguments m ms same h e =
+    let P : App → Type 0 = λ b. HasMatchesOf b arguments m in
     e ∙ ap named_in (subst P same h simple).1
 
-pub placed : (a : App) (words : List Text) (m : ArgMatches) (n : ℕ) → a ≡ nft_app → HasMatchesOf a words m →
-    IsPosition (position_text (subcommand_rows_of m)) n → IsPositionOf words n
-placed a words m n same h e =
-    let P : App → Type 0 = λ b. HasMatchesOf b words m in
+pub placed : (a : App) (arguments : List Text) (m : ArgMatches) (n : ℕ) → a ≡ nft_app → HasMatchesOf a arguments m →
+    IsPosition (position_text (subcommand_rows_of m)) n → IsPositionOf arguments n
+placed a arguments m n same h e =
+    let P : App → Type 0 = λ b. HasMatchesOf b arguments m in
     subst (λ rows. IsPosition (position_text rows) n) (subst P same h simple).1 e
 
 -- what was written of these members and this position, which are those that the arguments name
-pub ran_by : (words : List Text) (file : Option (List ℕ)) (ms : Option (List Member)) (position : ℕ) (s : Status) (input old new : Option (List ℕ)) →
-    ms ≡ members_named words → IsPositionOf words position → Wrote file ms position s input old new → Ran words s input old new
-ran_by words file ms position s input old new e p w = inl (record {
+pub ran_by : (arguments : List Text) (file : Option (List ℕ)) (ms : Option (List Member)) (position : ℕ) (s : Status) (input old new : Option (List ℕ)) →
+    ms ≡ members_named arguments → IsPositionOf arguments position → Wrote file ms position s input old new → Ran arguments s input old new
+ran_by arguments file ms position s input old new e p w = inl (record {
   file = file;
   position = position;
   at = p;

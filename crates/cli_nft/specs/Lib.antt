@@ -1,5 +1,5 @@
 pub mod Machines
 pub mod Outputs
 pub mod Seen
-pub mod Words
+pub mod Options
 pub mod Running

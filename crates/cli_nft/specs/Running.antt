@@ -4,7 +4,7 @@ use Rattle.std.specs.List.{list_any}
 use Rattle.std.specs.Io.KnownBytes.{Appends}
 use Rattle.clap.specs.Words.{Text}
 use Rattle.cli_io.specs.Written.{line, AppendsFront, IsMisused}
-use Rattle.cli_nft.specs.Words.{members_named, IsPositionOf}
+use Rattle.cli_nft.specs.Options.{members_named, IsPositionOf}
 use Rattle.cli_nft.specs.Outputs.{output}
 use Rattle.nft_rules.specs.declared.guard.Member.{Member}
 use Rattle.cli_io.specs.declared.status.Status.{Status}
@@ -14,7 +14,7 @@ use Rattle.cli_io.specs.declared.status.Status.TheVariants as status
 abbrev pub asks_nft : List (List ℕ) → Bool
 asks_nft [] = false
 asks_nft (name ∷ []) = false
-asks_nft (name ∷ word ∷ words) = bytes_eq word (codes "check") && list_any (λ w. bytes_eq w (codes "--nft")) words
+asks_nft (name ∷ argument ∷ arguments) = bytes_eq argument (codes "check") && list_any (λ w. bytes_eq w (codes "--nft")) arguments
 
 -- What a run that ended so has written, of this file of interfaces, these members, this position and this input. When
 -- out of memory it wrote that alone; a run that failed wrote a front of either, and nothing where the input wasn't
@@ -31,12 +31,12 @@ Wrote file ms position status.Failed input old new = AppendsFront old new (line 
     ⊎ IfSome input (λ bytes. AppendsFront old new (output file ms position bytes).text)
 
 -- a run of arguments that are understood: of the members and the position that they name, for some file of interfaces
-pub record Answered (words : List Text) (ending : Status) (input old new : Option (List ℕ)) : Type 0 where
+pub record Answered (arguments : List Text) (ending : Status) (input old new : Option (List ℕ)) : Type 0 where
   pub file : Option (List ℕ)
   pub position : ℕ
-  pub at : IsPositionOf words position
-  pub wrote : Wrote file (members_named words) position ending input old new
+  pub at : IsPositionOf arguments position
+  pub wrote : Wrote file (members_named arguments) position ending input old new
 
 -- a run of these arguments, the program's name first, which are understood, or it was out of memory, or they aren't
 abbrev pub Ran : List Text → Status → (input old new : Option (List ℕ)) → Type 0
-Ran words ending input old new = Answered words ending input old new ⊎ IsMisused ending old new
+Ran arguments ending input old new = Answered arguments ending input old new ⊎ IsMisused ending old new

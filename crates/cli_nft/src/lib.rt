@@ -8,7 +8,7 @@
 //! - [`nft_output`]: what is written of a ruleset for a machine: three lines, or a refusal; [`config_output`]: the same
 //!   of a configuration, as `show --nft` and `follow` write it.
 //!
-//! Within: `words` has the arguments as `clap` reads them.
+//! Within: `options` has the arguments as `clap` reads them.
 //!
 //! # Why
 //!
@@ -18,9 +18,9 @@
 
 mod machines;
 mod members;
+mod options;
 mod outputs;
 mod running;
-mod words;
 
 pub use machines::{INTERFACES_MAX, machine_in};
 pub use members::{MEMBERS_MAX, members_in};

@@ -2,7 +2,7 @@
 
 ghost use Rattle.std.specs.Prelude.{◌≡◌, IfOk, map, option_map};
 ghost use Rattle.node_udp.specs.Addresses.{address_of};
-ghost use Rattle.cli_nft.specs.Words.{member_at, members_at, members_in};
+ghost use Rattle.cli_nft.specs.Options.{member_at, members_at, members_in};
 
 use nft_rules::Member;
 use node_udp::parse_address;
@@ -41,7 +41,7 @@ fn members_at(alloc: Global, texts: &[&str]) -> Result<Option<Vec<Member>>, Allo
 
 /// The members that these strings are, none where one of them isn't spelled as an address and a port, or where there
 /// are more than 15.
-#[tactic(auto, unfolding(crate::specs::Words::members_in))]
+#[tactic(auto, unfolding(crate::specs::Options::members_in))]
 pub fn members_in(alloc: Global, texts: &[&str]) -> Result<Option<Vec<Member>>, AllocError>
     ensures { IfOk result (λ o. option_map (λ v. v.items) o ≡ members_in (map (λ t. t.now) texts.now)) }
 {

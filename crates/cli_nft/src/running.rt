@@ -3,26 +3,27 @@
 ghost use Rattle.std.specs.Prelude.{◌≡◌, IfOk, IfSome, map, option_map, bytes_eq, codes};
 ghost use Rattle.std.specs.List.{list_any};
 ghost use Rattle.clap.specs.Words.{found_of, rows_of, one_of, subcommand_rows_of};
-ghost use Rattle.cli_nft.specs.Words.{named_in, position_text, IsPosition};
+ghost use Rattle.cli_nft.specs.Options.{named_in, position_text, IsPosition};
 ghost use Rattle.cli_nft.specs.Running.{asks_nft, Wrote, Ran};
 
 use crate::members::members_in;
+use crate::options::command;
 use crate::outputs::nft_output;
-use crate::words::command;
 use clap::ArgMatches;
-use cli_io::{InputFault, Status, misused, out_of_memory, read_all, values_in, write_bytes};
+use cli_io::{
+    InputFault, Sources, Status, misused, out_of_memory, read_all, values_in, write_bytes,
+};
 use nft_rules::Member;
 use std::alloc::{AllocError, Global};
 use std::convert::AsStr;
-use std::fs::{self, Files};
 use std::io::{Read, Write};
 
 /// Whether one of these arguments is `--nft`.
-fn has_nft<S: AsStr>(words: &[S]) -> bool
-    ensures { result ≡ list_any (λ w. bytes_eq w (codes "--nft")) (map S.text words.now) }
+fn has_nft<S: AsStr>(arguments: &[S]) -> bool
+    ensures { result ≡ list_any (λ w. bytes_eq w (codes "--nft")) (map S.text arguments.now) }
 {
-    for word in words {
-        if word.as_str() == "--nft" {
+    for argument in arguments {
+        if argument.as_str() == "--nft" {
             return true;
         }
     }
@@ -30,10 +31,10 @@ fn has_nft<S: AsStr>(words: &[S]) -> bool
 }
 
 /// Whether the arguments, the program's name first, are `check` with `--nft` among what follows.
-pub fn asks_nft<S: AsStr>(words: &[S]) -> bool
-    ensures { result ≡ asks_nft (map S.text words.now) }
+pub fn asks_nft<S: AsStr>(arguments: &[S]) -> bool
+    ensures { result ≡ asks_nft (map S.text arguments.now) }
 {
-    match words {
+    match arguments {
         [_, first, rest @ ..] => first.as_str() == "check" && has_nft(rest),
         _ => false,
     }
@@ -47,7 +48,7 @@ fn position_in(inner: &ArgMatches<'_>) -> u32
 }
 
 /// The file of interfaces and the position that the arguments name. `clap` has refused arguments that lack the file.
-fn words_of<'a>(matches: &ArgMatches<'a>) -> Option<(&'a str, u32)>
+fn options_of<'a>(matches: &ArgMatches<'a>) -> Option<(&'a str, u32)>
     ensures { IfSome result (λ said. IsPosition (position_text (subcommand_rows_of matches.now)) said.1) }
 {
     match matches.subcommand() {
@@ -64,8 +65,8 @@ fn members_of(alloc: Global, matches: &ArgMatches<'_>) -> Result<Option<Vec<Memb
     ensures { IfOk result (λ o. option_map (λ v. v.items) o ≡ named_in (subcommand_rows_of matches.now)) }
 {
     match matches.subcommand() {
-        Some((word, inner)) => {
-            if word == "check" {
+        Some((argument, inner)) => {
+            if argument == "check" {
                 return members_in(alloc, values_in(inner, "members"));
             }
             Ok(None)
@@ -84,16 +85,15 @@ fn lent(members: &Option<Vec<Member>>) -> Option<&[Member]>
     }
 }
 
-/// The text of a file, none where it can't be read or is longer than an input may be.
-pub fn read_file<F: Files>(
-    rt: &F,
+/// The text at a path, none where it can't be read or is longer than an input may be.
+pub fn read_file<T: Sources>(
+    sources: &T,
     alloc: Global,
     path: &str,
-) -> Result<Option<Vec<u8>>, AllocError> {
-    let Ok(mut file) = fs::open(rt, path) else {
-        return Ok(None);
-    };
-    match read_all(alloc, &mut file) {
+) -> Result<Option<Vec<u8>>, AllocError>
+    ensures { IfOk result (λ o. IfSome o (λ text. T.has sources.now path.now text.items)) }
+{
+    match sources.source_at(alloc, path) {
         Ok(text) => Ok(Some(text)),
         Err(InputFault::Memory) => Err(AllocError),
         Err(InputFault::Failed | InputFault::TooLong) => Ok(None),
@@ -136,21 +136,21 @@ fn answer<R: Read, W: Write>(
 pub fn run_nft<S: AsStr, R: Read, W: Write>(
     rt: &HostRuntime,
     alloc: Global,
-    words: &[S],
+    arguments: &[S],
     reader: &mut R,
     writer: &mut W,
 ) -> Status
-    ensures { Ran (map S.text words.now) result (R.remaining reader.old) (W.contents writer.old)
+    ensures { Ran (map S.text arguments.now) result (R.remaining reader.old) (W.contents writer.old)
         (W.contents writer.new) }
 {
     let Ok(command) = command(alloc) else {
         return out_of_memory(writer);
     };
-    let matches = match command.try_get_matches_from(words) {
+    let matches = match command.try_get_matches_from(arguments) {
         Ok(matches) => matches,
         Err(error) => return misused(alloc, &error, writer),
     };
-    let Some((interfaces, position)) = words_of(&matches) else {
+    let Some((interfaces, position)) = options_of(&matches) else {
         return Status::Usage;
     };
     let Ok(members) = members_of(alloc, &matches) else {

@@ -1,4 +1,4 @@
--- What a run writes: the line of its outcome, or, without one, what is wrong with the words.
+-- What a run writes: the line of its outcome, or, without one, what is wrong with the arguments.
 use Rattle.std.proofs.Common.{List, [], ℕ, Option, None, refl, inr}
 use Rattle.std.specs.Io.KnownBytes.{Appends}
 use Rattle.cli_node.specs.declared.outcome.Outcome.{Outcome}

@@ -34,7 +34,7 @@ const WAIT_MS: u32 = 200;
 
 /// The arguments of `ask` of its own.
 #[derive(Clone, Copy)]
-pub(crate) struct AskWords<'a> {
+pub(crate) struct AskArguments<'a> {
     /// Where the node listens.
     pub(crate) to: &'a str,
     pub(crate) cluster: u32,
@@ -56,9 +56,9 @@ fn waits_of(seconds: Option<u16>) -> u32
     }
 }
 
-impl<'a> AskWords<'a> {
+impl<'a> AskArguments<'a> {
     /// What the matches give. `clap` has refused numbers out of range and arguments that are missing.
-    pub(crate) fn of(matches: &ArgMatches<'a>) -> Option<AskWords<'a>> {
+    pub(crate) fn of(matches: &ArgMatches<'a>) -> Option<AskArguments<'a>> {
         let Some(to) = matches.get_str("to") else {
             return None;
         };
@@ -71,7 +71,7 @@ impl<'a> AskWords<'a> {
         let Some(node) = matches.get_one::<u8>("node") else {
             return None;
         };
-        Some(AskWords {
+        Some(AskArguments {
             to,
             cluster,
             members,
@@ -161,31 +161,31 @@ impl Client for HostRuntime {
 /// What the node answers to the command over a wire.
 fn asked_over<W: Wire>(
     alloc: Global,
-    words: AskWords<'_>,
+    arguments: AskArguments<'_>,
     m: &Membership,
     command: &Command,
     wire: &mut W,
 ) -> Outcome
     requires client { m.now.me ≡ CLIENT }
-    requires member { words.node < m.now.members }
-    ensures { IsAsked W.traffic wire.old wire.new m.now words.entry.node words.entry.waits command.now result }
+    requires member { arguments.node < m.now.members }
+    ensures { IsAsked W.traffic wire.old wire.new m.now arguments.entry.node arguments.entry.waits command.now result }
 {
-    match ask_once(alloc, m, words.node, command, words.waits, wire) {
-        Ok(answer) => answer_outcome(words.node, answer),
+    match ask_once(alloc, m, arguments.node, command, arguments.waits, wire) {
+        Ok(answer) => answer_outcome(arguments.node, answer),
         Err(fault) => fault_outcome(fault),
     }
 }
 
 /// Who is asked: the cluster and how many members it has, and nobody of them; none where the node is none of them.
-fn membership(words: AskWords<'_>) -> Option<Membership>
-    ensures some { IfSome result (λ m. (m.cluster ≡ words.entry.cluster) × (m.members ≡ words.entry.members) ×
+fn membership(arguments: AskArguments<'_>) -> Option<Membership>
+    ensures some { IfSome result (λ m. (m.cluster ≡ arguments.entry.cluster) × (m.members ≡ arguments.entry.members) ×
         (m.me ≡ CLIENT)) }
-    ensures none { IsSome result ↔ IsTrue (has_place words.entry.node words.entry.members) }
+    ensures none { IsSome result ↔ IsTrue (has_place arguments.entry.node arguments.entry.members) }
 {
-    if words.node >= words.members {
+    if arguments.node >= arguments.members {
         return None;
     }
-    Membership::new(words.cluster, words.members, CLIENT)
+    Membership::new(arguments.cluster, arguments.members, CLIENT)
 }
 
 /// What `ask` gives: 40 of its numbers, the faults of the action, and 82, in this order; then the answer.
@@ -193,20 +193,20 @@ pub(crate) fn ask_outcome<T: Sources, C: Client + Drop, R: Read>(
     sources: &T,
     client: C,
     alloc: Global,
-    words: AskWords<'_>,
+    arguments: AskArguments<'_>,
     matches: &ArgMatches<'_>,
     reader: &mut R,
 ) -> Outcome
-    ensures place { has_place words.entry.node words.entry.members ≡ false → result ≡ Refused 40 }
+    ensures place { has_place arguments.entry.node arguments.entry.members ≡ false → result ≡ Refused 40 }
     ensures asked { IsUnasked result ⊎ ((m : Membership) × (text : List ℕ) × (command : Command) × (w : C.Wire) ×
-        (back : C.Wire) × (m.cluster ≡ words.entry.cluster) × (m.members ≡ words.entry.members) ×
+        (back : C.Wire) × (m.cluster ≡ arguments.entry.cluster) × (m.members ≡ arguments.entry.members) ×
         IsNamed (first_value (found_of matches.now) (codes "file"))
         (IsText (T.has sources.now) (R.remaining reader.old)) text ×
         (asked (given_in (rows_of (found_of matches.now))) text ≡ Ok (Change (command_value command))) ×
-        C.reaches client words.entry.to.now w ×
-        IsAsked C.Wire.traffic w back m words.entry.node words.entry.waits command result) }
+        C.reaches client arguments.entry.to.now w ×
+        IsAsked C.Wire.traffic w back m arguments.entry.node arguments.entry.waits command result) }
 {
-    let Some(m) = membership(words) else {
+    let Some(m) = membership(arguments) else {
         return Outcome::Refused(40);
     };
     let text = match text_for(sources, alloc, matches.get_str("file"), reader) {
@@ -217,10 +217,10 @@ pub(crate) fn ask_outcome<T: Sources, C: Client + Drop, R: Read>(
         Ok(command) => command,
         Err(outcome) => return outcome,
     };
-    match client.bind(alloc, words.to) {
+    match client.bind(alloc, arguments.to) {
         Ok(wire) => {
             let mut wire = wire;
-            asked_over(alloc, words, &m, &command, &mut wire)
+            asked_over(alloc, arguments, &m, &command, &mut wire)
         }
         Err(outcome) => outcome,
     }

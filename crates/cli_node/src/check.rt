@@ -15,10 +15,10 @@ ghost use Rattle.cli_node.specs.inner.Secrets.{IsNamed};
 ghost use Rattle.cli_node.specs.inner.Stores.{IsStoreless, identity_at};
 
 use crate::database::Inspection;
-use crate::faults::{say_closed, say_figures, say_place, say_storeless, say_unknown};
+use crate::faults::{log_closed, log_metrics, log_place, log_storeless, log_unknown};
 use crate::files::NodeFiles;
 use crate::key::key_in;
-use crate::node::{NodeWords, figures_at, membership};
+use crate::node::{NodeArguments, figures_at, membership};
 use crate::outcome::Outcome;
 use crate::sealing::of_starts;
 use crate::sockets::{of_control, of_own_address};
@@ -69,7 +69,7 @@ fn checked(
 #[tactic(auto, using(crate::proofs::Stores::by_fault, crate::proofs::Stores::sound))]
 fn judged<RT: Eprint, S: Alter>(
     rt: &RT,
-    words: NodeWords<'_, '_, '_>,
+    arguments: NodeArguments<'_, '_, '_>,
     m: Membership,
     conn: &mut Connection<S>,
 ) -> Outcome
@@ -82,7 +82,7 @@ fn judged<RT: Eprint, S: Alter>(
 {
     match examine(conn, identity_of(m)) {
         Ok(()) => Outcome::Sound,
-        Err(fault) => untaken(rt, words.store, m, fault, conn),
+        Err(fault) => untaken(rt, arguments.store, m, fault, conn),
     }
 }
 
@@ -106,41 +106,41 @@ fn looked_at<RT: Files + Eprint, I: Inspection>(
     rt: &RT,
     inspection: &mut I,
     alloc: Global,
-    words: NodeWords<'_, '_, '_>,
+    arguments: NodeArguments<'_, '_, '_>,
     m: Membership,
 ) -> Outcome
     ensures store { (file new : Bool) → IsStoreless file new result }
     ensures over { I.is_over inspection.old → I.is_over inspection.new }
 {
-    let Ok(log) = format!(in alloc; "{}-wal", words.store) else {
+    let Ok(log) = format!(in alloc; "{}-wal", arguments.store) else {
         return Outcome::Memory;
     };
-    if !is_database(rt, words.store) {
-        say_closed(rt, words.store, &"it is no database");
+    if !is_database(rt, arguments.store) {
+        log_closed(rt, arguments.store, &"it isn't a database");
         return Outcome::Refused(70);
     }
     if !fs::exists(rt, log.as_str()).unwrap_or(false) {
-        let _said = eprintln!(rt;
+        let _logged = eprintln!(rt;
             "pfx: info: store {}: its write-ahead log (-wal) is missing, so its contents aren't checked",
-            Shown(words.store)
+            Shown(arguments.store)
         );
         return Outcome::Sound;
     }
-    match inspection.inspect(words.store) {
+    match inspection.inspect(arguments.store) {
         Ok(conn) => {
             let mut conn = conn;
-            let outcome = judged(rt, words, m, &mut conn);
+            let outcome = judged(rt, arguments, m, &mut conn);
             inspection.leave(conn);
             outcome
         }
         Err(Error::SqliteFailure(ErrorCode::DatabaseBusy)) => {
-            let _said = eprintln!(rt;
-                "pfx: info: store {}: a node has it open, so it isn't looked at",
-                Shown(words.store)
+            let _logged = eprintln!(rt;
+                "pfx: info: store {}: a node has it open, so it isn't checked",
+                Shown(arguments.store)
             );
             Outcome::Sound
         }
-        Err(error) => failed_outcome(rt, words.store, error),
+        Err(error) => failed_outcome(rt, arguments.store, error),
     }
 }
 
@@ -150,21 +150,21 @@ fn of_found<RT: Files + Eprint, I: Inspection>(
     rt: &RT,
     inspection: &mut I,
     alloc: Global,
-    words: NodeWords<'_, '_, '_>,
+    arguments: NodeArguments<'_, '_, '_>,
     m: Option<Membership>,
     found: Found,
 ) -> Outcome
-    ensures store { IsStoreless words.entry.is_from_file words.entry.is_new result }
+    ensures store { IsStoreless arguments.entry.is_from_file arguments.entry.is_new result }
     ensures over { I.is_over inspection.old → I.is_over inspection.new }
 {
-    match opening_of(words.is_from_file, words.is_new, found) {
+    match opening_of(arguments.is_from_file, arguments.is_new, found) {
         Opening::Makes => Outcome::Sound,
         Opening::Opens => match m {
-            Some(m) => looked_at(rt, inspection, alloc, words, m),
+            Some(m) => looked_at(rt, inspection, alloc, arguments, m),
             None => Outcome::Sound,
         },
         Opening::Refuses(code) => {
-            say_storeless(rt, words.store, code);
+            log_storeless(rt, arguments.store, code);
             Outcome::Refused(code)
         }
     }
@@ -176,15 +176,15 @@ fn of_store<RT: Files + Eprint, I: Inspection>(
     rt: &RT,
     inspection: &mut I,
     alloc: Global,
-    words: NodeWords<'_, '_, '_>,
+    arguments: NodeArguments<'_, '_, '_>,
     m: Option<Membership>,
     found: Option<Found>,
 ) -> Outcome
-    ensures store { IsStoreless words.entry.is_from_file words.entry.is_new result }
+    ensures store { IsStoreless arguments.entry.is_from_file arguments.entry.is_new result }
     ensures over { I.is_over inspection.old → I.is_over inspection.new }
 {
     match found {
-        Some(found) => of_found(rt, inspection, alloc, words, m, found),
+        Some(found) => of_found(rt, inspection, alloc, arguments, m, found),
         None => Outcome::Memory,
     }
 }
@@ -194,7 +194,7 @@ fn of_store<RT: Files + Eprint, I: Inspection>(
 fn starts_of(
     rt: &HostRuntime,
     alloc: Global,
-    words: NodeWords<'_, '_, '_>,
+    arguments: NodeArguments<'_, '_, '_>,
     m: Option<Membership>,
     found: Option<Found>,
 ) -> Outcome
@@ -203,21 +203,25 @@ fn starts_of(
     match found {
         Some(found) => {
             let is_absent = matches!(found, Found::Nothing | Found::Empty);
-            of_starts(rt, alloc, words, m, is_absent)
+            of_starts(rt, alloc, arguments, m, is_absent)
         }
         None => Outcome::Memory,
     }
 }
 
 /// What is refused of the numbers that the arguments name.
-fn of_place(rt: &HostRuntime, words: NodeWords<'_, '_, '_>, m: Option<Membership>) -> Outcome
+fn of_place(
+    rt: &HostRuntime,
+    arguments: NodeArguments<'_, '_, '_>,
+    m: Option<Membership>,
+) -> Outcome
     ensures none { m ≡ None → result ≡ Refused 40 }
     ensures some { (result ≡ Sound) ⊎ (result ≡ Refused 40) }
 {
     match m {
         Some(_) => Outcome::Sound,
         None => {
-            say_place(rt, words);
+            log_place(rt, arguments);
             Outcome::Refused(40)
         }
     }
@@ -228,34 +232,34 @@ fn of_key<F: NodeFiles>(
     rt: &HostRuntime,
     files: &F,
     alloc: Global,
-    words: NodeWords<'_, '_, '_>,
+    arguments: NodeArguments<'_, '_, '_>,
     path: Option<&str>,
 ) -> Outcome
     ensures why { (result ≡ Sound) ⊎ ((result ≡ Memory) ⊎ (result ≡ Refused 83)) }
     ensures sound { result ≡ Sound → (key : Option (List ℕ)) × IsNamed
-        (F.makes files.now words.entry.cluster (map (λ t. t.now) words.entry.members.now))
+        (F.makes files.now arguments.entry.cluster (map (λ t. t.now) arguments.entry.members.now))
         (option_map (λ t. t.now) path.entry) key }
 {
     let Some(path) = path else {
         return Outcome::Sound;
     };
-    match key_in(rt, files, alloc, words, path) {
+    match key_in(rt, files, alloc, arguments, path) {
         Ok(_key) => Outcome::Sound,
         Err(outcome) => outcome,
     }
 }
 
 /// What is refused of the addresses that the arguments name.
-fn of_addresses(rt: &HostRuntime, words: NodeWords<'_, '_, '_>) -> Outcome
+fn of_addresses(rt: &HostRuntime, arguments: NodeArguments<'_, '_, '_>) -> Outcome
     ensures { (result ≡ Sound) ⊎ (result ≡ Refused 82) }
 {
-    if !say_unknown(rt, words) {
+    if !log_unknown(rt, arguments) {
         return Outcome::Refused(82);
     }
-    match figures_at(words) {
-        Ok(_) => of_own_address(rt, words),
+    match figures_at(arguments) {
+        Ok(_) => of_own_address(rt, arguments),
         Err(outcome) => {
-            say_figures(rt, words.metrics.unwrap_or(""));
+            log_metrics(rt, arguments.metrics.unwrap_or(""));
             outcome
         }
     }
@@ -269,27 +273,27 @@ pub(crate) fn check_outcome<F: NodeFiles, I: Inspection>(
     files: &F,
     inspection: &mut I,
     alloc: Global,
-    words: NodeWords<'_, '_, '_>,
+    arguments: NodeArguments<'_, '_, '_>,
 ) -> Outcome
-    ensures place { has_place words.entry.me (length words.entry.members.now) ≡ false → result ≡ Refused 40 }
-    ensures store { IsStoreless words.entry.is_from_file words.entry.is_new result }
+    ensures place { has_place arguments.entry.me (length arguments.entry.members.now) ≡ false → result ≡ Refused 40 }
+    ensures store { IsStoreless arguments.entry.is_from_file arguments.entry.is_new result }
     ensures key { result ≡ Sound → (key : Option (List ℕ)) × IsNamed
-        (F.makes files.now words.entry.cluster (map (λ t. t.now) words.entry.members.now))
-        (option_map (λ t. t.now) words.entry.key) key }
+        (F.makes files.now arguments.entry.cluster (map (λ t. t.now) arguments.entry.members.now))
+        (option_map (λ t. t.now) arguments.entry.key) key }
     ensures other { result ≡ Sound → (key : Option (List ℕ)) × IsNamed
-        (F.makes files.now words.entry.cluster (map (λ t. t.now) words.entry.members.now))
-        (option_map (λ t. t.now) words.entry.other_key) key }
+        (F.makes files.now arguments.entry.cluster (map (λ t. t.now) arguments.entry.members.now))
+        (option_map (λ t. t.now) arguments.entry.other_key) key }
     ensures over { I.is_over inspection.old → I.is_over inspection.new }
 {
-    let m = membership(words);
-    let place = of_place(rt, words, m);
-    let key = of_key(rt, files, alloc, words, words.key);
-    let other = of_key(rt, files, alloc, words, words.other_key);
-    let found = found_at(rt, alloc, words.store).ok();
-    let store = of_store(rt, inspection, alloc, words, m, found);
-    let starts = starts_of(rt, alloc, words, m, found);
-    let addresses = of_addresses(rt, words);
-    let control = of_control(rt, alloc, words);
+    let m = membership(arguments);
+    let place = of_place(rt, arguments, m);
+    let key = of_key(rt, files, alloc, arguments, arguments.key);
+    let other = of_key(rt, files, alloc, arguments, arguments.other_key);
+    let found = found_at(rt, alloc, arguments.store).ok();
+    let store = of_store(rt, inspection, alloc, arguments, m, found);
+    let starts = starts_of(rt, alloc, arguments, m, found);
+    let addresses = of_addresses(rt, arguments);
+    let control = of_control(rt, alloc, arguments);
     checked(
         place,
         first_of(key, other),

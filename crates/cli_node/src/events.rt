@@ -1,50 +1,50 @@
 //! What a node logs on standard error of how it begins and ends.
 
-use crate::faults::say_why;
-use crate::node::NodeWords;
+use crate::faults::log_why;
+use crate::node::NodeArguments;
 use crate::outcome::Outcome;
 use cli_io::Shown;
 use std::alloc::Global;
 
 /// Says that a node begins, and with what.
-pub(crate) fn say_start(rt: &HostRuntime, words: NodeWords<'_, '_, '_>) {
-    if words.is_quiet {
+pub(crate) fn log_start(rt: &HostRuntime, arguments: NodeArguments<'_, '_, '_>) {
+    if arguments.is_quiet {
         return;
     }
-    let _said = eprintln!(rt;
-        "pfx: info: node {} of {}, cluster {}, begins on {}",
-        words.me,
-        words.members.len(),
-        words.cluster,
-        Shown(words.store)
+    let _logged = eprintln!(rt;
+        "pfx: info: node {} of {}, cluster {}, starts on {}",
+        arguments.me,
+        arguments.members.len(),
+        arguments.cluster,
+        Shown(arguments.store)
     );
 }
 
-/// Says what a node ends with: an error of a refusal, else how far it came.
-pub(crate) fn say_end(
+/// Logs how a node ends: a refusal as an error, else how far it came.
+pub(crate) fn log_end(
     rt: &HostRuntime,
     alloc: Global,
-    words: NodeWords<'_, '_, '_>,
+    arguments: NodeArguments<'_, '_, '_>,
     outcome: Outcome,
 ) {
     match outcome {
         Outcome::Refused(code) => {
-            say_why(rt, alloc, words, code);
-            let _said = eprintln!(rt;
+            log_why(rt, alloc, arguments, code);
+            let _logged = eprintln!(rt;
                 "pfx: error: node {} ends, refused {code} (pfx explain {code})",
-                words.me
+                arguments.me
             );
         }
         Outcome::Front { front, applied } | Outcome::Stopped { front, applied } => {
-            if !words.is_quiet {
-                let _said = eprintln!(rt;
+            if !arguments.is_quiet {
+                let _logged = eprintln!(rt;
                     "pfx: info: node {} ends with {front} learned and {applied} applied",
-                    words.me
+                    arguments.me
                 );
             }
         }
         Outcome::Memory => {
-            let _said = eprintln!(rt; "pfx: error: node {} ends, out of memory", words.me);
+            let _logged = eprintln!(rt; "pfx: error: node {} ends, out of memory", arguments.me);
         }
         _ => {}
     }

@@ -7,7 +7,7 @@ ghost use Rattle.sqlite.specs.State.{HasCleanDisk};
 ghost use Rattle.px_store.specs.Adopting.{LeavesOld};
 ghost use Rattle.px_store.specs.Tables.{no_schema};
 
-use crate::node::NodeWords;
+use crate::node::NodeArguments;
 use crate::sockets::try_control;
 use cli_files::RaiseFault;
 use cli_io::{Shown, make_private, open_regular};
@@ -29,34 +29,34 @@ pub(crate) fn why_closed<F: Files>(files: &F, path: &str) -> io::Result<()> {
     Ok(())
 }
 
-/// Says why a store isn't opened: what the system reports of its file, else what the database reports.
-pub(crate) fn say_closed<RT: Files + Eprint, E: Display>(rt: &RT, path: &str, why: &E) {
+/// Logs why a store isn't opened: what the system reports of its file, else what the database reports.
+pub(crate) fn log_closed<RT: Files + Eprint, E: Display>(rt: &RT, path: &str, why: &E) {
     let path = Shown(path);
     match why_closed(rt, path.0) {
         Ok(()) => {
-            let _said = eprintln!(rt; "pfx: error: store {path}: {why}");
+            let _logged = eprintln!(rt; "pfx: error: store {path}: {why}");
         }
         Err(error) => {
-            let _said = eprintln!(rt; "pfx: error: store {path}: {error}");
+            let _logged = eprintln!(rt; "pfx: error: store {path}: {error}");
         }
     }
 }
 
-/// Says of a store why nothing is opened or made.
-pub(crate) fn say_storeless<RT: Files + Eprint>(rt: &RT, path: &str, code: u8) {
+/// Logs why a store is neither opened nor created.
+pub(crate) fn log_storeless<RT: Files + Eprint>(rt: &RT, path: &str, code: u8) {
     let path = Shown(path);
     match code {
         93 => {
-            let _said = eprintln!(rt;
-                "pfx: error: store {path} isn't there: --new makes one, for a node that never ran; else it is lost"
+            let _logged = eprintln!(rt;
+                "pfx: error: store {path} is missing: --new creates one, for a node that never ran; else it is lost"
             );
         }
         94 => {
-            let _said = eprintln!(rt;
-                "pfx: error: store {path} is there: a node is started on it without --new"
+            let _logged = eprintln!(rt;
+                "pfx: error: store {path} exists: a node is started on it without --new"
             );
         }
-        _ => say_closed(rt, path.0, &"it isn't a regular file"),
+        _ => log_closed(rt, path.0, &"it isn't a regular file"),
     }
 }
 
@@ -68,8 +68,8 @@ fn is_bare<S: Alter>(conn: &Connection<S>) -> bool
     schema.tables.is_empty() && schema.indexes.is_empty() && schema.views.is_empty()
 }
 
-/// Says why a store isn't taken.
-pub(crate) fn say_judged<RT: Eprint, S: Alter>(
+/// Logs why a store is refused.
+pub(crate) fn log_judged<RT: Eprint, S: Alter>(
     rt: &RT,
     path: &str,
     m: Membership,
@@ -83,7 +83,7 @@ pub(crate) fn say_judged<RT: Eprint, S: Alter>(
     let path = Shown(path);
     if fault == AdoptFault::WrongNode {
         if let Ok(owner) = owner_in(conn) {
-            let _said = eprintln!(rt;
+            let _logged = eprintln!(rt;
                 "pfx: error: store {path} is of node {} of {}, cluster {}; this is node {} of {}, cluster {}",
                 owner.node,
                 owner.members,
@@ -96,33 +96,33 @@ pub(crate) fn say_judged<RT: Eprint, S: Alter>(
         }
     }
     if fault == AdoptFault::StoreVersion && is_bare(conn) {
-        let _said = eprintln!(rt;
+        let _logged = eprintln!(rt;
             "pfx: error: store {path} has no tables: its record is lost; if a kill ended the first start before they \
              were made, and the node never ran, remove it"
         );
         return;
     }
-    let _said = eprintln!(rt; "pfx: error: store {path}: {fault}");
+    let _logged = eprintln!(rt; "pfx: error: store {path}: {fault}");
 }
 
-/// Says which number is none of a member's.
-pub(crate) fn say_place(rt: &HostRuntime, words: NodeWords<'_, '_, '_>) {
-    let _said = eprintln!(rt;
-        "pfx: error: node {} of {} members: there are 1 to 15, and they count from 0",
-        words.me,
-        words.members.len()
+/// Logs which number isn't a member's.
+pub(crate) fn log_place(rt: &HostRuntime, arguments: NodeArguments<'_, '_, '_>) {
+    let _logged = eprintln!(rt;
+        "pfx: error: node {} of {} members: a cluster has 1 to 15, numbered from 0",
+        arguments.me,
+        arguments.members.len()
     );
 }
 
 /// Says of the members' addresses which the system doesn't know, and which have no port. Whether none is such.
-pub(crate) fn say_unknown(rt: &HostRuntime, words: NodeWords<'_, '_, '_>) -> bool {
+pub(crate) fn log_unknown(rt: &HostRuntime, arguments: NodeArguments<'_, '_, '_>) -> bool {
     let mut are_known = true;
-    for member in words.members {
+    for member in arguments.members {
         match (*member).to_socket_addrs(rt) {
             Ok(mut found) => {
                 if !found.any(|address| address.port() != 0) {
                     are_known = false;
-                    let _said = eprintln!(rt;
+                    let _logged = eprintln!(rt;
                         "pfx: error: address {}: it has no port",
                         Shown(*member)
                     );
@@ -130,56 +130,58 @@ pub(crate) fn say_unknown(rt: &HostRuntime, words: NodeWords<'_, '_, '_>) -> boo
             }
             Err(error) => {
                 are_known = false;
-                let _said = eprintln!(rt; "pfx: error: address {}: {error}", Shown(*member));
+                let _logged = eprintln!(rt; "pfx: error: address {}: {error}", Shown(*member));
             }
         }
     }
     are_known
 }
 
-/// Says why a port of figures isn't had.
-pub(crate) fn say_figures(rt: &HostRuntime, figures: &str) {
+/// Logs why the port of metrics can't be opened.
+pub(crate) fn log_metrics(rt: &HostRuntime, figures: &str) {
     match TcpListener::bind(rt, figures) {
         Ok(_bound) => {
-            let _said = eprintln!(rt;
-                "pfx: error: figures {}: no port of this machine alone",
+            let _logged = eprintln!(rt;
+                "pfx: error: metrics {}: not a loopback address with a port",
                 Shown(figures)
             );
         }
         Err(error) => {
-            let _said = eprintln!(rt; "pfx: error: figures {}: {error}", Shown(figures));
+            let _logged = eprintln!(rt; "pfx: error: metrics {}: {error}", Shown(figures));
         }
     }
 }
 
-/// Says why there is no socket: of the members', or, where these can be had, of figures.
-fn say_unbound(rt: &HostRuntime, words: NodeWords<'_, '_, '_>) {
-    let Some(own) = words.members.get(usize::from(words.me)) else {
+/// Logs why there is no socket: of the members, or, if theirs can be opened, of metrics.
+fn log_unbound(rt: &HostRuntime, arguments: NodeArguments<'_, '_, '_>) {
+    let Some(own) = arguments.members.get(usize::from(arguments.me)) else {
         return;
     };
     if let Err(error) = UdpSocket::bind(rt, *own) {
-        let _said = eprintln!(rt; "pfx: error: address {}: {error}", Shown(*own));
+        let _logged = eprintln!(rt; "pfx: error: address {}: {error}", Shown(*own));
         return;
     }
-    match words.metrics {
-        Some(figures) => say_figures(rt, figures),
+    match arguments.metrics {
+        Some(figures) => log_metrics(rt, figures),
         None => {
-            let _said = eprintln!(rt;
-                "pfx: error: of the addresses one has no port, or is of another family than the first"
+            let _logged = eprintln!(rt;
+                "pfx: error: an address has no port, or is of another family than the first"
             );
         }
     }
 }
 
-/// Says why no control socket is made at a path.
-pub(crate) fn say_uncontrolled(rt: &HostRuntime, alloc: Global, path: &str) {
+/// Logs why no control socket is created at a path.
+pub(crate) fn log_uncontrolled(rt: &HostRuntime, alloc: Global, path: &str) {
     let shown = Shown(path);
     match try_control(rt, alloc, path) {
         Ok(()) => {
-            let _said = eprintln!(rt; "pfx: error: control socket {shown}: the system refused it");
+            let _logged = eprintln!(rt;
+                "pfx: error: control socket {shown}: the system refused it"
+            );
         }
         Err(error) => {
-            let _said = eprintln!(rt; "pfx: error: control socket {shown}: {error}");
+            let _logged = eprintln!(rt; "pfx: error: control socket {shown}: {error}");
         }
     }
 }
@@ -201,31 +203,40 @@ fn why_unusable(rt: &HostRuntime, alloc: Global, path: &str, fault: RaiseFault) 
     }
 }
 
-/// Says why a file of starts can't be used.
-pub(crate) fn say_unusable(rt: &HostRuntime, alloc: Global, path: &str, fault: RaiseFault) {
+/// Logs why a file of starts can't be used.
+pub(crate) fn log_unusable(rt: &HostRuntime, alloc: Global, path: &str, fault: RaiseFault) {
     let shown = Shown(path);
     match why_unusable(rt, alloc, path, fault) {
         Ok(()) => {
-            let _said = eprintln!(rt; "pfx: error: starts {shown}: {fault}");
+            let _logged = eprintln!(rt; "pfx: error: starts {shown}: {fault}");
         }
         Err(error) => {
-            let _said = eprintln!(rt; "pfx: error: starts {shown}: {fault}: {error}");
+            let _logged = eprintln!(rt; "pfx: error: starts {shown}: {fault}: {error}");
         }
     }
 }
 
 /// Says of a refusal that ends a run which file or address it is of.
-pub(crate) fn say_why(rt: &HostRuntime, alloc: Global, words: NodeWords<'_, '_, '_>, code: u8) {
+pub(crate) fn log_why(
+    rt: &HostRuntime,
+    alloc: Global,
+    arguments: NodeArguments<'_, '_, '_>,
+    code: u8,
+) {
     match code {
-        70 => say_closed(rt, words.store, &"a change couldn't be written, or read"),
+        70 => log_closed(
+            rt,
+            arguments.store,
+            &"a change couldn't be written, or read",
+        ),
         72 => {
-            let _said = eprintln!(rt; "pfx: error: store {}: a bad row", Shown(words.store));
+            let _logged = eprintln!(rt; "pfx: error: store {}: a bad row", Shown(arguments.store));
         }
-        82 => if say_unknown(rt, words) {
-            say_unbound(rt, words);
+        82 => if log_unknown(rt, arguments) {
+            log_unbound(rt, arguments);
         },
-        84 => if let Some(control) = words.control {
-            say_uncontrolled(rt, alloc, control);
+        84 => if let Some(control) = arguments.control {
+            log_uncontrolled(rt, alloc, control);
         },
         _ => {}
     }

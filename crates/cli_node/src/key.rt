@@ -10,7 +10,7 @@ ghost use Rattle.cli_node.specs.inner.Places.{is_loopback, is_loopback_ip};
 ghost use Rattle.cli_node.specs.inner.Secrets.{IsNamed, AreNamed};
 
 use crate::files::NodeFiles;
-use crate::node::NodeWords;
+use crate::node::NodeArguments;
 use crate::outcome::Outcome;
 use crate::store::FILE_IS_THERE;
 use cli_files::{KeyFault, RandomBytes, key_text, new_key};
@@ -40,10 +40,10 @@ fn key_refused(rt: &HostRuntime, path: &str, fault: KeyFault) -> Outcome
     }
     match open_regular(rt, path) {
         Ok(_opened) => {
-            let _said = eprintln!(rt; "pfx: error: key {}: {fault}", Shown(path));
+            let _logged = eprintln!(rt; "pfx: error: key {}: {fault}", Shown(path));
         }
         Err(error) => {
-            let _said = eprintln!(rt; "pfx: error: key {}: {error}", Shown(path));
+            let _logged = eprintln!(rt; "pfx: error: key {}: {error}", Shown(path));
         }
     }
     Outcome::Refused(BAD_KEY)
@@ -69,14 +69,14 @@ pub(crate) fn key_in<F: NodeFiles>(
     rt: &HostRuntime,
     files: &F,
     alloc: Global,
-    words: NodeWords<'_, '_, '_>,
+    arguments: NodeArguments<'_, '_, '_>,
     path: &str,
 ) -> Result<[u8; 32], Outcome>
     ensures refused { OnErr result ((result ≡ Err Memory) ⊎ (result ≡ Err (Refused 83))) }
-    ensures made { IfOk result (F.makes files.now words.entry.cluster (map (λ t. t.now) words.entry.members.now)
+    ensures made { IfOk result (F.makes files.now arguments.entry.cluster (map (λ t. t.now) arguments.entry.members.now)
         path.now) }
 {
-    let read = files.cluster_key(alloc, path, words.cluster, words.members);
+    let read = files.cluster_key(alloc, path, arguments.cluster, arguments.members);
     key_of(rt, path, read)
 }
 
@@ -85,19 +85,19 @@ fn keys_with<F: NodeFiles>(
     rt: &HostRuntime,
     files: &F,
     alloc: Global,
-    words: NodeWords<'_, '_, '_>,
+    arguments: NodeArguments<'_, '_, '_>,
     key: [u8; 32],
 ) -> Result<Keys, Outcome>
     ensures refused { OnErr result ((result ≡ Err Memory) ⊎ (result ≡ Err (Refused 83))) }
     ensures key { IfOk result (λ k. k.key ≡ key) }
     ensures other { IfOk result (λ k. IsNamed
-        (F.makes files.now words.entry.cluster (map (λ t. t.now) words.entry.members.now))
-        (option_map (λ t. t.now) words.entry.other_key) k.other) }
+        (F.makes files.now arguments.entry.cluster (map (λ t. t.now) arguments.entry.members.now))
+        (option_map (λ t. t.now) arguments.entry.other_key) k.other) }
 {
-    let Some(path) = words.other_key else {
+    let Some(path) = arguments.other_key else {
         return Ok(Keys { key, other: None });
     };
-    match key_in(rt, files, alloc, words, path) {
+    match key_in(rt, files, alloc, arguments, path) {
         Ok(other) => Ok(Keys {
             key,
             other: Some(other),
@@ -112,22 +112,22 @@ pub(crate) fn keys_for<F: NodeFiles>(
     rt: &HostRuntime,
     files: &F,
     alloc: Global,
-    words: NodeWords<'_, '_, '_>,
+    arguments: NodeArguments<'_, '_, '_>,
 ) -> Result<Option<Keys>, Outcome>
     ensures refused { OnErr result ((result ≡ Err Memory) ⊎ (result ≡ Err (Refused 83))) }
-    ensures keyed { IfOk result (λ ks. is_some ks ≡ is_some words.entry.key) }
+    ensures keyed { IfOk result (λ ks. is_some ks ≡ is_some arguments.entry.key) }
     ensures named { IfOk result (AreNamed
-        (F.makes files.now words.entry.cluster (map (λ t. t.now) words.entry.members.now))
-        (option_map (λ t. t.now) words.entry.key) (option_map (λ t. t.now) words.entry.other_key)) }
+        (F.makes files.now arguments.entry.cluster (map (λ t. t.now) arguments.entry.members.now))
+        (option_map (λ t. t.now) arguments.entry.key) (option_map (λ t. t.now) arguments.entry.other_key)) }
 {
-    let Some(path) = words.key else {
+    let Some(path) = arguments.key else {
         return Ok(None);
     };
-    let key = match key_in(rt, files, alloc, words, path) {
+    let key = match key_in(rt, files, alloc, arguments, path) {
         Ok(key) => key,
         Err(outcome) => return Err(outcome),
     };
-    match keys_with(rt, files, alloc, words, key) {
+    match keys_with(rt, files, alloc, arguments, key) {
         Ok(keys) => Ok(Some(keys)),
         Err(outcome) => Err(outcome),
     }
@@ -153,15 +153,15 @@ fn is_loopback(text: &str) -> bool
     }
 }
 
-/// Says on standard error that the datagrams of a node carry no tag, where others than this machine may send it some.
-pub(crate) fn warn_unsealed(rt: &HostRuntime, words: NodeWords<'_, '_, '_>) {
-    let Some(own) = words.members.get(usize::from(words.me)) else {
+/// Logs on standard error that the datagrams of a node carry no tag, where others than this machine may send it some.
+pub(crate) fn warn_unsealed(rt: &HostRuntime, arguments: NodeArguments<'_, '_, '_>) {
+    let Some(own) = arguments.members.get(usize::from(arguments.me)) else {
         return;
     };
-    if words.key.is_some() || words.is_unsealed || is_loopback(own) {
+    if arguments.key.is_some() || arguments.is_unsealed || is_loopback(own) {
         return;
     }
-    let _said = eprintln!(rt;
+    let _logged = eprintln!(rt;
         "pfx: warning: no key: whoever can send datagrams to {} can change what this cluster learns (unless \
          --unsealed)",
         Shown(*own)
@@ -191,7 +191,7 @@ fn kept<RT: Files + Eprint>(rt: &RT, alloc: Global, path: &str, key: &[u8; 32]) 
     match write_key(rt, path, text.as_str()) {
         Ok(()) => Outcome::Made,
         Err(error) => {
-            let _said = eprintln!(rt; "pfx: error: key {}: {error}", Shown(path));
+            let _logged = eprintln!(rt; "pfx: error: key {}: {error}", Shown(path));
             if error.kind() == ErrorKind::AlreadyExists {
                 Outcome::Refused(FILE_IS_THERE)
             } else {

@@ -4,7 +4,7 @@
 //!
 //! - [`run_net`]: the subcommands, over any reader and writer.
 //!
-//! Within: `words` has the arguments as `clap` reads them, `settings` those of a node's file, `node`, `ask` and `key`
+//! Within: `options` has the arguments as `clap` reads them, `settings` those of a node's file, `node`, `ask` and `key`
 //! what each gives, and `check` what `node` with `--check`; `store` opens or makes a node's store, and `database` the
 //! database in it; `sockets` tries a node's sockets; `outcome` has what is written, `events` and `faults` what a node
 //! says.
@@ -35,7 +35,7 @@
 //! - **`--other-key` alone is refused**: in the first step of a change the other key is the new one, in the second the
 //!   old one.
 //! - **No node hears both formats of datagrams**: whichever format has a majority goes on without it, so it would save
-//!   one restart's time once in a cluster's life, for a second wire of which no law speaks.
+//!   one restart's time once in the cluster's existence, for a second wire of which no law speaks.
 #![tactic(auto)]
 
 mod ask;
@@ -46,13 +46,13 @@ mod faults;
 mod files;
 mod key;
 mod node;
+mod options;
 mod outcome;
 mod running;
 mod sealing;
 mod settings;
 mod sockets;
 mod store;
-mod words;
 
 pub use cli_io::Status;
 pub use running::run_net;

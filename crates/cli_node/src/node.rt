@@ -9,7 +9,7 @@ ghost use Rattle.px_store.specs.Formats.{record_at};
 ghost use Rattle.px_store.specs.View.{connection_of, IsOpened};
 ghost use Rattle.toml.specs.Data.{as_str, get_member};
 ghost use Rattle.px_transport.specs.Wiring.{inner_of, keys_of, sealer_of};
-ghost use Rattle.node_loop.specs.Lives.{OnFront};
+ghost use Rattle.node_loop.specs.Runs.{OnFront};
 ghost use Rattle.node_loop.specs.Timing.{MakesTurns};
 ghost use Rattle.node_udp.specs.Addresses.{AreFound, shown_address};
 ghost use Rattle.node_udp.specs.Members.{hears_of, me_of, peers_of};
@@ -23,15 +23,15 @@ ghost use Rattle.cli_node.specs.inner.Running.{hears_asks, keys_with, sealer_wit
 ghost use Rattle.cli_node.specs.inner.Outcomes.{ComesTo, ComesOpen, ComesOpenOr, IsWireless};
 ghost use Rattle.cli_node.specs.inner.Given.{AreFigures, AreTurns, IsFlag, IsFlagIn, IsNumberIn, IsPlaced};
 ghost use Rattle.cli_node.specs.inner.Secrets.{AreNamed};
-ghost use Rattle.cli_node.specs.inner.Settled.{AreWords, is_whole};
+ghost use Rattle.cli_node.specs.inner.Settled.{AreArguments, is_whole};
 ghost use Rattle.cli_node.specs.inner.Stores.{HasNone, IsFoundAt, IsKept, IsNone, IsStoreless, is_made};
 ghost use Rattle.cli_node.specs.declared.store.Found.{Found};
 ghost use Rattle.cli_node.specs.declared.store.TheConstants.{NO_STORE};
 ghost use Rattle.cli_node.specs.inner.Places.{is_count, has_place, turns_or_all, chosen};
 
 use crate::database::Databases;
-use crate::events::{say_end, say_start};
-use crate::faults::say_place;
+use crate::events::{log_end, log_start};
+use crate::faults::log_place;
 use crate::files::NodeFiles;
 use crate::key::{Keys, keys_for, warn_unsealed};
 use crate::outcome::{Outcome, ended_outcome, ending_of};
@@ -56,7 +56,7 @@ const WAIT_MS: u32 = 100;
 
 /// What the arguments of `node` say.
 #[derive(Clone, Copy)]
-pub(crate) struct NodeWords<'m, 'w, 'a> {
+pub(crate) struct NodeArguments<'m, 'w, 'a> {
     /// This node's number.
     pub(crate) me: u8,
     pub(crate) cluster: u32,
@@ -151,15 +151,15 @@ fn is_set(matches: &ArgMatches<'_>, file: &NodeFile, name: &str) -> bool
     is_given(matches, name) || file.flag(name)
 }
 
-impl<'m, 'w, 'a> NodeWords<'m, 'w, 'a> {
+impl<'m, 'w, 'a> NodeArguments<'m, 'w, 'a> {
     /// What the matches and a file of settings give, with these members; none where one of them is missing.
     /// `clap` has refused numbers out of range.
     pub(crate) fn of<'g: 'a>(
         matches: &ArgMatches<'g>,
         file: &'a NodeFile,
         members: &'m [&'w str],
-    ) -> Option<NodeWords<'m, 'w, 'a>>
-        ensures { IfSome result (AreWords matches.now file.now (map (λ t. t.now) members.now)) }
+    ) -> Option<NodeArguments<'m, 'w, 'a>>
+        ensures { IfSome result (AreArguments matches.now file.now (map (λ t. t.now) members.now)) }
     {
         let Some(me) = number_in(matches, file, "me") else {
             return None;
@@ -173,7 +173,7 @@ impl<'m, 'w, 'a> NodeWords<'m, 'w, 'a> {
         let Some(store) = text_or(matches.get_str("store"), file, "store") else {
             return None;
         };
-        Some(NodeWords {
+        Some(NodeArguments {
             me,
             cluster,
             store,
@@ -221,38 +221,38 @@ fn count(members: &[&str]) -> Option<u8>
 }
 
 /// The cluster, how many members it has, and which one this is; none where the number is none of theirs.
-pub(crate) fn membership(words: NodeWords<'_, '_, '_>) -> Option<Membership>
-    ensures some { IfSome result (λ m. (m.cluster ≡ words.entry.cluster) × (m.me ≡ words.entry.me) ×
-        (m.members ≡ length words.entry.members.now)) }
+pub(crate) fn membership(arguments: NodeArguments<'_, '_, '_>) -> Option<Membership>
+    ensures some { IfSome result (λ m. (m.cluster ≡ arguments.entry.cluster) × (m.me ≡ arguments.entry.me) ×
+        (m.members ≡ length arguments.entry.members.now)) }
     ensures here { IfSome result (λ m. m.me < m.members) }
     ensures none { IsSome result ↔
-        IsTrue (has_place words.entry.me (length words.entry.members.now)) }
+        IsTrue (has_place arguments.entry.me (length arguments.entry.members.now)) }
 {
-    let Some(members) = count(words.members) else {
+    let Some(members) = count(arguments.members) else {
         return None;
     };
-    if words.me >= members {
+    if arguments.me >= members {
         return None;
     }
-    Membership::new(words.cluster, members, words.me)
+    Membership::new(arguments.cluster, members, arguments.me)
 }
 
 /// The member's wire. Where asks aren't heard, none comes from elsewhere than a member's address.
 pub(crate) fn bind(
     rt: &HostRuntime,
     alloc: Global,
-    words: NodeWords<'_, '_, '_>,
+    arguments: NodeArguments<'_, '_, '_>,
 ) -> Result<UdpWire<UdpSocket, HostRuntime>, Outcome>
     ensures refused { OnErr result ((result ≡ Err Memory) ⊎ (result ≡ Err (Refused 82))) }
     ensures new { IfOk result (λ w. ⟦<UdpWire<UdpSocket, HostRuntime> as Wire>⟧.traffic w []) }
-    ensures me { IfOk result (λ w. me_of w ≡ words.entry.me) }
-    ensures peers { IfOk result (λ w. AreFound (map (λ t. t.now) words.entry.members.now) (peers_of w)) }
-    ensures hears { IfOk result (λ w. hears_of w ≡ hears_asks words.entry.key words.entry.control) }
+    ensures me { IfOk result (λ w. me_of w ≡ arguments.entry.me) }
+    ensures peers { IfOk result (λ w. AreFound (map (λ t. t.now) arguments.entry.members.now) (peers_of w)) }
+    ensures hears { IfOk result (λ w. hears_of w ≡ hears_asks arguments.entry.key arguments.entry.control) }
 {
-    match UdpWire::bind(rt, alloc, words.members, words.me, WAIT_MS) {
+    match UdpWire::bind(rt, alloc, arguments.members, arguments.me, WAIT_MS) {
         Ok(wire) => {
             let mut wire = wire;
-            if !words.hears_asks() {
+            if !arguments.hears_asks() {
                 wire.hear_members();
             }
             Ok(wire)
@@ -314,7 +314,7 @@ fn open_alone<R: Records>(
 fn run_at<R: Records, T: Timer>(
     rt: &HostRuntime,
     alloc: Global,
-    words: NodeWords<'_, '_, '_>,
+    arguments: NodeArguments<'_, '_, '_>,
     m: Membership,
     records: R,
     wire: Result<UdpWire<UdpSocket, HostRuntime>, Outcome>,
@@ -323,31 +323,31 @@ fn run_at<R: Records, T: Timer>(
     place: Option<ControlPlace<'_>>,
 ) -> (Outcome, R)
     requires placed { IsPlaced (λ p. p.path.now) (λ p. p.figures) (λ p. p.members.now)
-        (option_map (λ t. t.now) words.control) (AreFigures (option_map (λ t. t.now) words.metrics))
+        (option_map (λ t. t.now) arguments.control) (AreFigures (option_map (λ t. t.now) arguments.metrics))
         (λ text. IfOk wire (λ w. text ≡ spaced (map shown_address (peers_of w)))) place }
     requires members { R.members records ≡ m.members }
     requires here { m.me < m.members }
-    requires is { m.me ≡ words.me }
+    requires is { m.me ≡ arguments.me }
     requires failed { R.failed records ≡ 0 }
     requires refused { OnErr wire ((wire ≡ Err Memory) ⊎ (wire ≡ Err (Refused 82))) }
-    requires peers { IfOk wire (λ w. AreFound (map (λ t. t.now) words.members.now) (peers_of w)) }
-    requires own { IfOk wire (λ w. me_of w ≡ words.me) }
+    requires peers { IfOk wire (λ w. AreFound (map (λ t. t.now) arguments.members.now) (peers_of w)) }
+    requires own { IfOk wire (λ w. me_of w ≡ arguments.me) }
     requires new { IfOk wire (λ w. ⟦<UdpWire<UdpSocket, HostRuntime> as Wire>⟧.traffic w []) }
     ensures hosted { ComesOpen R.Records m records result.0 result.1 }
     ensures turns { place.entry ≡ None → ComesTo R.Records m records result.0 result.1 }
     ensures ran { IsAlone R.Records m records result.0 result.1 ⊎
-        RunsHere R.Records m sealing (hears_asks words.entry.key words.entry.control)
-        (map (λ t. t.now) words.entry.members.now) records result.0 result.1 (λ how.
-        OnFront how (MakesTurns words.entry.turns (T.timer_events timer.old) (T.timer_events timer.new))) }
+        RunsHere R.Records m sealing (hears_asks arguments.entry.key arguments.entry.control)
+        (map (λ t. t.now) arguments.entry.members.now) records result.0 result.1 (λ how.
+        OnFront how (MakesTurns arguments.entry.turns (T.timer_events timer.old) (T.timer_events timer.new))) }
 {
     let wire = match wire {
         Ok(wire) => wire,
         Err(outcome) => return open_alone(alloc, m, records, outcome),
     };
-    let Ok(mut observer) = Observer::new(alloc, m, sealing.is_some(), words.is_quiet) else {
+    let Ok(mut observer) = Observer::new(alloc, m, sealing.is_some(), arguments.is_quiet) else {
         return open_alone(alloc, m, records, Outcome::Memory);
     };
-    let hears = words.hears_asks();
+    let hears = arguments.hears_asks();
     let Some(sealing) = sealing else {
         let (ended, records, _wire) = run_at_socket(
             rt,
@@ -359,7 +359,7 @@ fn run_at<R: Records, T: Timer>(
             &mut observer,
             hears,
             place,
-            words.turns,
+            arguments.turns,
         );
         return (ended_outcome(ended, Outcome::Memory), records);
     };
@@ -376,18 +376,20 @@ fn run_at<R: Records, T: Timer>(
         &mut observer,
         hears,
         place,
-        words.turns,
+        arguments.turns,
     );
     (ended_outcome(ended, Outcome::Memory), records)
 }
 
 /// Where figures are served over TCP, if they are: 82 for what is no address at which this machine alone is heard, with
 /// a port.
-pub(crate) fn figures_at(words: NodeWords<'_, '_, '_>) -> Result<Option<SocketAddr>, Outcome>
+pub(crate) fn figures_at(
+    arguments: NodeArguments<'_, '_, '_>,
+) -> Result<Option<SocketAddr>, Outcome>
     ensures refused { OnErr result (result ≡ Err (Refused 82)) }
-    ensures served { IfOk result (AreFigures (option_map (λ t. t.now) words.entry.metrics)) }
+    ensures served { IfOk result (AreFigures (option_map (λ t. t.now) arguments.entry.metrics)) }
 {
-    let Some(text) = words.metrics else {
+    let Some(text) = arguments.metrics else {
         return Ok(None);
     };
     match text.parse::<SocketAddr>() {
@@ -423,7 +425,7 @@ fn addresses_text(alloc: Global, addresses: &[Address]) -> Result<String, AllocE
 fn run_with_control<R: Records, T: Timer>(
     rt: &HostRuntime,
     alloc: Global,
-    words: NodeWords<'_, '_, '_>,
+    arguments: NodeArguments<'_, '_, '_>,
     path: &str,
     m: Membership,
     records: R,
@@ -432,20 +434,20 @@ fn run_with_control<R: Records, T: Timer>(
 ) -> (Outcome, R)
     requires members { R.members records ≡ m.members }
     requires here { m.me < m.members }
-    requires is { m.me ≡ words.me }
+    requires is { m.me ≡ arguments.me }
     requires failed { R.failed records ≡ 0 }
-    requires control { option_map (λ t. t.now) words.control ≡ Some path.now }
+    requires control { option_map (λ t. t.now) arguments.control ≡ Some path.now }
     ensures hosted { ComesOpenOr R.Records m records result.0 result.1 }
     ensures ran { IsUnrun R.Records m records result.0 result.1 ⊎
-        RunsHere R.Records m sealing (hears_asks words.entry.key words.entry.control)
-        (map (λ t. t.now) words.entry.members.now) records result.0 result.1 (λ how.
-        OnFront how (MakesTurns words.entry.turns (T.timer_events timer.old) (T.timer_events timer.new))) }
+        RunsHere R.Records m sealing (hears_asks arguments.entry.key arguments.entry.control)
+        (map (λ t. t.now) arguments.entry.members.now) records result.0 result.1 (λ how.
+        OnFront how (MakesTurns arguments.entry.turns (T.timer_events timer.old) (T.timer_events timer.new))) }
 {
-    let wire = match bind(rt, alloc, words) {
+    let wire = match bind(rt, alloc, arguments) {
         Ok(wire) => wire,
         Err(outcome) => return (outcome, records),
     };
-    let figures = match figures_at(words) {
+    let figures = match figures_at(arguments) {
         Ok(figures) => figures,
         Err(outcome) => return (outcome, records),
     };
@@ -461,7 +463,7 @@ fn run_with_control<R: Records, T: Timer>(
     run_at(
         rt,
         alloc,
-        words,
+        arguments,
         m,
         records,
         Ok(wire),
@@ -475,7 +477,7 @@ fn run_with_control<R: Records, T: Timer>(
 fn run_member_in<R: Records, T: Timer>(
     rt: &HostRuntime,
     alloc: Global,
-    words: NodeWords<'_, '_, '_>,
+    arguments: NodeArguments<'_, '_, '_>,
     m: Membership,
     records: R,
     sealing: Option<Sealing>,
@@ -483,21 +485,21 @@ fn run_member_in<R: Records, T: Timer>(
 ) -> (Outcome, R)
     requires members { R.members records ≡ m.members }
     requires here { m.me < m.members }
-    requires is { m.me ≡ words.me }
+    requires is { m.me ≡ arguments.me }
     requires failed { R.failed records ≡ 0 }
-    requires keyed { is_some sealing ≡ is_some words.key }
+    requires keyed { is_some sealing ≡ is_some arguments.key }
     ensures hosted { ComesOpenOr R.Records m records result.0 result.1 }
-    ensures turns { words.entry.control ≡ None → ComesTo R.Records m records result.0 result.1 }
+    ensures turns { arguments.entry.control ≡ None → ComesTo R.Records m records result.0 result.1 }
     ensures ran { IsUnrun R.Records m records result.0 result.1 ⊎
-        RunsHere R.Records m sealing (hears_asks words.entry.key words.entry.control)
-        (map (λ t. t.now) words.entry.members.now) records result.0 result.1 (λ how.
-        OnFront how (MakesTurns words.entry.turns (T.timer_events timer.old) (T.timer_events timer.new))) }
+        RunsHere R.Records m sealing (hears_asks arguments.entry.key arguments.entry.control)
+        (map (λ t. t.now) arguments.entry.members.now) records result.0 result.1 (λ how.
+        OnFront how (MakesTurns arguments.entry.turns (T.timer_events timer.old) (T.timer_events timer.new))) }
 {
-    match words.control {
-        Some(path) => run_with_control(rt, alloc, words, path, m, records, sealing, timer),
+    match arguments.control {
+        Some(path) => run_with_control(rt, alloc, arguments, path, m, records, sealing, timer),
         None => {
-            let wire = bind(rt, alloc, words);
-            run_at(rt, alloc, words, m, records, wire, sealing, timer, None)
+            let wire = bind(rt, alloc, arguments);
+            run_at(rt, alloc, arguments, m, records, wire, sealing, timer, None)
         }
     }
 }
@@ -508,7 +510,7 @@ fn run_on<D: Databases, T: Timer>(
     rt: &HostRuntime,
     dbs: &D,
     alloc: Global,
-    words: NodeWords<'_, '_, '_>,
+    arguments: NodeArguments<'_, '_, '_>,
     m: Membership,
     records: SqlRecords<FileStore<File>>,
     sealing: Option<Sealing>,
@@ -516,20 +518,20 @@ fn run_on<D: Databases, T: Timer>(
 ) -> Outcome
     requires members { ⟦<SqlRecords<FileStore<File>> as Records>⟧.members records ≡ m.members }
     requires here { m.me < m.members }
-    requires is { m.me ≡ words.me }
+    requires is { m.me ≡ arguments.me }
     requires failed { ⟦<SqlRecords<FileStore<File>> as Records>⟧.failed records ≡ 0 }
-    requires keyed { is_some sealing ≡ is_some words.key }
+    requires keyed { is_some sealing ≡ is_some arguments.key }
     ensures ran { EndsAs ⟦<SqlRecords<FileStore<File>> as Records>⟧ m sealing
-        (hears_asks words.entry.key words.entry.control) (map (λ t. t.now) words.entry.members.now) records
+        (hears_asks arguments.entry.key arguments.entry.control) (map (λ t. t.now) arguments.entry.members.now) records
         (λ r. D.closed dbs.now (state ⟦<FileStore<File> as Store>⟧ (connection_of r))) (λ how.
-        OnFront how (MakesTurns words.entry.turns (T.timer_events timer.old) (T.timer_events timer.new))) result }
+        OnFront how (MakesTurns arguments.entry.turns (T.timer_events timer.old) (T.timer_events timer.new))) result }
     ensures why { result ≢ Refused 80 }
     ensures store { (file new : Bool) → IsStoreless file new result }
 {
-    say_start(rt, words);
-    let (outcome, records) = run_member_in(rt, alloc, words, m, records, sealing, timer);
+    log_start(rt, arguments);
+    let (outcome, records) = run_member_in(rt, alloc, arguments, m, records, sealing, timer);
     let outcome = ending_of(outcome, records.failures());
-    say_end(rt, alloc, words, outcome);
+    log_end(rt, alloc, arguments, outcome);
     dbs.close(records.release());
     outcome
 }
@@ -540,7 +542,7 @@ fn run_sealed<F: NodeFiles, D: Databases, T: Timer>(
     files: &F,
     dbs: &D,
     alloc: Global,
-    words: NodeWords<'_, '_, '_>,
+    arguments: NodeArguments<'_, '_, '_>,
     m: Membership,
     found: Found,
     records: SqlRecords<FileStore<File>>,
@@ -549,20 +551,20 @@ fn run_sealed<F: NodeFiles, D: Databases, T: Timer>(
 ) -> Outcome
     requires members { ⟦<SqlRecords<FileStore<File>> as Records>⟧.members records ≡ m.members }
     requires here { m.me < m.members }
-    requires is { m.me ≡ words.me }
+    requires is { m.me ≡ arguments.me }
     requires failed { ⟦<SqlRecords<FileStore<File>> as Records>⟧.failed records ≡ 0 }
-    requires keyed { is_some keys ≡ is_some words.key }
+    requires keyed { is_some keys ≡ is_some arguments.key }
     ensures ran { EndsWith ⟦<SqlRecords<FileStore<File>> as Records>⟧ m keys
-        (F.raises files.now (words.entry.store.now ++ codes "-starts") m.members m.me
-        (is_made words.entry.is_from_file words.entry.is_new found || words.entry.makes_starts))
-        (hears_asks words.entry.key words.entry.control) (map (λ t. t.now) words.entry.members.now) records
+        (F.raises files.now (arguments.entry.store.now ++ codes "-starts") m.members m.me
+        (is_made arguments.entry.is_from_file arguments.entry.is_new found || arguments.entry.makes_starts))
+        (hears_asks arguments.entry.key arguments.entry.control) (map (λ t. t.now) arguments.entry.members.now) records
         (λ r. D.closed dbs.now (state ⟦<FileStore<File> as Store>⟧ (connection_of r))) (λ how.
-        OnFront how (MakesTurns words.entry.turns (T.timer_events timer.old) (T.timer_events timer.new))) result }
+        OnFront how (MakesTurns arguments.entry.turns (T.timer_events timer.old) (T.timer_events timer.new))) result }
     ensures ending { result ≢ Refused 80 }
     ensures store { (file new : Bool) → IsStoreless file new result }
 {
-    match sealing_for(rt, files, alloc, words, m, keys, found) {
-        Ok(sealing) => run_on(rt, dbs, alloc, words, m, records, sealing, timer),
+    match sealing_for(rt, files, alloc, arguments, m, keys, found) {
+        Ok(sealing) => run_on(rt, dbs, alloc, arguments, m, records, sealing, timer),
         Err(outcome) => {
             dbs.close(records.release());
             outcome
@@ -578,33 +580,33 @@ fn run_new<F: NodeFiles, D: Databases, T: Timer>(
     files: &F,
     dbs: &D,
     alloc: Global,
-    words: NodeWords<'_, '_, '_>,
+    arguments: NodeArguments<'_, '_, '_>,
     m: Membership,
     found: Found,
     keys: Option<Keys>,
     timer: &mut T,
 ) -> Outcome
     requires here { m.me < m.members }
-    requires is { m.me ≡ words.me }
-    requires keyed { is_some keys ≡ is_some words.key }
+    requires is { m.me ≡ arguments.me }
+    requires keyed { is_some keys ≡ is_some arguments.key }
     ensures ran { EndsNew ⟦<SqlRecords<FileStore<File>> as Records>⟧ m keys
-        (F.raises files.now (words.entry.store.now ++ codes "-starts") m.members m.me
-        (is_made words.entry.is_from_file words.entry.is_new found || words.entry.makes_starts))
-        (hears_asks words.entry.key words.entry.control) (map (λ t. t.now) words.entry.members.now) (λ r. IsKept
-        (D.holds dbs.now words.entry.store.now) (state ⟦<FileStore<File> as Store>⟧ (connection_of r))
+        (F.raises files.now (arguments.entry.store.now ++ codes "-starts") m.members m.me
+        (is_made arguments.entry.is_from_file arguments.entry.is_new found || arguments.entry.makes_starts))
+        (hears_asks arguments.entry.key arguments.entry.control) (map (λ t. t.now) arguments.entry.members.now) (λ r. IsKept
+        (D.holds dbs.now arguments.entry.store.now) (state ⟦<FileStore<File> as Store>⟧ (connection_of r))
         (λ f db. IsOpened ⟦<FileStore<File> as Store>⟧ r (record_at f db.trees)))
         (λ r. D.closed dbs.now (state ⟦<FileStore<File> as Store>⟧ (connection_of r))) (λ how.
-        OnFront how (MakesTurns words.entry.turns (T.timer_events timer.old) (T.timer_events timer.new))) result }
+        OnFront how (MakesTurns arguments.entry.turns (T.timer_events timer.old) (T.timer_events timer.new))) result }
     ensures ending { result ≢ Refused 80 }
-    ensures store { IsStoreless words.entry.is_from_file words.entry.is_new result }
+    ensures store { IsStoreless arguments.entry.is_from_file arguments.entry.is_new result }
     ensures none { result ≡ Refused NO_STORE → IsNone found }
 {
-    let sealing = match sealing_for(rt, files, alloc, words, m, keys, found) {
+    let sealing = match sealing_for(rt, files, alloc, arguments, m, keys, found) {
         Ok(sealing) => sealing,
         Err(outcome) => return outcome,
     };
-    match record_at(rt, dbs, alloc, words, m, found) {
-        Ok(records) => run_on(rt, dbs, alloc, words, m, records, sealing, timer),
+    match record_at(rt, dbs, alloc, arguments, m, found) {
+        Ok(records) => run_on(rt, dbs, alloc, arguments, m, records, sealing, timer),
         Err(outcome) => outcome,
     }
 }
@@ -616,44 +618,46 @@ pub(crate) fn run_node<F: NodeFiles, D: Databases, T: Timer>(
     files: &F,
     dbs: &D,
     alloc: Global,
-    words: NodeWords<'_, '_, '_>,
+    arguments: NodeArguments<'_, '_, '_>,
     timer: &mut T,
 ) -> Outcome
-    ensures place { has_place words.entry.me (length words.entry.members.now) ≡ false → result ≡ Refused 40 }
+    ensures place { has_place arguments.entry.me (length arguments.entry.members.now) ≡ false → result ≡ Refused 40 }
     ensures ran { EndsNode ⟦<SqlRecords<FileStore<File>> as Records>⟧
-        (λ m. (m.cluster ≡ words.entry.cluster) × (m.me ≡ words.entry.me) ×
-        (m.members ≡ length words.entry.members.now))
-        (AreNamed (F.makes files.now words.entry.cluster (map (λ t. t.now) words.entry.members.now))
-        (option_map (λ t. t.now) words.entry.key) (option_map (λ t. t.now) words.entry.other_key))
-        (λ m start. (found : Found) × IsFoundAt (D.is_seen dbs.now) words.entry.store.now found ×
-        F.raises files.now (words.entry.store.now ++ codes "-starts") m.members m.me
-        (is_made words.entry.is_from_file words.entry.is_new found || words.entry.makes_starts) start)
-        (hears_asks words.entry.key words.entry.control) (map (λ t. t.now) words.entry.members.now) (λ r. IsKept
-        (D.holds dbs.now words.entry.store.now) (state ⟦<FileStore<File> as Store>⟧ (connection_of r))
+        (λ m. (m.cluster ≡ arguments.entry.cluster) × (m.me ≡ arguments.entry.me) ×
+        (m.members ≡ length arguments.entry.members.now))
+        (AreNamed (F.makes files.now arguments.entry.cluster (map (λ t. t.now) arguments.entry.members.now))
+        (option_map (λ t. t.now) arguments.entry.key) (option_map (λ t. t.now) arguments.entry.other_key))
+        (λ m start. (found : Found) × IsFoundAt (D.is_seen dbs.now) arguments.entry.store.now found ×
+        F.raises files.now (arguments.entry.store.now ++ codes "-starts") m.members m.me
+        (is_made arguments.entry.is_from_file arguments.entry.is_new found || arguments.entry.makes_starts) start)
+        (hears_asks arguments.entry.key arguments.entry.control) (map (λ t. t.now) arguments.entry.members.now) (λ r. IsKept
+        (D.holds dbs.now arguments.entry.store.now) (state ⟦<FileStore<File> as Store>⟧ (connection_of r))
         (λ f db. IsOpened ⟦<FileStore<File> as Store>⟧ r (record_at f db.trees)))
         (λ r. D.closed dbs.now (state ⟦<FileStore<File> as Store>⟧ (connection_of r))) (λ how.
-        OnFront how (MakesTurns words.entry.turns (T.timer_events timer.old) (T.timer_events timer.new))) result }
+        OnFront how (MakesTurns arguments.entry.turns (T.timer_events timer.old) (T.timer_events timer.new))) result }
     ensures ending { result ≢ Refused 80 }
-    ensures store { IsStoreless words.entry.is_from_file words.entry.is_new result }
-    ensures none { result ≡ Refused NO_STORE → HasNone (D.is_seen dbs.now) words.entry.store.now }
+    ensures store { IsStoreless arguments.entry.is_from_file arguments.entry.is_new result }
+    ensures none { result ≡ Refused NO_STORE → HasNone (D.is_seen dbs.now) arguments.entry.store.now }
 {
-    let Some(m) = membership(words) else {
-        say_place(rt, words);
+    let Some(m) = membership(arguments) else {
+        log_place(rt, arguments);
         return Outcome::Refused(40);
     };
-    let keys = match keys_for(rt, files, alloc, words) {
+    let keys = match keys_for(rt, files, alloc, arguments) {
         Ok(keys) => keys,
         Err(outcome) => return outcome,
     };
-    warn_unsealed(rt, words);
-    let Ok(found) = found_at(dbs, alloc, words.store) else {
+    warn_unsealed(rt, arguments);
+    let Ok(found) = found_at(dbs, alloc, arguments.store) else {
         return Outcome::Memory;
     };
-    if is_made(words.is_from_file, words.is_new, found) {
-        return run_new(rt, files, dbs, alloc, words, m, found, keys, timer);
+    if is_made(arguments.is_from_file, arguments.is_new, found) {
+        return run_new(rt, files, dbs, alloc, arguments, m, found, keys, timer);
     }
-    match record_at(rt, dbs, alloc, words, m, found) {
-        Ok(records) => run_sealed(rt, files, dbs, alloc, words, m, found, records, keys, timer),
+    match record_at(rt, dbs, alloc, arguments, m, found) {
+        Ok(records) => run_sealed(
+            rt, files, dbs, alloc, arguments, m, found, records, keys, timer,
+        ),
         Err(outcome) => outcome,
     }
 }

@@ -4,11 +4,11 @@ ghost use Rattle.std.specs.Prelude.{◌≡◌, Option};
 ghost use Rattle.cli_node.specs.declared.outcome.Outcome.{Outcome};
 ghost use Rattle.cli_node.specs.Outcomes.{Ran};
 
-use crate::ask::{AskWords, ask_outcome};
+use crate::ask::{AskArguments, ask_outcome};
 use crate::key::key_outcome;
+use crate::options::command;
 use crate::outcome::{Outcome, write_outcome};
 use crate::settings::settled_outcome;
-use crate::words::command;
 use clap::ArgMatches;
 use cli_io::{Status, misused, out_of_memory};
 use std::alloc::Global;
@@ -31,8 +31,8 @@ fn outcome_of<R: Read>(
     let Some(inner) = matches.subcommand_matches("ask") else {
         return None;
     };
-    match AskWords::of(inner) {
-        Some(words) => Some(ask_outcome(rt, *rt, alloc, words, inner, reader)),
+    match AskArguments::of(inner) {
+        Some(arguments) => Some(ask_outcome(rt, *rt, alloc, arguments, inner, reader)),
         None => None,
     }
 }
@@ -47,7 +47,7 @@ fn outcome_of<R: Read>(
 pub fn run_net<S: AsStr, R: Read, W: Write>(
     rt: &HostRuntime,
     alloc: Global,
-    words: &[S],
+    arguments: &[S],
     reader: &mut R,
     writer: &mut W,
 ) -> Status
@@ -56,7 +56,7 @@ pub fn run_net<S: AsStr, R: Read, W: Write>(
     let Ok(command) = command(alloc) else {
         return out_of_memory(writer);
     };
-    let matches = match command.try_get_matches_from(words) {
+    let matches = match command.try_get_matches_from(arguments) {
         Ok(matches) => matches,
         Err(error) => return misused(alloc, &error, writer),
     };

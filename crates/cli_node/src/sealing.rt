@@ -5,10 +5,10 @@ ghost use Rattle.std.specs.Prelude.{OnErr, IfOk, IfSome, option_map, is_some};
 ghost use Rattle.cli_node.specs.declared.outcome.Outcome.TheVariants.{Memory, Refused, Sound};
 ghost use Rattle.cli_node.specs.inner.Stores.{is_made};
 
-use crate::faults::say_unusable;
+use crate::faults::log_unusable;
 use crate::files::NodeFiles;
 use crate::key::Keys;
-use crate::node::NodeWords;
+use crate::node::NodeArguments;
 use crate::outcome::Outcome;
 use crate::store::{Found, is_made};
 use cli_files::{RaiseFault, starts_in, starts_path};
@@ -34,7 +34,7 @@ fn starts_refused(rt: &HostRuntime, alloc: Global, path: &str, fault: RaiseFault
     if fault == RaiseFault::Memory {
         return Outcome::Memory;
     }
-    say_unusable(rt, alloc, path, fault);
+    log_unusable(rt, alloc, path, fault);
     Outcome::Refused(BAD_STARTS)
 }
 
@@ -58,10 +58,10 @@ fn sealing_of(
 }
 
 /// Whether a missing file of starts is made: with a store that is made, and where that is asked for.
-fn may_make_starts(words: NodeWords<'_, '_, '_>, found: Found) -> bool
-    ensures { result ≡ (is_made words.entry.is_from_file words.entry.is_new found || words.entry.makes_starts) }
+fn may_make_starts(arguments: NodeArguments<'_, '_, '_>, found: Found) -> bool
+    ensures { result ≡ (is_made arguments.entry.is_from_file arguments.entry.is_new found || arguments.entry.makes_starts) }
 {
-    is_made(words.is_from_file, words.is_new, found) || words.makes_starts
+    is_made(arguments.is_from_file, arguments.is_new, found) || arguments.makes_starts
 }
 
 /// How a node's packets are sealed with these keys in this start of it, written into the file beside its store first,
@@ -70,7 +70,7 @@ fn sealing_with<F: NodeFiles>(
     rt: &HostRuntime,
     files: &F,
     alloc: Global,
-    words: NodeWords<'_, '_, '_>,
+    arguments: NodeArguments<'_, '_, '_>,
     m: Membership,
     keys: Keys,
     found: Found,
@@ -79,14 +79,14 @@ fn sealing_with<F: NodeFiles>(
     ensures refused { OnErr result ((result ≡ Err Memory) ⊎ (result ≡ Err (Refused 95))) }
     ensures keys { IfOk result (λ s. option_map (λ x. x.keys) s ≡ Some keys) }
     ensures start { IfOk result (λ s. IfSome s (λ x. F.raises files.now
-        (words.entry.store.now ++ codes "-starts") m.members m.me
-        (is_made words.entry.is_from_file words.entry.is_new found || words.entry.makes_starts) x.start)) }
+        (arguments.entry.store.now ++ codes "-starts") m.members m.me
+        (is_made arguments.entry.is_from_file arguments.entry.is_new found || arguments.entry.makes_starts) x.start)) }
     ensures keyed { IfOk result (λ s. is_some s ≡ true) }
 {
-    let Ok(path) = starts_path(alloc, words.store) else {
+    let Ok(path) = starts_path(alloc, arguments.store) else {
         return Err(Outcome::Memory);
     };
-    let may_be_made = may_make_starts(words, found);
+    let may_be_made = may_make_starts(arguments, found);
     let raised = files.raise(alloc, path.as_str(), m, may_be_made);
     sealing_of(rt, alloc, path.as_str(), keys, raised)
 }
@@ -97,7 +97,7 @@ pub(crate) fn sealing_for<F: NodeFiles>(
     rt: &HostRuntime,
     files: &F,
     alloc: Global,
-    words: NodeWords<'_, '_, '_>,
+    arguments: NodeArguments<'_, '_, '_>,
     m: Membership,
     keys: Option<Keys>,
     found: Found,
@@ -106,12 +106,12 @@ pub(crate) fn sealing_for<F: NodeFiles>(
     ensures refused { OnErr result ((result ≡ Err Memory) ⊎ (result ≡ Err (Refused 95))) }
     ensures keys { IfOk result (λ s. option_map (λ x. x.keys) s ≡ keys) }
     ensures start { IfOk result (λ s. IfSome s (λ x. F.raises files.now
-        (words.entry.store.now ++ codes "-starts") m.members m.me
-        (is_made words.entry.is_from_file words.entry.is_new found || words.entry.makes_starts) x.start)) }
+        (arguments.entry.store.now ++ codes "-starts") m.members m.me
+        (is_made arguments.entry.is_from_file arguments.entry.is_new found || arguments.entry.makes_starts) x.start)) }
     ensures keyed { IfOk result (λ s. is_some s ≡ is_some keys) }
 {
     match keys {
-        Some(keys) => sealing_with(rt, files, alloc, words, m, keys, found),
+        Some(keys) => sealing_with(rt, files, alloc, arguments, m, keys, found),
         None => Ok(None),
     }
 }
@@ -120,7 +120,7 @@ pub(crate) fn sealing_for<F: NodeFiles>(
 pub(crate) fn of_starts(
     rt: &HostRuntime,
     alloc: Global,
-    words: NodeWords<'_, '_, '_>,
+    arguments: NodeArguments<'_, '_, '_>,
     m: Option<Membership>,
     is_new: bool,
 ) -> Outcome
@@ -129,15 +129,15 @@ pub(crate) fn of_starts(
     let Some(m) = m else {
         return Outcome::Sound;
     };
-    if words.key.is_none() {
+    if arguments.key.is_none() {
         return Outcome::Sound;
     }
-    let Ok(path) = starts_path(alloc, words.store) else {
+    let Ok(path) = starts_path(alloc, arguments.store) else {
         return Outcome::Memory;
     };
     match starts_in(rt, alloc, path.as_str(), m.members()) {
         Ok(_known) => Outcome::Sound,
-        Err(RaiseFault::Missing) => if is_new || words.makes_starts {
+        Err(RaiseFault::Missing) => if is_new || arguments.makes_starts {
             Outcome::Sound
         } else {
             starts_refused(rt, alloc, path.as_str(), RaiseFault::Missing)

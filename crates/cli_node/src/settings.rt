@@ -5,7 +5,7 @@ ghost use Rattle.toml.specs.Parse.{parse_document};
 ghost use Rattle.cli_io.specs.Sources.{IsOfFile};
 ghost use Rattle.cli_files.specs.Clusters.{IsClusterKey};
 ghost use Rattle.cli_files.specs.Files.{settings_of};
-ghost use Rattle.cli_node.specs.declared.node.NodeWords.{NodeWords};
+ghost use Rattle.cli_node.specs.declared.node.NodeArguments.{NodeArguments};
 ghost use Rattle.cli_node.specs.declared.outcome.Outcome.{Outcome};
 ghost use Rattle.cli_node.specs.declared.outcome.Outcome.TheVariants.{Memory, Refused};
 ghost use Rattle.cli_node.specs.declared.settings.TheConstants.{BAD_SETTINGS};
@@ -16,7 +16,7 @@ ghost use Rattle.cli_node.specs.inner.Settled.{AreSettings, IsNode, IsSettled, I
 ghost use Rattle.cli_node.specs.inner.Stores.{IsStoreless};
 
 use crate::check::check_outcome;
-use crate::node::{NodeWords, is_given, run_node};
+use crate::node::{NodeArguments, is_given, run_node};
 use crate::outcome::Outcome;
 use clap::ArgMatches;
 use cli_files::{FileFault, NodeFile};
@@ -43,7 +43,7 @@ fn bytes_of<RT: Files + Eprint>(rt: &RT, alloc: Global, path: &str) -> Result<Ve
     let mut file = match open_regular(rt, path) {
         Ok(file) => file,
         Err(error) => {
-            let _said = eprintln!(rt; "pfx: error: {}: {error} ({UNREADABLE})", Shown(path));
+            let _logged = eprintln!(rt; "pfx: error: {}: {error} ({UNREADABLE})", Shown(path));
             return Err(Outcome::Refused(UNREADABLE));
         }
     };
@@ -51,7 +51,10 @@ fn bytes_of<RT: Files + Eprint>(rt: &RT, alloc: Global, path: &str) -> Result<Ve
         Ok(bytes) => Ok(bytes),
         Err(InputFault::Memory) => Err(Outcome::Memory),
         Err(InputFault::Failed | InputFault::TooLong) => {
-            let _said = eprintln!(rt; "pfx: error: {}: a read failed ({UNREADABLE})", Shown(path));
+            let _logged = eprintln!(rt;
+                "pfx: error: {}: a read failed ({UNREADABLE})",
+                Shown(path)
+            );
             Err(Outcome::Refused(UNREADABLE))
         }
     }
@@ -67,14 +70,14 @@ fn file_refused<RT: Eprint>(rt: &RT, path: &str, fault: FileFault) -> Outcome
     let path = Shown(path);
     match fault.line() {
         Some(line) => {
-            let _said = eprintln!(rt; "pfx: error: {path}:{line}: {fault} ({BAD_SETTINGS})");
+            let _logged = eprintln!(rt; "pfx: error: {path}:{line}: {fault} ({BAD_SETTINGS})");
             Outcome::RefusedLine {
                 code: BAD_SETTINGS,
                 line,
             }
         }
         None => {
-            let _said = eprintln!(rt; "pfx: error: {path}: {fault} ({BAD_SETTINGS})");
+            let _logged = eprintln!(rt; "pfx: error: {path}: {fault} ({BAD_SETTINGS})");
             Outcome::Refused(BAD_SETTINGS)
         }
     }
@@ -113,8 +116,8 @@ fn settings_for<RT: Files + Eprint>(
 }
 
 /// Logs which setting is missing.
-fn say_lack<RT: Eprint>(rt: &RT, name: &str) {
-    let _said = eprintln!(rt; "pfx: error: {name} ({BAD_SETTINGS})");
+fn log_missing<RT: Eprint>(rt: &RT, name: &str) {
+    let _logged = eprintln!(rt; "pfx: error: {name} ({BAD_SETTINGS})");
 }
 
 /// What is refused where a setting is missing that no option gives.
@@ -122,13 +125,13 @@ fn lacking<RT: Eprint>(rt: &RT, matches: &ArgMatches<'_>, file: &NodeFile) -> Ou
     ensures { result ≡ Refused BAD_SETTINGS }
 {
     if matches.get_one::<u32>("me").is_none() && file.number("me").is_none() {
-        say_lack(rt, "me is neither in the words nor in their file");
+        log_missing(rt, "me is given neither by an option nor in the file");
     }
     if matches.get_one::<u32>("cluster").is_none() && file.number("cluster").is_none() {
-        say_lack(rt, "cluster is neither in the words nor in their file");
+        log_missing(rt, "cluster is given neither by an option nor in the file");
     }
     if matches.get_str("store").is_none() && file.text("store").is_none() {
-        say_lack(rt, "store is neither in the words nor in their file");
+        log_missing(rt, "store is given neither by an option nor in the file");
     }
     Outcome::Refused(BAD_SETTINGS)
 }
@@ -137,9 +140,9 @@ fn lacking<RT: Eprint>(rt: &RT, matches: &ArgMatches<'_>, file: &NodeFile) -> Ou
 fn halved<RT: Eprint>(rt: &RT) -> Outcome
     ensures { result ≡ Refused BAD_SETTINGS }
 {
-    say_lack(
+    log_missing(
         rt,
-        "other-key or new-starts has no key, or metrics no control socket",
+        "other-key or new-starts is given without key, or metrics without control",
     );
     Outcome::Refused(BAD_SETTINGS)
 }
@@ -147,18 +150,18 @@ fn halved<RT: Eprint>(rt: &RT) -> Outcome
 /// Who runs a node, or checks whether it could be started, once.
 pub(crate) trait Nodes {
     // a node with these arguments was run, and gave this
-    ghost ran: { Self → NodeWords → Outcome → Type 0 };
+    ghost ran: { Self → NodeArguments → Outcome → Type 0 };
 
     // whether a node with these arguments could be started was checked, and gave this
-    ghost checked: { Self → NodeWords → Outcome → Type 0 };
+    ghost checked: { Self → NodeArguments → Outcome → Type 0 };
 
     /// Runs a node.
-    fn run(self, alloc: Global, words: NodeWords<'_, '_, '_>) -> Outcome
-        ensures { ran self words.entry result };
+    fn run(self, alloc: Global, arguments: NodeArguments<'_, '_, '_>) -> Outcome
+        ensures { ran self arguments.entry result };
 
     /// Checks whether a node could be started.
-    fn check(self, alloc: Global, words: NodeWords<'_, '_, '_>) -> Outcome
-        ensures { checked self words.entry result };
+    fn check(self, alloc: Global, arguments: NodeArguments<'_, '_, '_>) -> Outcome
+        ensures { checked self arguments.entry result };
 }
 
 impl Nodes for HostRuntime {
@@ -174,14 +177,14 @@ impl Nodes for HostRuntime {
     ghost checked = { λ _ w outcome. (has_place w.me (length w.members.now) ≡ false → outcome ≡ Refused 40) ×
         IsStoreless w.is_from_file w.is_new outcome };
 
-    fn run(self, alloc: Global, words: NodeWords<'_, '_, '_>) -> Outcome {
-        let mut timer = TickTimer::new(words.me);
-        run_node(&self, &self, &self, alloc, words, &mut timer)
+    fn run(self, alloc: Global, arguments: NodeArguments<'_, '_, '_>) -> Outcome {
+        let mut timer = TickTimer::new(arguments.me);
+        run_node(&self, &self, &self, alloc, arguments, &mut timer)
     }
 
-    fn check(self, alloc: Global, words: NodeWords<'_, '_, '_>) -> Outcome {
+    fn check(self, alloc: Global, arguments: NodeArguments<'_, '_, '_>) -> Outcome {
         let mut inspection = self;
-        check_outcome(&self, &self, &mut inspection, alloc, words)
+        check_outcome(&self, &self, &mut inspection, alloc, arguments)
     }
 }
 
@@ -196,16 +199,16 @@ fn outcome_for<'g: 'f, 'f, RT: Eprint, N: Nodes + Drop>(
 ) -> Outcome
     ensures { IsSettled (N.ran nodes) (N.checked nodes) matches.now file.now (map (λ t. t.now) members.now) result }
 {
-    let Some(words) = NodeWords::of(matches, file, members) else {
+    let Some(arguments) = NodeArguments::of(matches, file, members) else {
         return lacking(rt, matches, file);
     };
-    if !words.is_whole() {
+    if !arguments.is_whole() {
         return halved(rt);
     }
     if is_given(matches, "check") {
-        nodes.check(alloc, words)
+        nodes.check(alloc, arguments)
     } else {
-        nodes.run(alloc, words)
+        nodes.run(alloc, arguments)
     }
 }
 

@@ -3,8 +3,8 @@
 ghost use Rattle.std.specs.Prelude.{◌≡◌, ◌⊎◌, IfErr};
 ghost use Rattle.cli_node.specs.declared.outcome.Outcome.TheVariants.{Memory, Refused, Sound};
 
-use crate::faults::say_why;
-use crate::node::{NodeWords, bind, figures_at};
+use crate::faults::log_why;
+use crate::node::{NodeArguments, bind, figures_at};
 use crate::outcome::Outcome;
 use cli_io::{Shown, knock};
 use std::alloc::Global;
@@ -35,14 +35,18 @@ pub(crate) fn try_control(rt: &HostRuntime, alloc: Global, path: &str) -> io::Re
 }
 
 /// Tries the socket of the members' datagrams, and the port of figures, if there is one.
-fn try_ports(rt: &HostRuntime, alloc: Global, words: NodeWords<'_, '_, '_>) -> Result<(), Outcome>
+fn try_ports(
+    rt: &HostRuntime,
+    alloc: Global,
+    arguments: NodeArguments<'_, '_, '_>,
+) -> Result<(), Outcome>
     ensures { IfErr result (λ o. (o ≡ Memory) ⊎ (o ≡ Refused 82)) }
 {
-    match bind(rt, alloc, words) {
+    match bind(rt, alloc, arguments) {
         Ok(_wire) => {}
         Err(outcome) => return Err(outcome),
     }
-    match figures_at(words) {
+    match figures_at(arguments) {
         Ok(Some(figures)) => match TcpListener::bind(rt, figures) {
             Ok(_bound) => Ok(()),
             Err(_) => Err(Outcome::Refused(82)),
@@ -53,14 +57,18 @@ fn try_ports(rt: &HostRuntime, alloc: Global, words: NodeWords<'_, '_, '_>) -> R
 }
 
 /// Tries them, and the control socket, if there is one.
-fn try_all(rt: &HostRuntime, alloc: Global, words: NodeWords<'_, '_, '_>) -> Result<(), Outcome>
+fn try_all(
+    rt: &HostRuntime,
+    alloc: Global,
+    arguments: NodeArguments<'_, '_, '_>,
+) -> Result<(), Outcome>
     ensures { IfErr result (λ o. (o ≡ Memory) ⊎ ((o ≡ Refused 82) ⊎ (o ≡ Refused 84))) }
 {
-    match try_ports(rt, alloc, words) {
+    match try_ports(rt, alloc, arguments) {
         Ok(()) => {}
         Err(outcome) => return Err(outcome),
     }
-    let Some(path) = words.control else {
+    let Some(path) = arguments.control else {
         return Ok(());
     };
     match try_control(rt, alloc, path) {
@@ -77,15 +85,15 @@ fn try_all(rt: &HostRuntime, alloc: Global, words: NodeWords<'_, '_, '_>) -> Res
 pub(crate) fn try_sockets(
     rt: &HostRuntime,
     alloc: Global,
-    words: NodeWords<'_, '_, '_>,
+    arguments: NodeArguments<'_, '_, '_>,
 ) -> Result<(), Outcome>
     ensures { IfErr result (λ o. (o ≡ Memory) ⊎ ((o ≡ Refused 82) ⊎ (o ≡ Refused 84))) }
 {
-    match try_all(rt, alloc, words) {
+    match try_all(rt, alloc, arguments) {
         Ok(()) => Ok(()),
         Err(outcome) => {
             if let Outcome::Refused(code) = outcome {
-                say_why(rt, alloc, words, code);
+                log_why(rt, alloc, arguments, code);
             }
             Err(outcome)
         }
@@ -93,25 +101,25 @@ pub(crate) fn try_sockets(
 }
 
 /// Says of a socket what a start would refuse, which isn't refused with `--check`.
-fn say_unsure<E: Display>(rt: &HostRuntime, what: &str, name: &str, why: &E) {
+fn log_unsure<E: Display>(rt: &HostRuntime, what: &str, name: &str, why: &E) {
     let name = Shown(name);
-    let _said = eprintln!(rt; "pfx: info: {what} {name}: {why}; a start would be refused");
+    let _logged = eprintln!(rt; "pfx: info: {what} {name}: {why}; a start would be refused");
 }
 
 /// What is refused of the node's own address; nothing where it is in use, as by this node where it runs.
-pub(crate) fn of_own_address(rt: &HostRuntime, words: NodeWords<'_, '_, '_>) -> Outcome
+pub(crate) fn of_own_address(rt: &HostRuntime, arguments: NodeArguments<'_, '_, '_>) -> Outcome
     ensures { (result ≡ Sound) ⊎ (result ≡ Refused 82) }
 {
-    let Some(own) = words.members.get(usize::from(words.me)) else {
+    let Some(own) = arguments.members.get(usize::from(arguments.me)) else {
         return Outcome::Sound;
     };
     match UdpSocket::bind(rt, *own) {
         Ok(_bound) => Outcome::Sound,
         Err(error) => if error.kind() == ErrorKind::AddrInUse {
-            say_unsure(rt, "address", own, &error);
+            log_unsure(rt, "address", own, &error);
             Outcome::Sound
         } else {
-            let _said = eprintln!(rt; "pfx: error: address {}: {error}", Shown(*own));
+            let _logged = eprintln!(rt; "pfx: error: address {}: {error}", Shown(*own));
             Outcome::Refused(82)
         },
     }
@@ -119,10 +127,14 @@ pub(crate) fn of_own_address(rt: &HostRuntime, words: NodeWords<'_, '_, '_>) -> 
 
 /// What is refused of the control socket, if there is one; nothing where a node answers there, as this one where it
 /// runs, or where its folder is missing.
-pub(crate) fn of_control(rt: &HostRuntime, alloc: Global, words: NodeWords<'_, '_, '_>) -> Outcome
+pub(crate) fn of_control(
+    rt: &HostRuntime,
+    alloc: Global,
+    arguments: NodeArguments<'_, '_, '_>,
+) -> Outcome
     ensures { (result ≡ Sound) ⊎ ((result ≡ Memory) ⊎ (result ≡ Refused 84)) }
 {
-    let Some(path) = words.control else {
+    let Some(path) = arguments.control else {
         return Outcome::Sound;
     };
     let Err(error) = try_control(rt, alloc, path) else {
@@ -133,11 +145,11 @@ pub(crate) fn of_control(rt: &HostRuntime, alloc: Global, words: NodeWords<'_, '
         // its folder may be made with the service
         ErrorKind::NotFound => Outcome::Sound,
         ErrorKind::AddrInUse => {
-            say_unsure(rt, "control socket", path, &error);
+            log_unsure(rt, "control socket", path, &error);
             Outcome::Sound
         }
         _ => {
-            let _said = eprintln!(rt; "pfx: error: control socket {}: {error}", Shown(path));
+            let _logged = eprintln!(rt; "pfx: error: control socket {}: {error}", Shown(path));
             Outcome::Refused(84)
         }
     }

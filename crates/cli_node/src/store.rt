@@ -15,8 +15,8 @@ ghost use Rattle.cli_node.specs.inner.Stores.{is_made};
 ghost use Rattle.cli_node.specs.inner.Stores.{IsFoundAt, IsNone, found_by, has_no_byte};
 
 use crate::database::{Databases, Seen};
-use crate::faults::{say_closed, say_judged, say_storeless, why_closed};
-use crate::node::NodeWords;
+use crate::faults::{log_closed, log_judged, log_storeless, why_closed};
+use crate::node::NodeArguments;
 use crate::outcome::{Outcome, numbered};
 use crate::sockets::try_sockets;
 use cli_io::make_private;
@@ -139,7 +139,7 @@ pub(crate) fn untaken<RT: Eprint, S: Alter>(
     ensures stop { HasCleanDisk (state S.Store conn.new) →
         LeavesOld (state S.Store conn.old) (state S.Store conn.new) }
 {
-    say_judged(rt, path, m, fault, conn);
+    log_judged(rt, path, m, fault, conn);
     adopt_outcome(fault)
 }
 
@@ -161,7 +161,7 @@ pub(crate) fn failed_outcome<RT: Files + Eprint>(rt: &RT, path: &str, error: Err
     match error {
         Error::SqliteFailure(ErrorCode::OutOfMemory) => Outcome::Memory,
         _ => {
-            say_closed(rt, path, &error);
+            log_closed(rt, path, &error);
             Outcome::Refused(70)
         }
     }
@@ -199,7 +199,7 @@ fn make_file(rt: &HostRuntime, path: &str, found: Found) -> Result<(), Outcome>
     match made {
         Ok(()) => Ok(()),
         Err(error) => {
-            say_closed(rt, path, &error);
+            log_closed(rt, path, &error);
             Err(Outcome::Refused(70))
         }
     }
@@ -211,20 +211,20 @@ fn make_store<D: Databases>(
     rt: &HostRuntime,
     dbs: &D,
     alloc: Global,
-    words: NodeWords<'_, '_, '_>,
+    arguments: NodeArguments<'_, '_, '_>,
     found: Found,
 ) -> Result<Connection<FileStore<File>>, Outcome>
     ensures refused { IfErr result IsUnmade }
     ensures held { IfOk result (λ c.
-        D.holds dbs.now words.entry.store.now (state ⟦<FileStore<File> as Store>⟧ c).now
+        D.holds dbs.now arguments.entry.store.now (state ⟦<FileStore<File> as Store>⟧ c).now
         (state ⟦<FileStore<File> as Store>⟧ c).in_transaction) }
 {
-    match make_file(rt, words.store, found) {
+    match make_file(rt, arguments.store, found) {
         Ok(()) => {}
         Err(outcome) => return Err(outcome),
     }
-    match try_sockets(rt, alloc, words) {
-        Ok(()) => open_file(rt, dbs, words.store),
+    match try_sockets(rt, alloc, arguments) {
+        Ok(()) => open_file(rt, dbs, arguments.store),
         Err(outcome) => Err(outcome),
     }
 }
@@ -245,25 +245,25 @@ fn open_store<D: Databases>(
     rt: &HostRuntime,
     dbs: &D,
     alloc: Global,
-    words: NodeWords<'_, '_, '_>,
+    arguments: NodeArguments<'_, '_, '_>,
     found: Found,
 ) -> Result<Connection<FileStore<File>>, Outcome>
-    ensures refused { IfErr result (IsStoreless words.entry.is_from_file words.entry.is_new) }
+    ensures refused { IfErr result (IsStoreless arguments.entry.is_from_file arguments.entry.is_new) }
     ensures kind { IfErr result IsRefusal }
     ensures at { IfOk result (λ c.
-        D.holds dbs.now words.entry.store.now (state ⟦<FileStore<File> as Store>⟧ c).now
+        D.holds dbs.now arguments.entry.store.now (state ⟦<FileStore<File> as Store>⟧ c).now
         (state ⟦<FileStore<File> as Store>⟧ c).in_transaction) }
-    ensures lost { words.entry.is_from_file ≡ true → words.entry.is_new ≡ false →
+    ensures lost { arguments.entry.is_from_file ≡ true → arguments.entry.is_new ≡ false →
         (found ≡ Found.Nothing) ⊎ (found ≡ Found.Empty) → result ≡ Err (Refused NO_STORE) }
-    ensures held { words.entry.is_new ≡ true → found ≡ Found.Store → result ≡ Err (Refused FILE_IS_THERE) }
+    ensures held { arguments.entry.is_new ≡ true → found ≡ Found.Store → result ≡ Err (Refused FILE_IS_THERE) }
     ensures none { result ≡ Err (Refused NO_STORE) → IsNone found }
     ensures unfailed { OnErr result (result ≢ Err (Refused 80)) }
 {
-    match opening_of(words.is_from_file, words.is_new, found) {
-        Opening::Opens => open_file(rt, dbs, words.store),
-        Opening::Makes => make_store(rt, dbs, alloc, words, found),
+    match opening_of(arguments.is_from_file, arguments.is_new, found) {
+        Opening::Opens => open_file(rt, dbs, arguments.store),
+        Opening::Makes => make_store(rt, dbs, alloc, arguments, found),
         Opening::Refuses(code) => {
-            say_storeless(rt, words.store, code);
+            log_storeless(rt, arguments.store, code);
             Err(Outcome::Refused(code))
         }
     }
@@ -297,21 +297,21 @@ pub(crate) fn record_at<D: Databases>(
     rt: &HostRuntime,
     dbs: &D,
     alloc: Global,
-    words: NodeWords<'_, '_, '_>,
+    arguments: NodeArguments<'_, '_, '_>,
     m: Membership,
     found: Found,
 ) -> Result<SqlRecords<FileStore<File>>, Outcome>
     ensures members { IfOk result (λ r. ⟦<SqlRecords<FileStore<File>> as Records>⟧.members r ≡ m.members) }
     ensures begins { IfOk result (λ r. ⟦<SqlRecords<FileStore<File>> as Records>⟧.failed r ≡ 0) }
-    ensures rows { IfOk result (λ r. IsKept (D.holds dbs.now words.entry.store.now)
+    ensures rows { IfOk result (λ r. IsKept (D.holds dbs.now arguments.entry.store.now)
         (state ⟦<FileStore<File> as Store>⟧ (connection_of r))
         (λ f db. IsOpened ⟦<FileStore<File> as Store>⟧ r (record_at f db.trees))) }
-    ensures refused { IfErr result (IsStoreless words.entry.is_from_file words.entry.is_new) }
+    ensures refused { IfErr result (IsStoreless arguments.entry.is_from_file arguments.entry.is_new) }
     ensures kind { IfErr result IsRefusal }
     ensures none { result ≡ Err (Refused NO_STORE) → IsNone found }
     ensures unfailed { OnErr result (result ≢ Err (Refused 80)) }
 {
-    let conn = match open_store(rt, dbs, alloc, words, found) {
+    let conn = match open_store(rt, dbs, alloc, arguments, found) {
         Ok(conn) => conn,
         Err(outcome) => return Err(outcome),
     };
@@ -319,7 +319,7 @@ pub(crate) fn record_at<D: Databases>(
         Ok(records) => Ok(records),
         Err((fault, conn)) => {
             let mut conn = conn;
-            Err(untaken(rt, words.store, m, fault, &mut conn))
+            Err(untaken(rt, arguments.store, m, fault, &mut conn))
         }
     }
 }

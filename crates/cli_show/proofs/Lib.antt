@@ -1,7 +1,8 @@
 pub mod Opened
 mod Reading
 mod Naming
-mod Writing
+mod Misuse
+mod Rules
 pub mod TextsShown
 pub mod LogScripts
 pub mod Closing

@@ -1,9 +1,9 @@
 -- What a run of show writes.
-use Rattle.std.specs.Prelude.{◌≡◌, ◌⊎◌, ℕ, List, ◌++◌, Bool, true, false, Option, Some, None, codes, decimal}
+use Rattle.std.specs.Prelude.{◌≡◌, ◌⊎◌, ℕ, List, ◌++◌, Bool, true, false, Option, codes, decimal}
 use Rattle.std.specs.Io.KnownBytes.{Appends}
 use Rattle.cli_io.specs.declared.status.Status.{Status}
 use Rattle.cli_io.specs.declared.status.Status.TheVariants as status
-use Rattle.cli_io.specs.Written.{line, AppendsFront}
+use Rattle.cli_io.specs.Written.{line, AppendsFront, IsMisused}
 use Rattle.cli_show.specs.declared.outcome.Outcome.{Outcome}
 use Rattle.cli_show.specs.declared.outcome.Outcome.TheVariants.{Shown, Refused, Memory}
 
@@ -32,11 +32,8 @@ Wrote status.Failed outcome old new =
     AppendsFront old new (line (codes "memory")) ⊎ AppendsFront old new (text_of outcome)
 Wrote ended outcome old new = (ended ≡ ending outcome) × Appends old new (text_of outcome)
 
--- a run with an outcome wrote it; without one the arguments weren't understood, or it was out of memory
-abbrev pub Ran : Status → Option Outcome → Option (List ℕ) → Option (List ℕ) → Type 0
-Ran ended (Some outcome) old new = Wrote ended outcome old new
-Ran status.Done None old new = ⊥
-Ran status.Refused None old new = ⊥
-Ran status.Usage None old new = Unit {0}
-Ran status.Memory None old new = Appends old new (line (codes "memory"))
-Ran status.Failed None old new = Unit {0}
+-- A run of arguments that are understood wrote an outcome, or that it was out of memory. It is misused only where they
+-- aren't understood.
+abbrev pub Ran : (understood : Bool) → Status → (old new : Option (List ℕ)) → Type 0
+Ran true ended old new = (outcome : Outcome) × Wrote ended outcome old new
+Ran false ended old new = IsMisused ended old new

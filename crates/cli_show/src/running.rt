@@ -1,7 +1,8 @@
 //! A run of `show`.
 
-ghost use Rattle.std.specs.Prelude.{Option};
-ghost use Rattle.cli_show.specs.declared.outcome.Outcome.{Outcome};
+ghost use Rattle.std.specs.Prelude.{◌≡◌, is_some, map};
+ghost use Rattle.clap.specs.Words.{subcommand_rows_of};
+ghost use Rattle.cli_show.specs.Arguments.{is_show, are_understood};
 ghost use Rattle.cli_show.specs.Outcomes.{Ran};
 
 use crate::arguments::command;
@@ -99,25 +100,35 @@ fn outcome_of<RT: Databases + Files>(rt: &RT, alloc: Global, matches: &ArgMatche
     }
 }
 
+/// What is given with the subcommand `show`.
+fn given_in<'m, 'a>(matches: &'m ArgMatches<'a>) -> Option<&'m ArgMatches<'a>>
+    ensures { is_some result ≡ is_show (subcommand_rows_of matches.now) }
+{
+    match matches.subcommand() {
+        Some((name, inner)) => if name == "show" { Some(inner) } else { None },
+        None => None,
+    }
+}
+
 /// What the subcommand `show` asks for, the program's name first: what a node's store holds, which no node has open and
 /// which isn't changed. It is written as `show_store` has it, or `refused CODE`: the numbers of
 /// [`Closed`](crate::Closed), or 40 for arguments that don't go together. Other arguments are refused.
 pub fn run_show<S: AsStr, W: Write>(
     rt: &HostRuntime,
     alloc: Global,
-    words: &[S],
+    arguments: &[S],
     writer: &mut W,
 ) -> Status
-    ensures { (outcome : Option Outcome) × Ran result outcome (W.contents writer.old) (W.contents writer.new) }
+    ensures { Ran (are_understood (map S.text arguments.now)) result (W.contents writer.old) (W.contents writer.new) }
 {
     let Ok(command) = command(alloc) else {
         return out_of_memory(writer);
     };
-    let matches = match command.try_get_matches_from(words) {
+    let matches = match command.try_get_matches_from(arguments) {
         Ok(matches) => matches,
         Err(error) => return misused(alloc, &error, writer),
     };
-    match matches.subcommand_matches("show") {
+    match given_in(&matches) {
         Some(inner) => {
             let outcome = outcome_of(rt, alloc, inner);
             write_outcome(alloc, outcome, writer)

@@ -8,7 +8,7 @@ use Rattle.px_model.specs.World.{NodeState, started}
 use Rattle.px_records.specs.declared.records.Records.{Ghosts}
 use Rattle.px_wire.specs.Message.{Group, group}
 use Rattle.px_wire.specs.declared.membership.Membership.{Membership}
-use Rattle.px_replica.specs.Lives.{TraceEvent}
+use Rattle.px_replica.specs.Traces.{TraceEvent}
 use Rattle.px_transport.specs.Identities.{Identity, with_me}
 use Rattle.px_transport.specs.Loopback as loopback
 use Rattle.px_transport.specs.Loopback.{Looped}
@@ -19,8 +19,8 @@ use Rattle.px_transport.specs.Wiring as wiring
 use Rattle.px_transport.specs.Wiring.{WentSealed}
 use Rattle.px_transport.specs.declared.loopback.LoopbackWire.{LoopbackWire}
 use Rattle.px_transport.specs.declared.packet_wire.PacketWire.{PacketWire}
-use Rattle.node_loop.specs.Lives.{HostedRuns, HostedRunsAreLived, LivedOver}
-use Rattle.node_loop.specs.Living.{trace_of, AllFromMembers}
+use Rattle.node_loop.specs.Runs.{HostedRuns, HostedRunsAreTraces, TracedOver}
+use Rattle.node_loop.specs.Moves.{trace_of, AllFromMembers}
 use Rattle.node_loop.specs.declared.ended.Ended.{Ended}
 use Rattle.node_udp.specs.Members.{peers_of, me_of, route_of, socket_of}
 use Rattle.node_udp.specs.Sockets as sockets
@@ -45,13 +45,13 @@ AllRanSealed g keys s m first es trace end unanswered =
     (r : RanSealed g keys s m first es trace end unanswered) × (r.ran.ran.lost ≡ [])
 
 -- the trace of a run is that of a member that ran
-ran : {R : Type 0} (G : Ghosts R) (m : Membership) (given back : R) (es : List WireEvent) (l : LivedOver G m given back [] es) →
+ran : {R : Type 0} (G : Ghosts R) (m : Membership) (given back : R) (es : List WireEvent) (l : TracedOver G m given back [] es) →
     AllRan (group m) m.me (G.stored given) es (trace_of l.moves) l.then (given_in l.last)
 ran G m given back es l = (
   record {
     moves = l.moves;
     does = refl;
-    lived = l.lived;
+    traced = l.traced;
     up = l.up;
     hears = l.hears;
     are = l.are;
@@ -70,7 +70,7 @@ idle g m first es none = (
   record {
     moves = [];
     does = refl;
-    lived = refl;
+    traced = refl;
     up = refl;
     hears = false;
     are = tt;
@@ -97,11 +97,11 @@ record RunsOver {R : Type 0} (G : Ghosts R) (m : Membership) (hears : Bool) (giv
   pub leaves : Leaves G m back end unanswered
   pub members : hears ≡ false → AllFromMembers trace
 
-runs_over : {R : Type 0} (G : Ghosts R) → Settles G → HostedRunsAreLived G → (m : Membership) (hears : Bool) (given back : R)
+runs_over : {R : Type 0} (G : Ghosts R) → Settles G → HostedRunsAreTraces G → (m : Membership) (hears : Bool) (given back : R)
     (es : List WireEvent) (ended : Ended) → G.is_honest back → G.failed given ≡ 0 → HostedRuns G m hears given [] es ended back →
     RunsOver G m hears given back es
-runs_over G settles law m hears given back es ended honest fresh (inr life) =
-    let over = law m given back [] es hears ended honest life in
+runs_over G settles law m hears given back es ended honest fresh (inr run) =
+    let over = law m given back [] es hears ended honest run in
     let l = over.0 in record {
       trace = trace_of l.moves;
       end = l.then;
@@ -142,7 +142,7 @@ above g m first below w es trace end unanswered looped me r =
     )
 
 -- at the socket
-pub runs_at : {R S C : Type 0} (G : Ghosts R) (H : socket.Ghosts S) → Settles G → HostedRunsAreLived G → (m : Membership) (hears : Bool)
+pub runs_at : {R S C : Type 0} (G : Ghosts R) (H : socket.Ghosts S) → Settles G → HostedRunsAreTraces G → (m : Membership) (hears : Bool)
     (given back : R) (ended : Ended) (wire : UdpWire S C) → G.is_honest back → G.failed given ≡ 0 →
     WentLooped (λ (u : UdpWire S C). WentOver (H.traffic (socket_of u)) u) m.me wire (λ es. HostedRuns G m hears given [] es ended back) →
     (events : List SocketEvent) × H.traffic (socket_of wire) events ×
@@ -177,7 +177,7 @@ runs_at {R} {S} {C} G H settles law m hears given back ended wire honest fresh (
     )
 
 -- the same with a key
-pub runs_sealed : {R S C D : Type 0} (G : Ghosts R) (H : socket.Ghosts S) → Settles G → CallsAreSteps → HostedRunsAreLived G →
+pub runs_sealed : {R S C D : Type 0} (G : Ghosts R) (H : socket.Ghosts S) → Settles G → CallsAreSteps → HostedRunsAreTraces G →
     (m : Membership) (hears : Bool) (given back : R) (ended : Ended) (wire : PacketWire (UdpWire S C) D) → G.is_honest back → G.failed given ≡ 0 →
     WentLooped (λ (p : PacketWire (UdpWire S C) D). WentSealed (WentOver (H.traffic (socket_of (wiring.inner_of p))) (wiring.inner_of p)) p)
     m.me wire (λ es. HostedRuns G m hears given [] es ended back) →

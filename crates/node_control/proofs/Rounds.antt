@@ -13,11 +13,11 @@ use Rattle.node_loop.specs.Hosting.{Hosted}
 use Rattle.node_loop.specs.Resends.{kept_of, requests_of}
 use Rattle.node_loop.specs.Timing.{TimerEvent, MakesTurns, WorksOff, looks_in}
 use Rattle.node_loop.specs.Turns.{Stand, Served, standing}
-use Rattle.node_loop.specs.declared.room.Room.{Room}
+use Rattle.node_loop.specs.declared.turn_buffers.TurnBuffers.{TurnBuffers}
 use Rattle.node_loop.proofs.Chains.{same_is, served_none, served_then}
 use Rattle.node_loop.proofs.Hosting.{hosted_then, hosted_served}
 use Rattle.node_loop.proofs.Looking.{makes_then}
-use Rattle.node_loop.specs.Lives.{Buffers, new_buffers, stands, Tells, HostTells, Serves, Hosts, OnFront}
+use Rattle.node_loop.specs.Runs.{Buffers, new_buffers, stands, Tells, HostTells, Serves, Hosts, OnFront}
 use Rattle.node_loop.specs.declared.ended.Ended.{Ended}
 use Rattle.node_loop.specs.declared.running.Progress.{Progress}
 use Rattle.node_control.specs.declared.control.ControlSocket.{ControlSocket}
@@ -29,9 +29,9 @@ use Rattle.node_requests.specs.declared.counters.Counters.{Counters}
 use Rattle.node_requests.specs.declared.handler.RequestHandler.{RequestHandler}
 
 -- nothing was asked, and nothing went over the wire
-pub still : {R : Type 0} {G : Ghosts R} (s t : RequestHandler R G) (es : List WireEvent) (room : Room) → t ≡ s →
-    Served (standing s.node es room) (standing t.node es room) None
-still {R} {G} s t es room e =
+pub still : {R : Type 0} {G : Ghosts R} (s t : RequestHandler R G) (es : List WireEvent) (buffers : TurnBuffers) → t ≡ s →
+    Served (standing s.node es buffers) (standing t.node es buffers) None
+still {R} {G} s t es buffers e =
     served_none _ _ (record {
       replica = ap (λ (d : RequestHandler R G). replica_of d.node) e;
       traffic = refl;
@@ -41,11 +41,11 @@ still {R} {G} s t es room e =
     })
 
 -- a run begins so, with new buffers
-begins : {R : Type 0} {G : Ghosts R} (x s : Node R G) (es : List WireEvent) (room : Room) (hears : Bool) → x ≡ s →
-    kept_of room.resender ≡ [] → requests_of room.resender ≡ [] → room.hears_asks ≡ hears →
-    standing x es room ≡ stands s es (new_buffers hears)
-begins {R} {G} x s es room hears e k q h =
-    same_is (stands s es (new_buffers hears)) (standing x es room) (record {
+begins : {R : Type 0} {G : Ghosts R} (x s : Node R G) (es : List WireEvent) (buffers : TurnBuffers) (hears : Bool) → x ≡ s →
+    kept_of buffers.resender ≡ [] → requests_of buffers.resender ≡ [] → buffers.hears_asks ≡ hears →
+    standing x es buffers ≡ stands s es (new_buffers hears)
+begins {R} {G} x s es buffers hears e k q h =
+    same_is (stands s es (new_buffers hears)) (standing x es buffers) (record {
       replica = ap (λ (n : Node R G). replica_of n) e;
       traffic = refl;
       kept = k;
@@ -53,8 +53,8 @@ begins {R} {G} x s es room hears e k q h =
       hears = h;
     })
 
-abbrev left_in : Room → Buffers
-left_in room = record { kept = kept_of room.resender; requests = requests_of room.resender; hears_asks = room.hears_asks }
+abbrev left_in : TurnBuffers → Buffers
+left_in buffers = record { kept = kept_of buffers.resender; requests = requests_of buffers.resender; hears_asks = buffers.hears_asks }
 
 -- one thing behind the other
 pub hosted_over : {R : Type 0} {G : Ghosts R} (o m n : List WireEvent → Type 0) (x y z : List WireEvent → Stand G)
@@ -86,7 +86,7 @@ pub turns_then : {R D : Type 0} {G : Ghosts R} (o m n : List WireEvent → Type 
 turns_then o m n x y z a d e (before, none) more = (over_then o m n x y z a before (more none).0, (more none).1)
 
 -- a run between two nodes that are these
-pub hosts : {R : Type 0} {G : Ghosts R} (x y s t : Node R G) (w v : List WireEvent) (first last : Room) (hears : Bool)
+pub hosts : {R : Type 0} {G : Ghosts R} (x y s t : Node R G) (w v : List WireEvent) (first last : TurnBuffers) (hears : Bool)
     (a : Option NodeFault) (ended : Ended) → x ≡ s → t ≡ y →
     kept_of first.resender ≡ [] → requests_of first.resender ≡ [] → first.hears_asks ≡ hears →
     Hosted (standing x w first) (standing y v last) a → HostTells (front (learned_by t)) (applied_of t) a ended →
@@ -99,7 +99,7 @@ hosts {R} {G} x y s t w v first last hears a ended e f k q h hosted reported = r
   reported = reported;
 }
 
-pub serves : {R : Type 0} {G : Ghosts R} (x y s t : Node R G) (w v : List WireEvent) (first last : Room) (hears : Bool)
+pub serves : {R : Type 0} {G : Ghosts R} (x y s t : Node R G) (w v : List WireEvent) (first last : TurnBuffers) (hears : Bool)
     (a : Option NodeFault) (ended : Ended) → x ≡ s → t ≡ y →
     kept_of first.resender ≡ [] → requests_of first.resender ≡ [] → first.hears_asks ≡ hears →
     Served (standing x w first) (standing y v last) a → Tells (front (learned_by t)) (applied_of t) a ended →

@@ -7,7 +7,7 @@ use Rattle.px_model.specs.World.{NodeState, started}
 use Rattle.px_records.specs.declared.records.Records.{Ghosts}
 use Rattle.px_wire.specs.Message.{Group, group}
 use Rattle.px_wire.specs.declared.membership.Membership.{Membership}
-use Rattle.px_replica.specs.Lives.{TraceEvent, Lived}
+use Rattle.px_replica.specs.Traces.{TraceEvent, Traced}
 use Rattle.px_transport.specs.Wires.{WireEvent, given_in, handed_in, hands}
 use Rattle.px_transport.specs.Loopback as loopback
 use Rattle.px_transport.specs.Loopback.{Loop, IsQueue}
@@ -15,7 +15,7 @@ use Rattle.px_transport.specs.Sending.{Sealer}
 use Rattle.px_transport.specs.Steps as steps
 use Rattle.px_transport.specs.Steps.{Step, AreSteps}
 use Rattle.node_loop.specs.Again.{AreAmong}
-use Rattle.node_loop.specs.Living.{Move, LeavesThere, trace_of, events_of, sent_by, AllFromMembers, AreMoves}
+use Rattle.node_loop.specs.Moves.{Move, LeavesThere, trace_of, events_of, sent_by, AllFromMembers, AreMoves}
 use Rattle.node_udp.specs.Members.{route_of}
 use Rattle.node_udp.specs.Sockets as sockets
 use Rattle.node_udp.specs.Sockets.{SocketEvent, Passage, IsSound}
@@ -27,14 +27,14 @@ use Rattle.node_udp.specs.declared.address.Address.{Address}
 -- So a run that is killed is one, too, wherever that happens. If it was in a call, what came for the call is
 -- unanswered, and it left of the record what a stop may leave. If it was after a call, before all that this sends was
 -- handed over, the rest is lost. Each layer below is a list of steps up to then, so a prefix of it is one: a datagram
--- of which some packets were put is taken, and its other packets are no steps; one that the wire wasn't
+-- of which some packets were put counts as sent, and its other packets are no steps; one that the wire wasn't
 -- handed yet is lost here; and what the wire kept of the member's own is what it keeps then. A packet that came when
 -- nothing was made of it yet is given, and unanswered.
 pub record Ran (g : Group) (m : ℕ) (first : Record Bytes) (events : List WireEvent) (trace : List TraceEvent)
     (end : NodeState Bytes) (unanswered : List Bytes) : Type 0 where
   pub moves : List Move
   pub does : trace ≡ trace_of moves
-  pub lived : Lived g m (started first) (trace_of moves) end
+  pub traced : Traced g m (started first) (trace_of moves) end
   pub up : end.is_up ≡ true
   pub hears : Bool
   pub are : AreMoves g m hears moves [] []

@@ -4,7 +4,7 @@ ghost use Rattle.std.specs.Prelude.{◌≡◌, ◌<◌, [], List, None, IfSome, 
 ghost use Rattle.pf_scripts.specs.Lines.{spaced};
 ghost use Rattle.px_transport.specs.Wires.{WireEvent};
 ghost use Rattle.px_transport.specs.Wiring.{WentSealed, inner_of, keys_of, sealer_of};
-ghost use Rattle.node_loop.specs.Lives.{HostedRuns, OnFront, Runs};
+ghost use Rattle.node_loop.specs.Runs.{HostedRuns, OnFront, Runs};
 ghost use Rattle.node_loop.specs.Timing.{MakesTurns};
 ghost use Rattle.node_udp.specs.Addresses.{shown_address};
 ghost use Rattle.node_udp.specs.Members.{me_of, peers_of, route_of, socket_of};
@@ -15,7 +15,7 @@ ghost use Rattle.node_control.specs.inner.Looping.{WentLooped};
 
 use crate::member::{ControlPlace, run_member};
 use crate::observer::Observer;
-use node_loop::run_laws::hosted_runs_are_lived;
+use node_loop::run_laws::hosted_runs_are_traces;
 use node_loop::{Ended, Membership, Timer, Wire};
 use node_udp::{Socket, UdpWire};
 use px_records::Records;
@@ -95,7 +95,7 @@ where
         Runs R.Records m records [] events result.0 result.1 }
     ensures made { OnFront result.0 (MakesTurns turns (T.timer_events timer.old) (T.timer_events timer.new)) }
 {
-    hosted_runs_are_lived::<R>();
+    hosted_runs_are_traces::<R>();
     run_over(
         rt, alloc, m, records, wire, timer, observer, hears_asks, place, turns,
     )
@@ -139,7 +139,7 @@ where
     ensures same { (keys_of result.2 ≡ keys_of wire) × (sealer_of result.2 ≡ sealer_of wire) }
 {
     calls_are_steps();
-    hosted_runs_are_lived::<R>();
+    hosted_runs_are_traces::<R>();
     run_over(
         rt, alloc, m, records, wire, timer, observer, hears_asks, place, turns,
     )

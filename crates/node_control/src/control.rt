@@ -1,21 +1,22 @@
 //! The control socket: a Unix socket, for figures alone a TCP port too, and the clients of both.
 
 ghost use Rattle.std.specs.Prelude.{◌≡◌, ◌<◌, ◌&&◌, length, nat_le, not, true, Some, None, unwrap_or, if◌then◌else◌};
-ghost use Rattle.std.specs.Prelude.{⊤, ℕ, List, Bool, false, IfSome, slice_get};
+ghost use Rattle.std.specs.Prelude.{⊤, ℕ, List, Bool, false, IfOk, IfSome, is_none, slice_get};
 ghost use Rattle.http_server.specs.Exchange.{Calls};
 ghost use Rattle.node_requests.specs.Health.{health};
 ghost use Rattle.std.specs.List.{list_any};
 ghost use Rattle.node_loop.specs.Hosting.{AsksUpTo};
 ghost use Rattle.node_control.specs.declared.client.Client.{Client};
-ghost use Rattle.node_control.specs.declared.control.TheConstants.{CHANGES};
+ghost use Rattle.node_control.specs.declared.control.TheConstants.{CHANGES, CLIENTS, FIGURE_CLIENTS};
 ghost use Rattle.node_control.specs.inner.Clients.{earliest, has_room, most_silent, without};
-ghost use Rattle.node_control.specs.inner.Ending.{has_more, has_more_to_send};
+ghost use Rattle.node_control.specs.inner.Ending.{client_count, has_more, has_more_to_send};
+ghost use Rattle.node_control.specs.inner.Ending.{IsOpened, IsUnused, KeepsClients};
 ghost use Rattle.node_control.specs.inner.Handling.{IsKept};
 ghost use Rattle.node_control.specs.inner.Runs.{AsksWithin, ServesFigures};
 ghost use Rattle.node_control.specs.inner.Serving.{calls_of};
 
 use crate::client::{Client, Look};
-use crate::noting::say;
+use crate::logging::log_health;
 use crate::service::HttpService;
 use crate::stream::{Listener, Stream};
 use http_server::Service;
@@ -54,7 +55,7 @@ const START: u64 = 3;
 const EVENTS: usize = 16;
 
 /// The mode of the folder in which the socket is made, and that of the socket.
-const ROOM_MODE: u32 = 0o700;
+const FOLDER_MODE: u32 = 0o700;
 
 const SOCKET_MODE: u32 = 0o660;
 
@@ -156,15 +157,15 @@ fn free<P: SocketPaths>(paths: &P, path: &str) -> bool
     paths.clear(path)
 }
 
-/// A socket at `inner`, in the folder `room`, to which its owner and its group may connect, is put at the path, where
+/// A socket at `inner`, in the folder `folder`, to which its owner and its group may connect, is put at the path, where
 /// nothing may be.
 fn bind_at<RT: Files + Net>(
     rt: &RT,
-    room: &str,
+    folder: &str,
     inner: &str,
     path: &str,
 ) -> io::Result<UnixListener> {
-    fs::set_permissions(rt, room, Permissions::from_mode(ROOM_MODE))?;
+    fs::set_permissions(rt, folder, Permissions::from_mode(FOLDER_MODE))?;
     let listener = UnixListener::bind(rt, inner)?;
     listener.set_nonblocking(true)?;
     fs::set_permissions(rt, inner, Permissions::from_mode(SOCKET_MODE))?;
@@ -181,24 +182,24 @@ fn is_folder<RT: Files>(rt: &RT, path: &str) -> bool {
 }
 
 /// Takes the folder away in which a socket was made, and the socket's name there.
-fn leave_room<RT: Files>(rt: &RT, room: &str, inner: &str) {
+fn remove_folder<RT: Files>(rt: &RT, folder: &str, inner: &str) {
     let _gone = fs::remove_file(rt, inner);
-    let _gone = fs::remove_dir(rt, room);
+    let _gone = fs::remove_dir(rt, folder);
 }
 
 /// The listening socket at the path, which doesn't wait. Whatever the umask is, its owner and its group may connect,
 /// and nobody before that is so: it is made in a folder of its own, `PATH.d`, where only its owner comes.
 fn listen<RT: Files + Net>(rt: &RT, alloc: Global, path: &str) -> io::Result<Listener> {
-    let room = format!(in alloc; "{path}.d")?;
+    let folder = format!(in alloc; "{path}.d")?;
     let inner = format!(in alloc; "{path}.d/s")?;
-    let (room, inner) = (room.as_str(), inner.as_str());
+    let (folder, inner) = (folder.as_str(), inner.as_str());
     // a node that was killed meanwhile left one
-    if is_folder(rt, room) {
-        leave_room(rt, room, inner);
+    if is_folder(rt, folder) {
+        remove_folder(rt, folder, inner);
     }
-    DirBuilder::new().mode(ROOM_MODE).create(rt, room)?;
-    let listener = bind_at(rt, room, inner, path);
-    leave_room(rt, room, inner);
+    DirBuilder::new().mode(FOLDER_MODE).create(rt, folder)?;
+    let listener = bind_at(rt, folder, inner, path);
+    remove_folder(rt, folder, inner);
     Ok(Listener::Local(listener?))
 }
 
@@ -239,7 +240,9 @@ impl Entrance {
         keys: RandomState,
         listener: Listener,
         most: usize,
-    ) -> Result<Entrance, AllocError> {
+    ) -> Result<Entrance, AllocError>
+        ensures { IfOk result (IsUnused most) }
+    {
         let clients = Vec::with_capacity(alloc, most.saturating_add(1))?;
         Ok(Entrance {
             listener,
@@ -419,7 +422,7 @@ impl Entrance {
 }
 
 impl ControlSocket {
-    /// Opens the control socket at a path, where a socket that a node left which is gone is taken away first; and a
+    /// Opens the control socket at a path, where a socket left by a node that ended is removed first; and a
     /// port at which figures alone are served, where one is asked for.
     ///
     /// `NoPort` (82) where the system refuses the port. `NoSocket` (84) where another node answers at the path, where
@@ -434,6 +437,7 @@ impl ControlSocket {
     ) -> Result<ControlSocket, ControlFault>
     where
         RT: Files + Net<Listener = TcpListener, Stream = TcpStream>,
+        ensures { IfOk result (IsOpened figures) }
     {
         let Ok(poll) = Poll::new(rt) else {
             return Err(ControlFault::NoSocket);
@@ -460,12 +464,16 @@ impl ControlSocket {
     }
 
     /// Has a wait end when a datagram comes at this socket, too. Whether the system does that.
-    pub fn watch(&mut self, fd: RawFd) -> bool {
+    pub fn watch(&mut self, fd: RawFd) -> bool
+        ensures { self.new ≡ self.old }
+    {
         watch(&self.poll, fd).is_ok()
     }
 
     /// How many operators are served now.
-    pub fn clients(&self) -> usize {
+    pub fn clients(&self) -> usize
+        ensures { result ≡ client_count self.now }
+    {
         self.operators.clients.len()
     }
 
@@ -477,7 +485,9 @@ impl ControlSocket {
     }
 
     /// Waits until something comes, at most n milliseconds.
-    pub fn wait(&mut self, milliseconds: u32) {
+    pub fn wait(&mut self, milliseconds: u32)
+        ensures { KeepsClients self.old self.new }
+    {
         if milliseconds == 0 {
             return;
         }
@@ -502,14 +512,14 @@ impl ControlSocket {
         Some(health)
     }
 
-    /// Says on standard error that the node's health has changed, if it has.
+    /// Logs on standard error that the node's health has changed, if it has.
     pub(crate) fn note<R: Records, RT: Clock + Eprint>(
         &mut self,
         rt: &RT,
         service: &HttpService<R>,
     ) {
         if let Some(health) = self.changed(service) {
-            say(rt, service, health);
+            log_health(rt, service, health);
         }
     }
 
@@ -583,7 +593,9 @@ fn open_path<RT: Files + Net>(
     keys: RandomState,
     poll: &Poll,
     path: &str,
-) -> Result<Entrance, ControlFault> {
+) -> Result<Entrance, ControlFault>
+    ensures { IfOk result (IsUnused CLIENTS) }
+{
     if !free(rt, path) {
         return Err(ControlFault::NoSocket);
     }
@@ -614,6 +626,7 @@ fn open_figures<RT>(
 ) -> Result<Option<Entrance>, ControlFault>
 where
     RT: Net<Listener = TcpListener, Stream = TcpStream>,
+    ensures { IfOk result (λ found. (is_none found ≡ is_none address) × IfSome found (IsUnused FIGURE_CLIENTS)) }
 {
     let Some(address) = address else {
         return Ok(None);

@@ -25,7 +25,8 @@ const POSITIONS: u32 = 1_000_000;
 const MEMBERS: usize = 15;
 
 /// What is to be looked at where others aren't heard.
-const ADVICE: &str = "Do they run, and have all the same key, cluster and list of members?";
+const ADVICE: &str =
+    "Check that they run, and that all have the same key, cluster and list of members.";
 
 /// Warns once on standard error when, for ten seconds, valid datagrams have come from too few members to form a
 /// majority with this one; and reports when a majority is heard again. So a node whose key, cluster, number or list of
@@ -120,15 +121,15 @@ impl Hearing {
     }
 
     /// Writes that a majority is heard no longer, or again.
-    fn say_majority<RT: Eprint>(&mut self, rt: &RT, now: u64)
+    fn log_majority<RT: Eprint>(&mut self, rt: &RT, now: u64)
         ensures { self.new ≡ judged now self.old }
     {
         match self.judge(now) {
             Said::Nothing => {}
             Said::Alone(heard) => {
-                let _said = eprintln!(rt;
+                let _logged = eprintln!(rt;
                     "pfx: warning: node {} has heard {} of {} other members for {} seconds, no majority; {} datagrams \
-                     came that aren't theirs. {}",
+                     received aren't theirs. {}",
                     self.m.me(),
                     heard,
                     self.m.members().saturating_sub(1),
@@ -138,7 +139,10 @@ impl Hearing {
                 );
             }
             Said::Again => {
-                let _said = eprintln!(rt; "pfx: info: node {} hears a majority again", self.m.me());
+                let _logged = eprintln!(rt;
+                    "pfx: info: node {} hears a majority again",
+                    self.m.me()
+                );
             }
         }
     }
@@ -156,13 +160,13 @@ impl Hearing {
     }
 
     /// Writes, once, that others are at a position near the end of the log.
-    fn say_end<RT: Eprint>(&mut self, rt: &RT, head: &Head)
+    fn log_end<RT: Eprint>(&mut self, rt: &RT, head: &Head)
         ensures { self.new ≡ with_end head.now self.old }
     {
         if self.nears_end(head) {
             let position = head.position.unwrap_or(0);
-            let _said = eprintln!(rt;
-                "pfx: warning: node {} hears of position {}: {} are left in the log, make a successor",
+            let _logged = eprintln!(rt;
+                "pfx: warning: node {} hears of position {}: {} are left in the log; set up a successor",
                 self.m.me(),
                 position,
                 POSITIONS.saturating_sub(position)
@@ -202,10 +206,10 @@ impl Hearing {
         let others = u64::from(counts.came).saturating_sub(known);
         self.others = self.others.saturating_add(others);
         for head in heads {
-            self.say_end(rt, head);
+            self.log_end(rt, head);
             self.note(head, now);
         }
-        self.say_majority(rt, now);
+        self.log_majority(rt, now);
     }
 
     /// Whether it is to be written that the node has caught up, since it lacked for long what others have. Since when
@@ -232,7 +236,7 @@ impl Hearing {
         ensures { self.new ≡ with_lack is_lacking now self.old }
     {
         if self.catches_up(is_lacking, now) {
-            let _said = eprintln!(rt; "pfx: info: node {} has caught up", self.m.me());
+            let _logged = eprintln!(rt; "pfx: info: node {} has caught up", self.m.me());
         }
     }
 }

@@ -4,7 +4,7 @@ ghost use Rattle.std.specs.Prelude.{◌≡◌, ◌<◌, [], None, Ok, IfErr, opt
 ghost use Rattle.px_model.specs.Step.{front};
 ghost use Rattle.pf_node.specs.Nodes.{learned_by, applied_of, membership_of};
 ghost use Rattle.px_transport.specs.Wires.{Moves};
-ghost use Rattle.node_loop.specs.Lives.{HostedRuns, Hosts, OnFront, Runs, Serves};
+ghost use Rattle.node_loop.specs.Runs.{HostedRuns, Hosts, OnFront, Runs, Serves};
 ghost use Rattle.node_loop.specs.Timing.{MakesTurns};
 ghost use Rattle.node_control.specs.Observers.{HasSeenNothing};
 ghost use Rattle.node_control.specs.inner.Runs.{IsSocketless, ended_as};
@@ -13,7 +13,7 @@ use crate::control::{ControlFault, ControlSocket};
 use crate::observer::Observer;
 use crate::running::pass_on;
 use crate::service::HttpService;
-use node_loop::{Ended, Membership, NodeFault, Room, SystemClock, Timer, Wire};
+use node_loop::{Ended, Membership, NodeFault, SystemClock, Timer, TurnBuffers, Wire};
 use pf_node::Node;
 use px_records::Records;
 use std::alloc::Global;
@@ -125,7 +125,7 @@ fn run_node<R: Records, W: Wire, T: Timer, RT: Clock + Eprint>(
     let Ok(counters) = observer.first_counters(alloc, members) else {
         return (Ended::Fault(NodeFault::Memory), node);
     };
-    let Ok(mut room) = Room::new(alloc, &node.membership(), hears_asks) else {
+    let Ok(mut buffers) = TurnBuffers::new(alloc, &node.membership(), hears_asks) else {
         return (Ended::Fault(NodeFault::Memory), node);
     };
     let mut service = HttpService::new(alloc, node, counters);
@@ -135,7 +135,7 @@ fn run_node<R: Records, W: Wire, T: Timer, RT: Clock + Eprint>(
         &mut service,
         wire,
         observer,
-        &mut room,
+        &mut buffers,
         control,
         timer,
         &mut clock,

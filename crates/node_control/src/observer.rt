@@ -353,7 +353,7 @@ impl Observer {
     }
 
     /// Tells what was counted of the other members.
-    fn tell_peers(&self, peers: &mut Vec<PeerCounters>)
+    fn report_peers(&self, peers: &mut Vec<PeerCounters>)
         ensures { length peers.old.items ≡ length self.entry.now.rows.items →
             peers.new.items ≡ map (reported self.entry.now.now) self.entry.now.rows.items }
     {
@@ -385,7 +385,7 @@ impl Observer {
         if made.wait == 0 && made.turns > self.came {
             counters.ticks = counters.ticks.saturating_add(1);
         }
-        self.tell_peers(&mut counters.peers);
+        self.report_peers(&mut counters.peers);
     }
 
     /// Counts a datagram of a member, with the position that it shows.

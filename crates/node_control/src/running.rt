@@ -20,7 +20,7 @@ ghost use Rattle.node_control.specs.inner.Runs.{AsksAfterTurns, Finishes, MakesR
 use crate::control::ControlSocket;
 use crate::observer::Observer;
 use crate::service::HttpService;
-use node_loop::{NodeFault, Room, Stopwatch, Timer, Wire, finish, microseconds, round};
+use node_loop::{NodeFault, Stopwatch, Timer, TurnBuffers, Wire, finish, microseconds, round};
 use px_records::Records;
 use std::io::Eprint;
 use std::time::{Clock, Instant};
@@ -64,25 +64,25 @@ fn pass<R: Records, W: Wire, T: Timer, RT: Clock + Eprint>(
     service: &mut HttpService<R>,
     wire: &mut W,
     observer: &mut Observer,
-    room: &mut Room,
+    buffers: &mut TurnBuffers,
     control: &mut Option<ControlSocket>,
     timer: &mut T,
     now: u64,
 ) -> Result<u32, NodeFault>
     ensures hosted { Moves (W.traffic wire.old) (W.traffic wire.new)
-        (λ es es'. Hosted (standing service.old.handler.node es room.old)
-        (standing service.new.handler.node es' room.new) (fault_of result)) }
+        (λ es es'. Hosted (standing service.old.handler.node es buffers.old)
+        (standing service.new.handler.node es' buffers.new) (fault_of result)) }
     ensures turns { control.old ≡ None → Moves (W.traffic wire.old) (W.traffic wire.new)
-        (λ es es'. Served (standing service.old.handler.node es room.old)
-        (standing service.new.handler.node es' room.new) (fault_of result)) × (control.new ≡ None) }
+        (λ es es'. Served (standing service.old.handler.node es buffers.old)
+        (standing service.new.handler.node es' buffers.new) (fault_of result)) × (control.new ≡ None) }
     ensures asked { OnOk result (Moves (W.traffic wire.old) (W.traffic wire.new)
-        (λ es es'. AsksAfterTurns 8 (standing service.old.handler.node es room.old)
-        (standing service.new.handler.node es' room.new))) }
+        (λ es es'. AsksAfterTurns 8 (standing service.old.handler.node es buffers.old)
+        (standing service.new.handler.node es' buffers.new))) }
     ensures few { IfOk result (λ turns. turns ≤ 65) }
     ensures looks { OnOk result (LooksTimes 1 (T.timer_events timer.old) (T.timer_events timer.new)) }
     ensures at { OnOk result (LooksAt (now ∷ []) (T.timer_events timer.old) (T.timer_events timer.new)) }
-    ensures seen { OnOk result (seen_of observer.new ≡ listened (T.listens timer.new now) (heads_in room.new)
-        (counts_in room.new) (counted (heads_in room.new) (counts_in room.new)
+    ensures seen { OnOk result (seen_of observer.new ≡ listened (T.listens timer.new now) (heads_in buffers.new)
+        (counts_in buffers.new) (counted (heads_in buffers.new) (counts_in buffers.new)
         (begun now (front (learned_by service.old.handler.node))
         (nat_lt 0 (length (state_in service.old.handler.node).volatile.waiting)) (seen_of observer.old)))) }
     ensures shown { IfOk result (λ turns. (made : Progress) × (made.turns ≡ turns) × (counters : Counters)
@@ -95,14 +95,14 @@ fn pass<R: Records, W: Wire, T: Timer, RT: Clock + Eprint>(
         service.handler.node.front(),
         service.handler.node.waiting() > 0,
     );
-    let made = match round(&mut service.handler.node, wire, room, timer, now) {
+    let made = match round(&mut service.handler.node, wire, buffers, timer, now) {
         Ok(made) => made,
         Err(fault) => return Err(fault),
     };
-    observer.count(room.heads(), room.counts());
+    observer.count(buffers.heads(), buffers.counts());
     observer.tell(&mut service.counters, made);
     service.is_listening = timer.is_listening(now);
-    observer.hear(rt, room.heads(), room.counts(), service.is_listening);
+    observer.hear(rt, buffers.heads(), buffers.counts(), service.is_listening);
     if !serve(rt, service, control, now) {
         wait(wire, control, made.wait);
     }
@@ -126,7 +126,7 @@ fn passes<R: Records, W: Wire, T: Timer, S: Stopwatch, RT: Clock + Eprint>(
     service: &mut HttpService<R>,
     wire: &mut W,
     observer: &mut Observer,
-    room: &mut Room,
+    buffers: &mut TurnBuffers,
     control: &mut Option<ControlSocket>,
     timer: &mut T,
     clock: &mut S,
@@ -134,11 +134,11 @@ fn passes<R: Records, W: Wire, T: Timer, S: Stopwatch, RT: Clock + Eprint>(
     turns: u64,
 ) -> Result<bool, NodeFault>
     ensures hosted { Moves (W.traffic wire.old) (W.traffic wire.new)
-        (λ es es'. Hosted (standing service.old.handler.node es room.old)
-        (standing service.new.handler.node es' room.new) (fault_of result)) }
+        (λ es es'. Hosted (standing service.old.handler.node es buffers.old)
+        (standing service.new.handler.node es' buffers.new) (fault_of result)) }
     ensures turns { control.old ≡ None → Moves (W.traffic wire.old) (W.traffic wire.new)
-        (λ es es'. Served (standing service.old.handler.node es room.old)
-        (standing service.new.handler.node es' room.new) (fault_of result)) × (control.new ≡ None) }
+        (λ es es'. Served (standing service.old.handler.node es buffers.old)
+        (standing service.new.handler.node es' buffers.new) (fault_of result)) × (control.new ≡ None) }
     ensures made { IfOk result (λ is_stopped.
         MakesRounds is_stopped turns (T.timer_events timer.old) (T.timer_events timer.new)) }
     ensures timed { OnOk result (IsTimed start (S.readings clock.old) (S.readings clock.new)
@@ -161,7 +161,7 @@ fn passes<R: Records, W: Wire, T: Timer, S: Stopwatch, RT: Clock + Eprint>(
             service,
             wire,
             observer,
-            room,
+            buffers,
             control,
             timer,
             microseconds(clock, start),
@@ -179,18 +179,18 @@ pub(crate) fn pass_on<R: Records, W: Wire, T: Timer, S: Stopwatch, RT: Clock + E
     service: &mut HttpService<R>,
     wire: &mut W,
     observer: &mut Observer,
-    room: &mut Room,
+    buffers: &mut TurnBuffers,
     control: &mut Option<ControlSocket>,
     timer: &mut T,
     clock: &mut S,
     turns: u64,
 ) -> Result<bool, NodeFault>
     ensures hosted { Moves (W.traffic wire.old) (W.traffic wire.new)
-        (λ es es'. Hosted (standing service.old.handler.node es room.old)
-        (standing service.new.handler.node es' room.new) (fault_of result)) }
+        (λ es es'. Hosted (standing service.old.handler.node es buffers.old)
+        (standing service.new.handler.node es' buffers.new) (fault_of result)) }
     ensures turns { control.old ≡ None → Moves (W.traffic wire.old) (W.traffic wire.new)
-        (λ es es'. Served (standing service.old.handler.node es room.old)
-        (standing service.new.handler.node es' room.new) (fault_of result)) }
+        (λ es es'. Served (standing service.old.handler.node es buffers.old)
+        (standing service.new.handler.node es' buffers.new) (fault_of result)) }
     ensures made { IfOk result (λ is_stopped. is_stopped ≡ false →
         MakesTurns turns (T.timer_events timer.old) (T.timer_events timer.new)) }
     ensures finished { IfOk result (λ is_stopped.
@@ -204,10 +204,17 @@ pub(crate) fn pass_on<R: Records, W: Wire, T: Timer, S: Stopwatch, RT: Clock + E
 {
     let start = clock.read();
     match passes(
-        rt, service, wire, observer, room, control, timer, clock, start, turns,
+        rt, service, wire, observer, buffers, control, timer, clock, start, turns,
     ) {
         Ok(is_stopped) => {
-            match finish(&mut service.handler.node, wire, room, timer, clock, start) {
+            match finish(
+                &mut service.handler.node,
+                wire,
+                buffers,
+                timer,
+                clock,
+                start,
+            ) {
                 Ok(()) => Ok(is_stopped),
                 Err(fault) => Err(fault),
             }

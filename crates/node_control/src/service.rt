@@ -188,7 +188,7 @@ impl<R: Records> HttpService<R> {
         handler.close()
     }
 
-    /// Says which node answers, and after how many positions.
+    /// Names the node that answers, and the number of positions that it applied.
     fn add_standing(&self, response: &mut Response) -> Result<(), AllocError>
         ensures fields { OnOk result
             (fields_of response.new ≡ fields_of response.old ++ standing_fields self.now.handler.node) }

@@ -19,19 +19,19 @@ use Rattle.px_replica.specs.declared.datagram.Datagram.{Datagram}
 use Rattle.node_loop.specs.Turns.{handed_over}
 
 -- what came is the front of the bytes
-pub gave_on : (old mid : List WireEvent → Type 0) (bytes room : List ℕ) (len : Option ℕ) (came : Option (List ℕ)) →
-    Adds old mid (gives (option_map (λ n. take n bytes) len)) → came ≡ option_map (λ n. take n room) len → room ≡ bytes →
+pub gave_on : (old mid : List WireEvent → Type 0) (bytes buffers : List ℕ) (len : Option ℕ) (came : Option (List ℕ)) →
+    Adds old mid (gives (option_map (λ n. take n bytes) len)) → came ≡ option_map (λ n. take n buffers) len → buffers ≡ bytes →
     Adds old mid (gives came)
-gave_on old mid bytes room len came g e r =
+gave_on old mid bytes buffers len came g e r =
     let is : came ≡ option_map (λ n. take n bytes) len = e ∙ ap (λ (x : List ℕ). option_map (λ n. take n x) len) r in
     subst (λ (x : Option (List ℕ)). Adds old mid (gives x)) (sym is) g
 
 -- where this came
-pub gave_some : (old mid : List WireEvent → Type 0) (bytes room : List ℕ) (len : Option ℕ) (came is : Option (List ℕ)) →
-    Adds old mid (gives (option_map (λ n. take n bytes) len)) → came ≡ option_map (λ n. take n room) len → room ≡ bytes →
+pub gave_some : (old mid : List WireEvent → Type 0) (bytes buffers : List ℕ) (len : Option ℕ) (came is : Option (List ℕ)) →
+    Adds old mid (gives (option_map (λ n. take n bytes) len)) → came ≡ option_map (λ n. take n buffers) len → buffers ≡ bytes →
     came ≡ is → Adds old mid (gives is)
-gave_some old mid bytes room len came is g e r f =
-    subst (λ (x : Option (List ℕ)). Adds old mid (gives x)) f (gave_on old mid bytes room len came g e r)
+gave_some old mid bytes buffers len came is g e r f =
+    subst (λ (x : Option (List ℕ)). Adds old mid (gives x)) f (gave_on old mid bytes buffers len came g e r)
 
 pub handed_on : (old new : List WireEvent → Type 0) (out lent : List Datagram) → lent ≡ out →
     Adds old new (hands (handed_over lent)) → Adds old new (hands (handed_over out))

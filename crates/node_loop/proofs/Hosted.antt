@@ -8,7 +8,7 @@ use Rattle.px_replica.specs.declared.fault.NodeFault.{NodeFault}
 use Rattle.pf_node.specs.Nodes.{learned_by, applied_of}
 use Rattle.pf_node.specs.declared.state.Node.{Node}
 use Rattle.node_loop.proofs.Hosting.{hosted_served}
-use Rattle.node_loop.specs.Lives.{new_buffers, stands, Tells, HostTells, Serves, Hosts, Runs, HostedRuns}
+use Rattle.node_loop.specs.Runs.{new_buffers, stands, Tells, HostTells, Serves, Hosts, Runs, HostedRuns}
 use Rattle.node_loop.specs.declared.ended.Ended.{Ended}
 
 pub tells : (n k : ℕ) (answered : Option NodeFault) (ended : Ended) → Tells n k answered ended → HostTells n k answered ended

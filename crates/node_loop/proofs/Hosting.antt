@@ -14,15 +14,15 @@ use Rattle.px_model.proofs.Basics.{among_cases}
 use Rattle.px_wire.specs.Message.{group}
 use Rattle.px_wire.specs.declared.membership.Membership.{Membership}
 use Rattle.px_transport.specs.Wires.{WireEvent}
-use Rattle.px_replica.specs.Lives.{TraceEvent, Lived}
+use Rattle.px_replica.specs.Traces.{TraceEvent, Traced}
 use Rattle.node_loop.specs.Again.{AreAmong}
 use Rattle.node_loop.proofs.Among.{among_is, among_then, among_front, among_none}
 use Rattle.node_loop.specs.Turns.{Stand, Same, IsIdle, Between, Served}
 use Rattle.node_loop.specs.Hosting.{AskedOnce, AskedTimes, Goes, Steps, Stops, Hosted}
-use Rattle.node_loop.specs.Living.{sent_by, AllFromMembers, LeavesThere, trace_of, events_of, came_by, AreMoves, Living, HostingsAreLived}
+use Rattle.node_loop.specs.Moves.{sent_by, AllFromMembers, LeavesThere, trace_of, events_of, came_by, AreMoves, HasTrace, HostingsAreTraces}
 use Rattle.node_loop.proofs.Traffic.{none_brought, among_chain, among_nil, trace_then, events_then, came_then, moves_then, idly, idle_trace, idle_events, idle_moves}
 use Rattle.node_loop.proofs.Chains.{same_is, idle_from, between_all, went_then}
-use Rattle.node_loop.proofs.Lives.{Led, called, idles_in, led_between, led_then, served_before, served_led, served_ended, Ended, failed_call, between_lost, broken_served, broken_between, ended_more, led_living, ended_living}
+use Rattle.node_loop.proofs.Runs.{Led, called, idles_in, led_between, led_then, served_before, served_led, served_ended, Ended, failed_call, between_lost, broken_served, broken_between, ended_more, led_has_trace, ended_has_trace}
 
 -- ---- one thing behind the other
 
@@ -141,7 +141,7 @@ refused {R} {G} x y z command e false is l honest call rest =
     (ap (λ (s : Stand G). s.hears_asks) rest) in
     let on : Led (membership_of y.replica) y z = record {
       moves = [];
-      lived = d.stays (z.replica.works is);
+      traced = d.stays (z.replica.works is);
       are = tt;
       members = λ off h m. absurd m;
       went = went;
@@ -211,8 +211,8 @@ hosted_before x z a o honest = steps_before o.steps x o.then o.made (stops_befor
 module _ {R : Type 0} (G : Ghosts R)
     (settled : (r : R) → G.is_honest r → G.failed r ≡ 0 → (d : Record Bytes) → G.may_leave r d → d ≡ G.stored r) where
   -- Where the call that failed was an ask, nothing but what is idle was done since.
-  broken_living : (x z : Stand G) → Broken x z → Living x z None
-  broken_living x z b =
+  broken_has_trace : (x z : Stand G) → Broken x z → HasTrace x z None
+  broken_has_trace x z b =
       let l = b.led in
       let d = b.ended in
       let m = membership_of x.replica in
@@ -227,7 +227,7 @@ module _ {R : Type 0} (G : Ghosts R)
       record {
         moves = l.moves ++ on;
         then = state_in b.stood.replica;
-        lived = subst (λ (ds : List TraceEvent). Lived (group m) m.me (state_in x.replica) ds (state_in b.stood.replica)) (sym same) l.lived;
+        traced = subst (λ (ds : List TraceEvent). Traced (group m) m.me (state_in x.replica) ds (state_in b.stood.replica)) (sym same) l.traced;
         up = refl;
         are = moves_then (group m) m.me x.hears_asks l.moves on x.requests b.stood.requests x.kept b.stood.kept l.are still l.requests l.kept;
         members = λ off. subst (λ (ds : List TraceEvent). AllFromMembers ds) (sym same) (l.members off);
@@ -250,23 +250,23 @@ module _ {R : Type 0} (G : Ghosts R)
       }
 
   stops : (x y z : Stand G) (a : Option NodeFault) → G.is_honest (records_of z.replica) →
-      GoesOn x y → Stops y z a → Living x z a
+      GoesOn x y → Stops y z a → HasTrace x z a
   stops x y z None honest (inl l) is =
-      subst (λ (p : Stand G). Living x p None) (sym is)
-      (led_living G settled x y (subst (λ (p : Stand G). G.is_honest (records_of p.replica)) is honest) l)
+      subst (λ (p : Stand G). HasTrace x p None) (sym is)
+      (led_has_trace G settled x y (subst (λ (p : Stand G). G.is_honest (records_of p.replica)) is honest) l)
   stops x y z None honest (inr b) is =
-      subst (λ (p : Stand G). Living x p None) (sym is)
-      (broken_living x y b)
+      subst (λ (p : Stand G). HasTrace x p None) (sym is)
+      (broken_has_trace x y b)
   stops x y z (Some e) honest (inl l) ran =
       let s = served_ended y z e ran l.works honest in
-      ended_living G settled x s.0 z e (Some e) (led_then (membership_of x.replica) x y s.0 l s.1) s.2
+      ended_has_trace G settled x s.0 z e (Some e) (led_then (membership_of x.replica) x y s.0 l s.1) s.2
       (λ is. absurd (let h : Some e ≡ None = is in cc))
   stops x y z (Some e) honest (inr b) ran =
-      ended_living G settled x b.stood z b.fault (Some e) b.led
+      ended_has_trace G settled x b.stood z b.fault (Some e) b.led
       (ended_more b.stood y z b.fault b.ended (broken_served y z (Some e) b.failed ran))
       (λ is. absurd (let h : Some e ≡ None = is in cc))
 
-  pub hostings_lived : HostingsAreLived G
-  hostings_lived x z answered honest works o =
+  pub hostings_traced : HostingsAreTraces G
+  hostings_traced x z answered honest works o =
       stops x o.then z answered honest
       (steps o.steps x o.then works (stops_before o.then z answered o.last honest) o.made) o.last

@@ -6,7 +6,7 @@ pub mod Chains
 pub mod Looking
 pub mod Clocks
 pub mod Traffic
-pub mod Lives
+pub mod Runs
 pub mod Hosting
 pub mod Asking
 pub mod Honest

@@ -7,7 +7,7 @@ use Rattle.pf_node.specs.Nodes.{learned_by, applied_of}
 use Rattle.pf_node.specs.declared.state.Node.{Node}
 use Rattle.node_loop.proofs.Chains.{served_none, same_all}
 use Rattle.node_loop.proofs.Hosting.{hosted_none}
-use Rattle.node_loop.specs.Lives.{new_buffers, stands, Tells, Serves, HostTells, Hosts}
+use Rattle.node_loop.specs.Runs.{new_buffers, stands, Tells, Serves, HostTells, Hosts}
 use Rattle.node_loop.specs.declared.ended.Ended.{Ended}
 
 pub still : {R : Type 0} {G : Ghosts R} (s : Node R G) (w : List WireEvent) (ended : Ended) →

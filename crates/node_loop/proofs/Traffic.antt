@@ -10,12 +10,12 @@ use Rattle.node_loop.specs.Again.{AreAmong}
 use Rattle.px_transport.specs.Wires.{WireEvent, Gave, Handed, gives, hands}
 use Rattle.px_wire.specs.Message.{Group, DatagramBytes}
 use Rattle.px_wire.specs.Members.{as_sent}
-use Rattle.px_replica.specs.Lives.{TraceEvent}
-use Rattle.px_replica.specs.Lives.TraceEvent.{Calls, Stops, Opens}
+use Rattle.px_replica.specs.Traces.{TraceEvent}
+use Rattle.px_replica.specs.Traces.TraceEvent.{Calls, Stops, Opens}
 use Rattle.node_loop.specs.Resending.{IsKnown, IsPassedOver, came_in}
 use Rattle.node_loop.specs.Turns.{handed_over}
-use Rattle.node_loop.specs.Living.{Heard, message_in, messages_of, AllFromMembers, AreBrought, sent_by}
-use Rattle.node_loop.specs.Living.{Move, Does, Passes, Repeats, trace_of, events_of, came_by, IsBrought, AreMoves}
+use Rattle.node_loop.specs.Moves.{Heard, message_in, messages_of, AllFromMembers, AreBrought, sent_by}
+use Rattle.node_loop.specs.Moves.{Move, Does, Passes, Repeats, trace_of, events_of, came_by, IsBrought, AreMoves}
 
 -- ---- lists of what is kept
 

@@ -9,7 +9,7 @@ use Rattle.px_replica.specs.declared.fault.NodeFault.{NodeFault}
 use Rattle.px_replica.specs.declared.receiving.Received.{Received}
 use Rattle.px_replica.specs.declared.state.Replica.{Replica}
 
--- What is taken of a sender other than 255 is no ask.
+-- What is accepted from a sender other than 255 is no ask.
 abbrev pub MembersAskNothing : {R : Type 0} → Ghosts R → Type 0
 MembersAskNothing {R} G =
     (s t : Replica R G) (bytes : Bytes) (old new : List Datagram) (result : Result Received NodeFault) →

@@ -10,9 +10,9 @@ pub mod Progress
 pub mod Timing
 pub mod Times
 pub mod Pacing
-pub mod Living
+pub mod Moves
 pub mod inner
 pub mod Asking
 pub mod Counting
 pub mod Counts
-pub mod Lives
+pub mod Runs

@@ -1,5 +1,5 @@
 -- When a member's clock ticks, as its timer returns. Times are in microseconds.
-use Rattle.std.specs.Prelude.{◌≡◌, ◌≤◌, ◌+◌, ◌-◌, ◌*◌, ◌^◌, ◌&&◌, ◌||◌, ℕ, Bool, max, min, nat_lt}
+use Rattle.std.specs.Prelude.{◌≡◌, ◌≤◌, ◌+◌, ◌-◌, ◌*◌, ◌^◌, ◌&&◌, ◌||◌, ℕ, Bool, false, max, min, nat_lt}
 use Rattle.node_loop.specs.declared.pacing.TheConstants.{START, BEHIND}
 use Rattle.node_loop.specs.declared.tick_timer.TickTimer.{TickTimer}
 use Rattle.node_loop.specs.declared.timer.Action.{Action}
@@ -51,6 +51,11 @@ patience_of p = max 4000000 (max p.trip p.answer * 4 + (20000 + 5000 * p.me))
 -- by when the clock ticks at the latest
 abbrev pub latest_of : TickTimer → ℕ
 latest_of p = max p.hold (max p.moved p.ticked + patience_of p)
+
+-- the timer of this member at its start: it saw nothing, waits for nothing, proposes nothing, and isn't to end
+abbrev pub IsStarted : (me : ℕ) → TickTimer → Type 0
+IsStarted me p = (p.me ≡ me) × (p.front ≡ 0) × (p.ticked ≡ 0) × (p.moved ≡ 0) × (p.hold ≡ 0) × (p.rest ≡ 0)
+    × (p.is_proposing ≡ false) × (p.is_ending ≡ false)
 
 -- nothing of when the clock ticks next has changed
 abbrev pub AreTimes : (before after : TickTimer) → Type 0

@@ -12,7 +12,7 @@ use Rattle.px_wire.specs.declared.kind.Kind.TheVariants as kinds
 use Rattle.px_replica.specs.Replicas.{membership_of, IsUnspelled}
 use Rattle.px_replica.specs.declared.state.Replica.{Replica}
 use Rattle.node_loop.specs.Turns.{Stand, IsHeard, Took, Passed, Same}
-use Rattle.node_loop.specs.declared.room.Room.{Room}
+use Rattle.node_loop.specs.declared.turn_buffers.TurnBuffers.{TurnBuffers}
 use Rattle.node_loop.specs.declared.counts.RoundCounts.{RoundCounts}
 use Rattle.node_loop.specs.declared.peer_progress.PeerProgress.{PeerProgress}
 
@@ -26,16 +26,16 @@ abbrev pub IsFrom : {R : Type 0} {G : Ghosts R} → Replica R G → ℕ → Mess
 IsFrom s from message bytes = DatagramBytes (group (membership_of s)) from (membership_of s).me message bytes
 
 -- what was seen so far
-abbrev pub seen_in : Room → PeerProgress
-seen_in room = room.peer_progress
+abbrev pub seen_in : TurnBuffers → PeerProgress
+seen_in buffers = buffers.peer_progress
 
 -- the heads of the messages that were taken last
-abbrev pub heads_in : Room → List Head
-heads_in room = room.heads.items
+abbrev pub heads_in : TurnBuffers → List Head
+heads_in buffers = buffers.heads.items
 
 -- what went over the wire in the last round
-abbrev pub counts_in : Room → RoundCounts
-counts_in room = room.counts
+abbrev pub counts_in : TurnBuffers → RoundCounts
+counts_in buffers = buffers.counts
 
 -- ---- what a message shows of its sender
 

@@ -17,7 +17,7 @@ use Rattle.px_replica.specs.Replicas.{membership_of}
 use Rattle.node_loop.specs.Again.{AreAmong}
 use Rattle.node_loop.specs.Resends.{kept_of, requests_of}
 use Rattle.node_loop.specs.Resending.{IsKnown, came_in}
-use Rattle.node_loop.specs.declared.room.Room.{Room}
+use Rattle.node_loop.specs.declared.turn_buffers.TurnBuffers.{TurnBuffers}
 use Rattle.pf_node.specs.Nodes.{replica_of}
 use Rattle.pf_node.specs.declared.state.Node.{Node}
 
@@ -42,13 +42,13 @@ pub record Stand {R : Type 0} (G : Ghosts R) : Type 0 where
   pub hears_asks : Bool
 
 -- a node with its buffers, and what went over its wire
-abbrev pub standing : {R : Type 0} {G : Ghosts R} → Node R G → (traffic : List WireEvent) → Room → Stand G
-standing n traffic room = record {
+abbrev pub standing : {R : Type 0} {G : Ghosts R} → Node R G → (traffic : List WireEvent) → TurnBuffers → Stand G
+standing n traffic buffers = record {
   replica = replica_of n;
   traffic = traffic;
-  kept = kept_of room.resender;
-  requests = requests_of room.resender;
-  hears_asks = room.hears_asks;
+  kept = kept_of buffers.resender;
+  requests = requests_of buffers.resender;
+  hears_asks = buffers.hears_asks;
 }
 
 -- A turn is one call, for what the wire gave; then the wire was handed what is to be sent, each datagram once, in
@@ -73,7 +73,7 @@ IsHeard x (Some bytes) =
 abbrev pub HeardTurn : {R : Type 0} {G : Ghosts R} → (x y : Stand G) → (answered : Option NodeFault) → Type 0
 HeardTurn x y answered = (turn : Turned x y answered) × IsHeard x turn.came
 
--- A turn of the clock: nothing is taken from the wire.
+-- A turn of the clock: nothing is received.
 pub record Ticked {R : Type 0} {G : Ghosts R} (x y : Stand G) (answered : Option NodeFault) : Type 0 where
   pub out : List Datagram
   pub call : Call x.replica y.replica Ticks [] out answered

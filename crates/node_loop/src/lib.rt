@@ -7,14 +7,14 @@
 //!   [`TickTimer`]. [`finish`]: the last rounds before a stop, in which what waits is proposed. node_control has the
 //!   loop of such rounds.
 //! - [`tick_now`]: the clock ticks.
-//! - [`Room`]: the buffers that one turn after another uses, and what is sent again. [`RoundCounts`]: what went over
-//!   the wire in a round, for counters.
+//! - [`TurnBuffers`]: the buffers that one turn after another uses, and what is sent again. [`RoundCounts`]: what went
+//!   over the wire in a round, for counters.
 //! - [`Resender`]: keeps what a member sent and may be lost, and hands it to a wire again. It knows heads of messages
 //!   alone, and is above the seal: it is shown what was sent, and what was received once it was decoded.
 //! - [`Ended`]: how a run ended. [`open_member`]: a run where there is no wire; node_control has the others.
 //! - `specs/Turns` defines what a turn does, and what several in a row do; by [`laws`] these are steps of the model.
 //!   `specs/Resends` defines what is kept, and what may be handed to a wire again.
-//! - `specs/Lives` defines what becomes of the record and what goes over the wire in a run; by [`run_laws`] this is a
+//! - `specs/Runs` defines what becomes of the record and what goes over the wire in a run; by [`run_laws`] this is a
 //!   trace of the model, and runs which follow one another over one store are one trace.
 //!
 //! # Why
@@ -25,12 +25,12 @@
 //!   Asks, ticks and receives may come in any order, so what a round does is a matter of time and never of what is
 //!   decided.
 //! - **A tick is a turn that received no datagram and is followed by no wait**; `round` has no other sign of it.
-//! - **`turn` takes a `Room`**, so its 33,057 bytes are kept from turn to turn, and none is cleared.
+//! - **`turn` takes a `TurnBuffers`**, so its 33,057 bytes are kept from turn to turn, and none is cleared.
 //! - **When the clock ticks** (`TickTimer`). At once where commands wait and no attempt is under way. Again where an
 //!   attempt isn't answered within the sum of four round trips, 20 ms, and 5 ms times the member's number; this time
 //!   doubles with each loss, up to 64 times and up to 4 s. After a pause where another node took the lead. Where
 //!   nothing waits: at the start, once a second, and at once while missing entries arrive.
-//! - **Two times are measured.** The first is how long an attempt takes. It is taken from attempts that led to
+//! - **Two times are measured.** The first is how long an attempt takes. It is measured over attempts that led to
 //!   something and weren't begun anew meanwhile. A longer one counts half, a shorter one an eighth: an attempt that is
 //!   begun anew too early makes a new round and loses what was on its way. The second is how long an answer takes: from
 //!   a round's request for promises to a majority of them, and from accept requests until the entry is learned, where
@@ -103,9 +103,9 @@
 //!   counts for its milliseconds. Meanwhile it accepts no command (`TickTimer::end`), and one with a control socket at
 //!   which an operator asked for the stop answers nobody.
 //! - **What is counted is what the node accepted.** `Node::receive` decodes a datagram; the loop keeps the heads of
-//!   those that it accepted (`Room::heads`) and how many datagrams went over the wire (`Room::counts`), and one
-//!   `Observer` sees both after each round. So `ignored` and `heard` are what the node ignores and hears, and no
-//!   datagram is decoded twice.
+//!   those that it accepted (`TurnBuffers::heads`) and how many datagrams went over the wire (`TurnBuffers::counts`),
+//!   and one `Observer` sees both after each round. So `ignored` and `heard` are what the node ignores and hears, and
+//!   no datagram is decoded twice.
 //! - **No contract states when something is learned**: `Wire`'s contract knows no time. None states that a datagram is
 //!   received: under a flood the system discards what its buffer can't hold, members' datagrams too.
 #![tactic(auto)]
@@ -119,7 +119,6 @@ mod pacing;
 mod packet;
 mod peer_progress;
 mod resender;
-mod room;
 pub mod run_laws;
 mod running;
 mod serving;
@@ -127,6 +126,7 @@ mod state;
 mod stopwatch;
 mod tick_timer;
 mod timer;
+mod turn_buffers;
 mod turning;
 mod votes;
 
@@ -137,10 +137,10 @@ pub use pf_node::{Membership, Node};
 pub use px_replica::{Datagram, NodeFault};
 pub use px_transport::{FaultyWire, MemoryWire, Wire};
 pub use resender::Resender;
-pub use room::Room;
 pub use running::{Progress, finish, round};
 pub use serving::tick_now;
 pub use stopwatch::{Stopwatch, SystemClock, microseconds};
 pub use tick_timer::TickTimer;
 pub use timer::{Action, Timer, View};
+pub use turn_buffers::TurnBuffers;
 pub use turning::turn;

@@ -2,7 +2,7 @@
 
 ghost use Rattle.std.specs.Prelude.{◌≡◌, ◌<◌, List};
 ghost use Rattle.px_transport.specs.Wires.{WireEvent};
-ghost use Rattle.node_loop.specs.Lives.{Runs};
+ghost use Rattle.node_loop.specs.Runs.{Runs};
 
 use crate::ended::Ended;
 use pf_node::{Membership, Node};

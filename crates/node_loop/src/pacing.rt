@@ -3,15 +3,15 @@
 ghost use Rattle.std.specs.Prelude.{◌≡◌, ◌≤◌, ◌<◌, ◌+◌, ◌/◌, false, max};
 ghost use Rattle.node_loop.specs.Pacing.{AreTimes, IfTicks, IfWaits, answer_of, front_of, hold_of, is_listening, later};
 ghost use Rattle.node_loop.specs.Timing.{IsShort};
-ghost use Rattle.node_loop.specs.Pacing.{latest_of, moved_of, patience_of, rest_of, ticked_of};
+ghost use Rattle.node_loop.specs.Pacing.{IsStarted, latest_of, moved_of, patience_of, rest_of, ticked_of};
 
 use crate::tick_timer::TickTimer;
 use crate::timer::{Action, Timer, View};
 
-/// How long a round trip is taken to be before one was measured, in microseconds.
+/// The assumed round-trip time before one was measured, in microseconds.
 const FIRST_TRIP: u64 = 20_000;
 
-/// The shortest and the longest time that is taken for a round trip, in microseconds.
+/// The shortest and the longest assumed round-trip time, in microseconds.
 const TRIPS: (u64, u64) = (500, 4_000_000);
 
 /// How long an idle node waits before it asks what it lacks, in microseconds.
@@ -52,7 +52,9 @@ const LONGEST_WAIT: u64 = 100;
 
 impl TickTimer {
     /// The timer of a member that starts.
-    pub fn new(me: u8) -> TickTimer {
+    pub fn new(me: u8) -> TickTimer
+        ensures { IsStarted me result }
+    {
         TickTimer {
             me,
             ticked: 0,

@@ -15,10 +15,10 @@ ghost use Rattle.node_loop.specs.Turns.{Served, TickedIf, TookThenTicked, standi
 
 use crate::peer_progress::PeerProgress;
 use crate::resender::Resender;
-use crate::room::Room;
 use crate::serving::{drain, tick_now};
 use crate::stopwatch::{Stopwatch, microseconds};
 use crate::timer::{Action, Timer, View};
+use crate::turn_buffers::TurnBuffers;
 use pf_node::Node;
 use px_records::Records;
 use px_replica::NodeFault;
@@ -35,16 +35,16 @@ const MEMBERS: u8 = 15;
 const LAST_ROUNDS: u32 = 3_000;
 
 /// What is seen of the node, whose front was there before.
-fn view_of<R: Records>(node: &Node<R>, room: &Room, was: u32) -> View
-    ensures { result ≡ view_of (replica_of node.now) was (seen_in room.now) }
+fn view_of<R: Records>(node: &Node<R>, buffers: &TurnBuffers, was: u32) -> View
+    ensures { result ≡ view_of (replica_of node.now) was (seen_in buffers.now) }
 {
     View {
         waiting: node.waiting(),
         is_attempting: node.is_attempting(),
         is_leading: node.is_leading(),
         front: node.front(),
-        has_learned: room.peer_progress.has_learned && node.front() != was,
-        reached: room.peer_progress.reached,
+        has_learned: buffers.peer_progress.has_learned && node.front() != was,
+        reached: buffers.peer_progress.reached,
     }
 }
 
@@ -61,26 +61,26 @@ pub struct Progress {
 fn tick_if<R: Records, W: Wire>(
     node: &mut Node<R>,
     wire: &mut W,
-    room: &mut Room,
+    buffers: &mut TurnBuffers,
     action: Action,
     handled: u32,
     has_own: bool,
 ) -> Result<Progress, NodeFault>
     ensures served { Moves (W.traffic wire.old) (W.traffic wire.new)
-        (λ es es'. Served (standing node.old es room.old) (standing node.new es' room.new) (fault_of result)) }
+        (λ es es'. Served (standing node.old es buffers.old) (standing node.new es' buffers.new) (fault_of result)) }
     ensures ticked { OnOk result (Moves (W.traffic wire.old) (W.traffic wire.new) (λ es es'. (is_due : Bool) ×
-        TickedIf is_due (standing node.old es room.old) (standing node.new es' room.new))) }
+        TickedIf is_due (standing node.old es buffers.old) (standing node.new es' buffers.new))) }
     ensures few { IfOk result (λ made. made.turns ≤ handled + 1) }
-    ensures unseen { seen_in room.new ≡ seen_in room.old }
+    ensures unseen { seen_in buffers.new ≡ seen_in buffers.old }
     ensures counts { OnOk result (Moves (W.traffic wire.old) (W.traffic wire.new) (λ es es'. (is_due : Bool) ×
-        CountsTickedIf is_due (standing node.old es room.old) (standing node.new es' room.new)
-        (counts_in room.old) (counts_in room.new))) }
+        CountsTickedIf is_due (standing node.old es buffers.old) (standing node.new es' buffers.new)
+        (counts_in buffers.old) (counts_in buffers.new))) }
     ensures wait { IsShort action → IfOk result (λ p. p.wait ≤ 100) }
     ensures grows { applied_of node.old ≤ applied_of node.new }
     ensures same { W.identity wire.new ≡ W.identity wire.old }
 {
     match action {
-        Action::Tick => match tick_now(node, wire, room) {
+        Action::Tick => match tick_now(node, wire, buffers) {
             Ok(()) => Ok(Progress {
                 turns: handled.saturating_add(1),
                 wait: 0,
@@ -182,15 +182,15 @@ fn resend<W: Wire>(
 }
 
 /// Begins a round at this time: nothing went over the wire in it.
-fn begin(room: &mut Room, now: u64)
-    ensures kept { kept_of room.new.resender ≡ kept_of room.old.resender }
-    ensures requests { requests_of room.new.resender ≡ requests_of room.old.resender }
-    ensures hears { room.new.hears_asks ≡ room.old.hears_asks }
-    ensures unseen { seen_in room.new ≡ seen_in room.old }
-    ensures counts { counts_in room.new ≡ nothing_of (counts_in room.old).me }
+fn begin(buffers: &mut TurnBuffers, now: u64)
+    ensures kept { kept_of buffers.new.resender ≡ kept_of buffers.old.resender }
+    ensures requests { requests_of buffers.new.resender ≡ requests_of buffers.old.resender }
+    ensures hears { buffers.new.hears_asks ≡ buffers.old.hears_asks }
+    ensures unseen { seen_in buffers.new ≡ seen_in buffers.old }
+    ensures counts { counts_in buffers.new ≡ nothing_of (counts_in buffers.old).me }
 {
-    room.counts = room.counts.next();
-    room.resender.set_time(now);
+    buffers.counts = buffers.counts.next();
+    buffers.resender.set_time(now);
 }
 
 /// Receives what has come, 64 datagrams at most; then the clock ticks where the timer returns that, which is given what
@@ -205,20 +205,21 @@ fn begin(room: &mut Room, now: u64)
 pub fn round<R: Records, W: Wire, T: Timer>(
     node: &mut Node<R>,
     wire: &mut W,
-    room: &mut Room,
+    buffers: &mut TurnBuffers,
     timer: &mut T,
     now: u64,
 ) -> Result<Progress, NodeFault>
     ensures served { Moves (W.traffic wire.old) (W.traffic wire.new)
-        (λ es es'. Served (standing node.old es room.old) (standing node.new es' room.new) (fault_of result)) }
+        (λ es es'. Served (standing node.old es buffers.old) (standing node.new es' buffers.new) (fault_of result)) }
     ensures took { OnOk result (Moves (W.traffic wire.old) (W.traffic wire.new) (λ es es'. (n : ℕ) × (is_due : Bool) ×
-        TookThenTicked n is_due (standing node.old es room.old) (standing node.new es' room.new))) }
+        TookThenTicked n is_due (standing node.old es buffers.old) (standing node.new es' buffers.new))) }
     ensures saw { OnOk result ((es : List WireEvent) → W.traffic wire.old es → (n : ℕ) × SawThenLooked n now
-        (standing node.old es room.old) (seen_in room.old) (seen_in room.new) (T.timer_events timer.old)
+        (standing node.old es buffers.old) (seen_in buffers.old) (seen_in buffers.new) (T.timer_events timer.old)
         (T.timer_events timer.new)) }
     ensures counts { OnOk result (Moves (W.traffic wire.old) (W.traffic wire.new)
-        (λ es es'. CountsRound (counts_in room.old).me (standing node.old es room.old) (standing node.new es' room.new)
-        (counts_in room.new))) }
+        (λ es es'. CountsRound (counts_in buffers.old).me (standing node.old es buffers.old)
+        (standing node.new es' buffers.new)
+        (counts_in buffers.new))) }
     ensures few { IfOk result (λ made. made.turns ≤ 65) }
     ensures looks { OnOk result (LooksTimes 1 (T.timer_events timer.old) (T.timer_events timer.new)) }
     ensures at { OnOk result (LooksAt (now ∷ []) (T.timer_events timer.old) (T.timer_events timer.new)) }
@@ -227,17 +228,17 @@ pub fn round<R: Records, W: Wire, T: Timer>(
     ensures same { W.identity wire.new ≡ W.identity wire.old }
 {
     let was = node.front();
-    begin(room, now);
-    let handled = match drain(node, wire, room, MOST) {
+    begin(buffers, now);
+    let handled = match drain(node, wire, buffers, MOST) {
         Ok(handled) => handled,
         Err(fault) => return Err(fault),
     };
-    let seen = room.peer_progress;
-    let view = view_of(node, room, was);
-    let action = action(timer, &mut room.peer_progress, now, view);
+    let seen = buffers.peer_progress;
+    let view = view_of(node, buffers, was);
+    let action = action(timer, &mut buffers.peer_progress, now, view);
     let is_due = timer.repeats(now);
-    let has_own = resend(wire, &mut room.resender, &seen, is_due, node.front());
-    tick_if(node, wire, room, action, handled, has_own)
+    let has_own = resend(wire, &mut buffers.resender, &seen, is_due, node.front());
+    tick_if(node, wire, buffers, action, handled, has_own)
 }
 
 /// Works off what waits to be proposed, before the node ends: rounds until nothing waits, 3,000 at most, of which one
@@ -247,13 +248,13 @@ pub fn round<R: Records, W: Wire, T: Timer>(
 pub fn finish<R: Records, W: Wire, T: Timer, S: Stopwatch>(
     node: &mut Node<R>,
     wire: &mut W,
-    room: &mut Room,
+    buffers: &mut TurnBuffers,
     timer: &mut T,
     clock: &mut S,
     start: Option<Instant>,
 ) -> Result<(), NodeFault>
     ensures served { Moves (W.traffic wire.old) (W.traffic wire.new)
-        (λ es es'. Served (standing node.old es room.old) (standing node.new es' room.new) (fault_of result)) }
+        (λ es es'. Served (standing node.old es buffers.old) (standing node.new es' buffers.new) (fault_of result)) }
     ensures grows { applied_of node.old ≤ applied_of node.new }
     ensures worked { OnOk result (WorksOff (length (state_in node.new).volatile.waiting)
         (T.timer_events timer.old) (T.timer_events timer.new)) }
@@ -267,7 +268,7 @@ pub fn finish<R: Records, W: Wire, T: Timer, S: Stopwatch>(
         if left == 0 || node.waiting() == 0 {
             return Ok(());
         }
-        match round(node, wire, room, timer, microseconds(clock, start)) {
+        match round(node, wire, buffers, timer, microseconds(clock, start)) {
             Ok(made) => {
                 wire.wait(made.wait);
                 left = left.saturating_sub(made.wait.max(1));

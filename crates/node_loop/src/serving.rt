@@ -20,7 +20,7 @@ ghost use Rattle.node_loop.specs.inner.Turns.{CountsIf, SawIf};
 use crate::counts::RoundCounts;
 use crate::peer_progress::PeerProgress;
 use crate::resender::Resender;
-use crate::room::Room;
+use crate::turn_buffers::TurnBuffers;
 use crate::turning::{act, came, send_all};
 use pf_entry::CLIENT;
 use pf_node::Node;
@@ -29,7 +29,7 @@ use px_replica::{Datagram, NodeFault, Received};
 use px_transport::Wire;
 use px_wire::Head;
 
-impl Room {
+impl TurnBuffers {
     /// The heads of the messages that the node accepted in its last [`round`](crate::round), in order, for counters. A
     /// datagram that it ignored, or was passed over, has none here, and neither has one for whose head it was out of
     /// memory.
@@ -62,24 +62,24 @@ fn poll<W: Wire>(wire: &mut W, bytes: &mut Vec<u8>) -> Option<usize>
 pub fn tick_now<R: Records, W: Wire>(
     node: &mut Node<R>,
     wire: &mut W,
-    room: &mut Room,
+    buffers: &mut TurnBuffers,
 ) -> Result<(), NodeFault>
     ensures ticked { Moves (W.traffic wire.old) (W.traffic wire.new)
-        (λ es es'. Ticked (standing node.old es room.old) (standing node.new es' room.new) (fault_of result)) }
-    ensures unseen { seen_in room.new ≡ seen_in room.old }
+        (λ es es'. Ticked (standing node.old es buffers.old) (standing node.new es' buffers.new) (fault_of result)) }
+    ensures unseen { seen_in buffers.new ≡ seen_in buffers.old }
     ensures counts { Moves (W.traffic wire.old) (W.traffic wire.new)
-        (λ es es'. CountsTicked (standing node.old es room.old) (standing node.new es' room.new) (fault_of result)
-        (counts_in room.old) (counts_in room.new)) }
+        (λ es es'. CountsTicked (standing node.old es buffers.old) (standing node.new es' buffers.new) (fault_of result)
+        (counts_in buffers.old) (counts_in buffers.new)) }
     ensures grows { applied_of node.old ≤ applied_of node.new }
     ensures same { W.identity wire.new ≡ W.identity wire.old }
 {
-    room.out.clear();
-    let result = act(node, None, &mut room.out);
+    buffers.out.clear();
+    let result = act(node, None, &mut buffers.out);
     send_all(
         wire,
-        room.out.as_slice(),
-        &mut room.resender,
-        &mut room.counts,
+        buffers.out.as_slice(),
+        &mut buffers.resender,
+        &mut buffers.counts,
     );
     result
 }
@@ -188,49 +188,51 @@ fn passes_over<W: Wire>(
     is_answered
 }
 
-/// One datagram that has come is taken, or passed over: whether there was one.
+/// Receives one datagram, or passes over it: whether there was one.
 fn take_one<R: Records, W: Wire>(
     node: &mut Node<R>,
     wire: &mut W,
-    room: &mut Room,
+    buffers: &mut TurnBuffers,
 ) -> Result<bool, NodeFault>
     ensures served { Moves (W.traffic wire.old) (W.traffic wire.new)
-        (λ es es'. Served (standing node.old es room.old) (standing node.new es' room.new) (fault_of result)) }
+        (λ es es'. Served (standing node.old es buffers.old) (standing node.new es' buffers.new) (fault_of result)) }
     ensures saw { IfOk result (λ had. Moves (W.traffic wire.old) (W.traffic wire.new) (λ es es'. SawIf had
-        (standing node.old es room.old) (standing node.new es' room.new) (seen_in room.old) (seen_in room.new))) }
+        (standing node.old es buffers.old) (standing node.new es' buffers.new) (seen_in buffers.old)
+        (seen_in buffers.new))) }
     ensures counts { IfOk result (λ had. Moves (W.traffic wire.old) (W.traffic wire.new) (λ es es'. CountsIf had
-        (standing node.old es room.old) (standing node.new es' room.new) (counts_in room.old) (counts_in room.new))) }
+        (standing node.old es buffers.old) (standing node.new es' buffers.new) (counts_in buffers.old)
+        (counts_in buffers.new))) }
     ensures grows { applied_of node.old ≤ applied_of node.new }
     ensures same { W.identity wire.new ≡ W.identity wire.old }
 {
-    room.out.clear();
-    let len = poll(wire, &mut room.bytes);
-    let Some(bytes) = came(&room.bytes, len) else {
+    buffers.out.clear();
+    let len = poll(wire, &mut buffers.bytes);
+    let Some(bytes) = came(&buffers.bytes, len) else {
         return Ok(false);
     };
-    room.counts.count_in(bytes.len());
+    buffers.counts.count_in(bytes.len());
     if passes_over(
         wire,
-        &mut room.resender,
-        &mut room.counts,
-        room.hears_asks,
+        &mut buffers.resender,
+        &mut buffers.counts,
+        buffers.hears_asks,
         bytes,
     ) {
         return Ok(true);
     }
     let result = receive(
         node,
-        &mut room.peer_progress,
-        &mut room.heads,
-        &mut room.resender,
+        &mut buffers.peer_progress,
+        &mut buffers.heads,
+        &mut buffers.resender,
         bytes,
-        &mut room.out,
+        &mut buffers.out,
     );
     send_all(
         wire,
-        room.out.as_slice(),
-        &mut room.resender,
-        &mut room.counts,
+        buffers.out.as_slice(),
+        &mut buffers.resender,
+        &mut buffers.counts,
     );
     match result {
         Ok(()) => Ok(true),
@@ -243,22 +245,24 @@ fn take_one<R: Records, W: Wire>(
 pub(crate) fn drain<R: Records, W: Wire>(
     node: &mut Node<R>,
     wire: &mut W,
-    room: &mut Room,
+    buffers: &mut TurnBuffers,
     most: u32,
 ) -> Result<u32, NodeFault>
     ensures served { Moves (W.traffic wire.old) (W.traffic wire.new)
-        (λ es es'. Served (standing node.old es room.old) (standing node.new es' room.new) (fault_of result)) }
+        (λ es es'. Served (standing node.old es buffers.old) (standing node.new es' buffers.new) (fault_of result)) }
     ensures saw { IfOk result (λ n. Moves (W.traffic wire.old) (W.traffic wire.new) (λ es es'. SawAll n
-        (standing node.old es room.old) (standing node.new es' room.new) (seen_in room.old) (seen_in room.new))) }
+        (standing node.old es buffers.old) (standing node.new es' buffers.new) (seen_in buffers.old)
+        (seen_in buffers.new))) }
     ensures counts { IfOk result (λ n. Moves (W.traffic wire.old) (W.traffic wire.new) (λ es es'. CountsAll n
-        (standing node.old es room.old) (standing node.new es' room.new) (counts_in room.old) (counts_in room.new))) }
+        (standing node.old es buffers.old) (standing node.new es' buffers.new) (counts_in buffers.old)
+        (counts_in buffers.new))) }
     ensures few { IfOk result (λ n. n ≤ most) }
     ensures grows { applied_of node.old ≤ applied_of node.new }
     ensures same { W.identity wire.new ≡ W.identity wire.old }
 {
-    room.heads.clear();
+    buffers.heads.clear();
     for handled in 0..most {
-        match take_one(node, wire, room) {
+        match take_one(node, wire, buffers) {
             Ok(had) => {
                 if !had {
                     return Ok(handled);

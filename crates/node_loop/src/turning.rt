@@ -11,7 +11,7 @@ ghost use Rattle.node_loop.specs.Turns.{Acts, Turned, handed_over, standing};
 
 use crate::counts::RoundCounts;
 use crate::resender::Resender;
-use crate::room::Room;
+use crate::turn_buffers::TurnBuffers;
 use pf_node::Node;
 use px_records::Records;
 use px_replica::{Datagram, NodeFault};
@@ -49,13 +49,13 @@ fn hear<W: Wire>(wire: &mut W, bytes: &mut Vec<u8>) -> Option<usize>
     wire.recv(bytes.as_mut_slice())
 }
 
-/// The front of the room, as long as what came; none where nothing came.
-pub(crate) fn came(room: &[u8], len: Option<usize>) -> Option<&[u8]>
-    requires { IfSome len (λ n. n ≤ length room.now) }
-    ensures { option_map (λ b. b.now) result ≡ option_map (λ n. take n room.now) len }
+/// The first bytes of the buffer, as long as what came; none where nothing came.
+pub(crate) fn came(buffers: &[u8], len: Option<usize>) -> Option<&[u8]>
+    requires { IfSome len (λ n. n ≤ length buffers.now) }
+    ensures { option_map (λ b. b.now) result ≡ option_map (λ n. take n buffers.now) len }
 {
     match len {
-        Some(n) => Some(&room[..n]),
+        Some(n) => Some(&buffers[..n]),
         None => None,
     }
 }
@@ -80,28 +80,28 @@ pub(crate) fn act<R: Records>(
     }
 }
 
-/// One turn: what comes is taken, else the clock ticks; then what is to be sent is handed to the wire, each datagram
+/// One turn: a datagram is received, else the clock ticks; then what is to be sent is handed to the wire, each datagram
 /// once, in order. Whether it was sent changes nothing.
 ///
 /// The faults are those of [`Node::receive`] and [`Node::tick`]; after one nothing is to be sent.
 pub fn turn<R: Records, W: Wire>(
     node: &mut Node<R>,
     wire: &mut W,
-    room: &mut Room,
+    buffers: &mut TurnBuffers,
 ) -> Result<(), NodeFault>
     ensures turned { Moves (W.traffic wire.old) (W.traffic wire.new)
-        (λ es es'. Turned (standing node.old es room.old) (standing node.new es' room.new) (fault_of result)) }
+        (λ es es'. Turned (standing node.old es buffers.old) (standing node.new es' buffers.new) (fault_of result)) }
     ensures grows { applied_of node.old ≤ applied_of node.new }
     ensures same { W.identity wire.new ≡ W.identity wire.old }
 {
-    room.out.clear();
-    let len = hear(wire, &mut room.bytes);
-    let result = act(node, came(&room.bytes, len), &mut room.out);
+    buffers.out.clear();
+    let len = hear(wire, &mut buffers.bytes);
+    let result = act(node, came(&buffers.bytes, len), &mut buffers.out);
     send_all(
         wire,
-        room.out.as_slice(),
-        &mut room.resender,
-        &mut room.counts,
+        buffers.out.as_slice(),
+        &mut buffers.resender,
+        &mut buffers.counts,
     );
     result
 }

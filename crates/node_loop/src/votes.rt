@@ -21,7 +21,7 @@ const MOST_BYTES: usize = 16 * 1_024 * 1_024;
 /// sent to it by a member that learned it, so that is one less than the 64 of its window.
 const WINDOW: u32 = 63;
 
-/// How often a member comes on by just one before it is taken to lack what it was sent.
+/// How often a member comes on by just one before it is assumed to lack what it was sent.
 const STEPS: u8 = 3;
 
 /// How long nothing is sent a second time to the same member, in microseconds.
@@ -38,7 +38,7 @@ const ROOM: usize = 196_608;
 const OVERHEAD: usize = 1_088;
 
 impl ResendProgress {
-    /// Nothing, with all of this room. Whatever it lacks, it is taken for one that went back.
+    /// Nothing, with all of this room. Whatever it lacks, it is assumed to have gone back.
     fn new(room: usize) -> ResendProgress {
         ResendProgress {
             from: u32::MAX,

@@ -54,7 +54,7 @@ peer_sample name node (Some value) = sample name (codes "peer") (decimal node) v
 
 -- the kind, the name and the meaning of a figure of peers
 abbrev pub peer_heading : PeerFigure → Text × Text × Text
-peer_heading Heard = (codes "gauge", codes "pfx_peer_heard_seconds", codes "Whole seconds since a datagram came.")
+peer_heading Heard = (codes "gauge", codes "pfx_peer_heard_seconds", codes "Seconds since the last datagram from the peer.")
 peer_heading In = (codes "counter", codes "pfx_datagrams_in_total", codes "Datagrams from the peer.")
 peer_heading Out = (codes "counter", codes "pfx_datagrams_out_total", codes "Datagrams to the peer.")
 
@@ -92,7 +92,7 @@ is_at state h = 0
 
 -- the node's health: 1 at that one, and 0 at each other
 abbrev pub health_metrics : Health → List ℕ
-health_metrics h = samples_of (codes "gauge") (codes "pfx_health") (codes "1 at the health that the node has.")
+health_metrics h = samples_of (codes "gauge") (codes "pfx_health") (codes "1 for the health of the node now.")
     (codes "state")
     ((codes "ok", is_at Works h) ∷ (codes "behind", is_at Behind h) ∷ (codes "alone", is_at Alone h)
     ∷ (codes "stuck", is_at Stuck h) ∷ (codes "failed", is_at Failed h) ∷ [])
@@ -108,7 +108,7 @@ config_metrics f = metrics_of (codes "gauge")
 -- what the loop counted
 abbrev pub loop_metrics : Counters → List ℕ
 loop_metrics t = metrics_of (codes "counter")
-    ((codes "pfx_unsent_total", codes "Datagrams the system did not take.", t.unsent)
+    ((codes "pfx_unsent_total", codes "Datagrams that the system failed to send.", t.unsent)
     ∷ (codes "pfx_dropped_total", codes "Datagrams dropped: a wrong tag, an ask, or a part of one.", t.dropped)
     ∷ (codes "pfx_ignored_total", codes "Datagrams that aren't for this member.", t.ignored)
     ∷ (codes "pfx_turns_total", codes "Turns of the node.", t.turns)
@@ -117,7 +117,7 @@ loop_metrics t = metrics_of (codes "counter")
 -- how many requests were answered, by the class of HTTP's status
 abbrev pub control_metrics : Counters → List ℕ
 control_metrics t = samples_of (codes "counter") (codes "pfx_control_requests_total")
-    (codes "Requests of operators, by their status.") (codes "code")
+    (codes "Requests at the control socket, by HTTP status.") (codes "code")
     ((codes "2xx", t.served) ∷ (codes "4xx", t.refused) ∷ (codes "5xx", t.unavailable) ∷ [])
 
 -- all of them

@@ -7,7 +7,7 @@ use Rattle.std.specs.Str.Lines.{lines}
 use Rattle.clap.specs.Words.{Text}
 use Rattle.pf_entry.specs.Entry.{Command}
 use Rattle.pf_entry.specs.Owned.{command_value}
-use Rattle.pf_arguments.specs.Asked.{Asked as Answer, ActionValue, ShowAnchors, GivenWords, asked}
+use Rattle.pf_arguments.specs.Asked.{Asked as Answer, ActionValue, ShowAnchors, GivenArguments, asked}
 use Rattle.pf_arguments.specs.Answers.{action_value}
 use Rattle.pf_arguments.specs.declared.fault.CommandFault.TheVariants.{Usage}
 use Rattle.pf_scripts.specs.Ctl.{numbered}
@@ -82,7 +82,7 @@ reads given read = Asked (Reads (unwrap_or (position_of (codes "at") given) 0) r
 
 -- what the parameters give of pfctl's options: -a PATH -s WHAT, or -a PATH -t TABLE -T WHAT ADDR..
 -- Example: GET /v1/rules?a=x asks for what pfctl -a x -s rules asks for.
-abbrev pub showing : List (Text × Text) → (what : Text) → GivenWords
+abbrev pub showing : List (Text × Text) → (what : Text) → GivenArguments
 showing given what = record {
   path = value_of (codes "a") given;
   file = None;
@@ -94,7 +94,7 @@ showing given what = record {
   addresses = [];
 }
 
-abbrev pub on_table : List (Text × Text) → (what : Text) → (addresses : List Text) → GivenWords
+abbrev pub on_table : List (Text × Text) → (what : Text) → (addresses : List Text) → GivenArguments
 on_table given what addresses = record {
   path = value_of (codes "a") given;
   file = None;

@@ -18,7 +18,7 @@
 //!
 //! - Nothing here knows of sockets: node_control moves the bytes, and hands in what it counted ([`Counters`]).
 //! - **Reads are answered by the definitions that scripts have**, at the position that the node has applied; a change
-//!   is one ask. A run with a control socket is a trace of the model, as one without is (`hosted_runs_are_lived`).
+//!   is one ask. A run with a control socket is a trace of the model, as one without is (`hosted_runs_are_traces`).
 //! - **The verdicts of one request meet at most 10,000 rules together**, each anchor that is attached to another
 //!   counted as one, since a node that computes a verdict does nothing else. `pfx ask test` asks for the others again,
 //!   three times from the start where another position was applied meanwhile. Listings aren't cut: `docs/SPEED.md` has

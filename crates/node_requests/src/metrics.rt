@@ -125,7 +125,7 @@ fn peer_heading(figure: PeerFigure) -> (&'static str, &'static str, &'static str
         PeerFigure::Heard => (
             "gauge",
             "pfx_peer_heard_seconds",
-            "Whole seconds since a datagram came.",
+            "Seconds since the last datagram from the peer.",
         ),
         PeerFigure::In => (
             "counter",
@@ -226,7 +226,7 @@ fn push_health(alloc: Global, out: &mut String, health: Health) -> Result<(), Al
         out,
         "gauge",
         "pfx_health",
-        "1 at the health that the node has.",
+        "1 for the health of the node now.",
         "state",
         &[
             ("ok", is_at(Health::Works, health)),
@@ -274,7 +274,7 @@ fn push_loop(alloc: Global, out: &mut String, t: &Counters) -> Result<(), AllocE
         &[
             (
                 "pfx_unsent_total",
-                "Datagrams the system did not take.",
+                "Datagrams that the system failed to send.",
                 t.unsent,
             ),
             (
@@ -302,7 +302,7 @@ fn push_control(alloc: Global, out: &mut String, t: &Counters) -> Result<(), All
         out,
         "counter",
         "pfx_control_requests_total",
-        "Requests of operators, by their status.",
+        "Requests at the control socket, by HTTP status.",
         "code",
         &[
             ("2xx", t.served),

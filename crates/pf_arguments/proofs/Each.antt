@@ -1,4 +1,4 @@
--- The values of words, read from the front.
+-- The values of arguments, read from the front.
 use Rattle.std.proofs.Common.{◌≡◌, ◌==◌, ◌+◌, ℕ, Bool, true, false, cond, List, [], ◌∷◌, ◌++◌, length, Option, Some, None, Result, Ok, Err, refl, sym, ap, ◌∙◌, append_assoc, append-nil, arith, drop, codes, ◌≢◌, map, Vec, IfOk}
 use Rattle.std.specs.Prelude.{if◌then◌else◌, nat_lt}
 use Rattle.pf_addr.specs.declared.fault.AddrFault.{AddrFault}
@@ -16,7 +16,7 @@ use Rattle.pf_arguments.specs.Answers.{vec_read}
 use Rattle.pf_arguments.specs.inner.Answers.{lowest_of, ReadsEntries}
 use denote.Ref.{Bor}
 
--- values and the lowest fault of words so far, before what the others come to
+-- values and the lowest fault of the arguments so far, before those of the others
 abbrev pub behind : {X : Type 0} → List X → Option AddrFault → Result (List X) AddrFault → Result (List X) AddrFault
 behind xs None (Ok ys) = Ok (xs ++ ys)
 behind xs None (Err f) = Err f
@@ -64,7 +64,7 @@ one_fault xs e None (Err f) = refl
 one_fault xs e (Some d) (Ok ys) = refl
 one_fault xs e (Some d) (Err f) = ap Err (lower_both d e f)
 
--- that many words, that many values
+-- n arguments give n values
 all_read : {X : Type 0} (value : List ℕ → Result X AddrFault) (ws : List (List ℕ)) (xs : List X) → each value ws ≡ Ok xs → length xs ≡ length ws
 all_read value [] xs h = cc
 all_read {X} value (w ∷ ws) xs h = go (value w) (each value ws) (λ ys e. all_read value ws ys e) h

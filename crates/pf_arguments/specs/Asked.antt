@@ -14,19 +14,19 @@ use Rattle.pf_rules.specs.Names.{Name, name_if}
 use Rattle.pf_config.specs.PathTexts.{path_of}
 use Rattle.pf_entry.specs.Entry as entry
 use Rattle.pf_entry.specs.Owned.{is_over}
-use Rattle.pf_arguments.specs.declared.chosen.Word.{Word}
-use Rattle.pf_arguments.specs.declared.chosen.Word.TheVariants.{Whole, OnTable}
-use Rattle.pf_arguments.specs.declared.chosen.WholeWord.{WholeWord}
-use Rattle.pf_arguments.specs.declared.chosen.WholeWord.TheVariants as whole
-use Rattle.pf_arguments.specs.declared.chosen.TableWord.{TableWord}
-use Rattle.pf_arguments.specs.declared.chosen.TableWord.TheVariants as table
+use Rattle.pf_arguments.specs.declared.chosen.Operation.{Operation}
+use Rattle.pf_arguments.specs.declared.chosen.Operation.TheVariants.{Whole, OnTable}
+use Rattle.pf_arguments.specs.declared.chosen.AnchorOperation.{AnchorOperation}
+use Rattle.pf_arguments.specs.declared.chosen.AnchorOperation.TheVariants as whole
+use Rattle.pf_arguments.specs.declared.chosen.TableOperation.{TableOperation}
+use Rattle.pf_arguments.specs.declared.chosen.TableOperation.TheVariants as table
 use Rattle.pf_arguments.specs.declared.fault.CommandFault.{CommandFault}
 use Rattle.pf_arguments.specs.declared.fault.CommandFault.TheVariants.{Usage, BadPath, BadAddress, TooLong}
 
 -- ---- what is given
 
 -- what was given for each option, and the addresses behind them
-pub record GivenWords : Type 0 where
+pub record GivenArguments : Type 0 where
   pub path : Option Text
   pub file : Option Text
   pub check : Bool
@@ -42,7 +42,7 @@ is_given None = false
 is_given (Some text) = bytes_eq text (codes "true")
 
 -- the same of the rows of a match
-abbrev pub given_in : List Row → GivenWords
+abbrev pub given_in : List Row → GivenArguments
 given_in rows = record {
   path = first_of (codes "path") rows;
   file = first_of (codes "file") rows;
@@ -57,16 +57,16 @@ given_in rows = record {
 -- ---- the operation that the options choose
 
 -- -F rules|Tables|all
-abbrev pub flush_word : Text → Option Word
-flush_word text =
+abbrev pub flush_operation : Text → Option Operation
+flush_operation text =
     if bytes_eq text (codes "rules") then Some (Whole whole.FlushRules)
     else if bytes_eq text (codes "Tables") then Some (Whole whole.FlushTables)
     else if bytes_eq text (codes "all") then Some (Whole whole.FlushAll)
     else None
 
 -- -T add|delete|replace|flush|show|test
-abbrev pub table_word : Text → Option Word
-table_word text =
+abbrev pub table_operation : Text → Option Operation
+table_operation text =
     if bytes_eq text (codes "add") then Some (OnTable table.Add)
     else if bytes_eq text (codes "delete") then Some (OnTable table.Delete)
     else if bytes_eq text (codes "replace") then Some (OnTable table.Replace)
@@ -76,37 +76,37 @@ table_word text =
     else None
 
 -- -s rules|Tables|Anchors
-abbrev pub show_word : Text → Option Word
-show_word text =
+abbrev pub show_operation : Text → Option Operation
+show_operation text =
     if bytes_eq text (codes "rules") then Some (Whole whole.ShowRules)
     else if bytes_eq text (codes "Tables") then Some (Whole whole.ShowTables)
     else if bytes_eq text (codes "Anchors") then Some (Whole whole.ShowAnchors)
     else None
 
 -- -f, and with -n the text is only checked
-abbrev pub load_word : Bool → Word
-load_word check = if check then Whole whole.Check else Whole whole.Load
+abbrev pub load_operation : Bool → Operation
+load_operation check = if check then Whole whole.Check else Whole whole.Load
 
 -- an operation, and none where -n was given
-abbrev pub unless : Bool → Option Word → Option Word
-unless true word = None
-unless false word = word
+abbrev pub unless : Bool → Option Operation → Option Operation
+unless true operation = None
+unless false operation = operation
 
 -- exactly one of -f, -F, -T and -s, and -n only with -f
-abbrev pub chosen : Bool → Option Text → Option Text → Option Text → Option Text → Option Word
-chosen check (Some file) None None None = Some (load_word check)
-chosen check None (Some text) None None = unless check (flush_word text)
-chosen check None None (Some text) None = unless check (table_word text)
-chosen check None None None (Some text) = unless check (show_word text)
+abbrev pub chosen : Bool → Option Text → Option Text → Option Text → Option Text → Option Operation
+chosen check (Some file) None None None = Some (load_operation check)
+chosen check None (Some text) None None = unless check (flush_operation text)
+chosen check None None (Some text) None = unless check (table_operation text)
+chosen check None None None (Some text) = unless check (show_operation text)
 chosen _ _ _ _ _ = None
 
 -- the operation among what was given, none where the options don't go together or the value names none
 -- Example: -F rules -s rules is none.
-abbrev pub word_of : GivenWords → Option Word
-word_of given = chosen given.check given.file given.flush given.change given.show
+abbrev pub operation_of : GivenArguments → Option Operation
+operation_of given = chosen given.check given.file given.flush given.change given.show
 
 -- addresses are given only with add, delete and test, one or more, and with replace, any number
-abbrev pub may_have : TableWord → ℕ → Bool
+abbrev pub may_have : TableOperation → ℕ → Bool
 may_have table.Add n = nat_lt 0 n
 may_have table.Delete n = nat_lt 0 n
 may_have table.Replace n = true
@@ -117,11 +117,11 @@ may_have table.Test n = nat_lt 0 n
 -- ---- paths and addresses
 
 -- without -a it is the main ruleset
-abbrev pub path_given : GivenWords → Option (List Name)
+abbrev pub path_given : GivenArguments → Option (List Name)
 path_given given = path_of (unwrap_or given.path [])
 
 -- TNAME
-abbrev pub table_given : GivenWords → Option Name
+abbrev pub table_given : GivenArguments → Option Name
 table_given given = option_and_then (name_if (is_table_name profile.One)) given.table
 
 -- the lower of two faults
@@ -181,7 +181,7 @@ on_list action (Ok list) = action list
 on_list action (Err fault) = Err (BadAddress fault)
 
 -- what an operation on a whole ruleset asks for at a path, with the text of -f
-abbrev pub whole_action : WholeWord → List Name → List ℕ → Asked
+abbrev pub whole_action : AnchorOperation → List Name → List ℕ → Asked
 whole_action whole.Load p text = change (entry.load p profile.Two text)
 whole_action whole.Check p text = Ok (CheckOnly p)
 whole_action whole.FlushRules p text = change (entry.flush_rules p)
@@ -192,13 +192,13 @@ whole_action whole.ShowTables p text = Ok (ShowTables p)
 whole_action whole.ShowAnchors p text = Ok ShowAnchors
 
 -- what an operation on a table asks for, with the addresses as arguments
-abbrev pub table_action : TableWord → List Name → Name → List Text → Asked
-table_action table.Add p t words = on_list (λ list. change (entry.add p t list)) (each entry_of words)
-table_action table.Delete p t words = on_list (λ list. change (entry.delete p t list)) (each entry_of words)
-table_action table.Replace p t words = on_list (λ list. change (entry.replace p t list)) (each entry_of words)
-table_action table.Flush p t words = change (entry.flush_table p t)
-table_action table.Show p t words = Ok (TableShow p t)
-table_action table.Test p t words = on_list (λ list. Ok (TableTest p t list)) (each addr_of words)
+abbrev pub table_action : TableOperation → List Name → Name → List Text → Asked
+table_action table.Add p t addresses = on_list (λ list. change (entry.add p t list)) (each entry_of addresses)
+table_action table.Delete p t addresses = on_list (λ list. change (entry.delete p t list)) (each entry_of addresses)
+table_action table.Replace p t addresses = on_list (λ list. change (entry.replace p t list)) (each entry_of addresses)
+table_action table.Flush p t addresses = change (entry.flush_table p t)
+table_action table.Show p t addresses = Ok (TableShow p t)
+table_action table.Test p t addresses = on_list (λ list. Ok (TableTest p t list)) (each addr_of addresses)
 
 -- 24 of a path that is none
 abbrev pub at_path : Option (List Name) → (List Name → Asked) → Asked
@@ -206,25 +206,25 @@ at_path None action = Err BadPath
 at_path (Some p) action = action p
 
 -- -t is given with -T, and only with it
-abbrev pub whole_asked : WholeWord → GivenWords → List ℕ → Asked
-whole_asked word given text =
+abbrev pub whole_asked : AnchorOperation → GivenArguments → List ℕ → Asked
+whole_asked operation given text =
     if is_some given.table || nat_lt 0 (length given.addresses) then Err Usage
-    else at_path (path_given given) (λ p. whole_action word p text)
+    else at_path (path_given given) (λ p. whole_action operation p text)
 
 -- an operation on a table requires -t, and as many addresses as it may have
-abbrev pub table_asked : TableWord → Option Name → GivenWords → Asked
-table_asked word None given = Err Usage
-table_asked word (Some t) given =
-    if may_have word (length given.addresses)
-    then at_path (path_given given) (λ p. table_action word p t given.addresses)
+abbrev pub table_asked : TableOperation → Option Name → GivenArguments → Asked
+table_asked operation None given = Err Usage
+table_asked operation (Some t) given =
+    if may_have operation (length given.addresses)
+    then at_path (path_given given) (λ p. table_action operation p t given.addresses)
     else Err Usage
 
 -- what an operation asks for with all that was given; without an operation the usage is wrong
-abbrev pub asked_by : Option Word → GivenWords → List ℕ → Asked
+abbrev pub asked_by : Option Operation → GivenArguments → List ℕ → Asked
 asked_by None given text = Err Usage
-asked_by (Some (Whole word)) given text = whole_asked word given text
-asked_by (Some (OnTable word)) given text = table_asked word (table_given given) given
+asked_by (Some (Whole operation)) given text = whole_asked operation given text
+asked_by (Some (OnTable operation)) given text = table_asked operation (table_given given) given
 
 -- the action, or the first fault: 40 of the arguments, 24 of the path, 1 to 3 of an address, 41 of a change
-unfoldable pub asked : GivenWords → List ℕ → Asked
-asked given text = asked_by (word_of given) given text
+unfoldable pub asked : GivenArguments → List ℕ → Asked
+asked given text = asked_by (operation_of given) given text

@@ -11,20 +11,20 @@ use std::alloc::{AllocError, Global};
 /// The help of each option.
 const PATH: &str = "An anchor's path, names between slashes; without it the main ruleset";
 
-const FILE: &str = "Loads a text of rules; - is standard input";
+const FILE: &str = "Loads a ruleset; - is standard input";
 
-const CHECK: &str = "Only reads the text";
+const CHECK: &str = "Parses the ruleset, but doesn't load it";
 
-const FLUSH: &str = "Empties rules, Tables or all";
+const FLUSH: &str = "Flushes rules, Tables or all";
 
-const TABLE: &str = "A table at the path";
+const TABLE: &str = "A table of the anchor";
 
-const CHANGE: &str = "What is done with the table: add, delete, replace, flush, show or test";
+const CHANGE: &str = "A command for the table: add, delete, replace, flush, show or test";
 
 const SHOW: &str = "Lists rules, Tables or Anchors";
 
 const ADDRESS: &str =
-    "Prefixes of the table, negated by a ! directly before them; of test single addresses";
+    "Addresses and prefixes, negated by a ! directly before them; for test addresses only";
 
 /// An option with a value, written by one letter.
 fn valued<'a>(alloc: Global, id: &'a str, letter: char, help: &'a str) -> Arg<'a>

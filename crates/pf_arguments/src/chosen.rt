@@ -1,14 +1,14 @@
 //! The operation that pfctl's options choose.
 
 ghost use Rattle.std.specs.Prelude.{◌≡◌};
-ghost use Rattle.pf_arguments.specs.Asked.{flush_word, table_word, show_word, load_word, chosen, may_have, word_of};
+ghost use Rattle.pf_arguments.specs.Asked.{flush_operation, table_operation, show_operation, load_operation, chosen, may_have, operation_of};
 ghost use Rattle.pf_arguments.specs.inner.Answers.{given_of};
 
 use crate::given::Given;
 
 /// What is done with an anchor as a whole.
 #[derive(Clone, Copy, PartialEq, Eq)]
-pub(crate) enum WholeWord {
+pub(crate) enum AnchorOperation {
     Load,
     Check,
     FlushRules,
@@ -21,7 +21,7 @@ pub(crate) enum WholeWord {
 
 /// What is done with one table.
 #[derive(Clone, Copy, PartialEq, Eq)]
-pub(crate) enum TableWord {
+pub(crate) enum TableOperation {
     Add,
     Delete,
     Replace,
@@ -32,101 +32,101 @@ pub(crate) enum TableWord {
 
 /// What is done.
 #[derive(Clone, Copy, PartialEq, Eq)]
-pub(crate) enum Word {
-    Whole(WholeWord),
-    OnTable(TableWord),
+pub(crate) enum Operation {
+    Whole(AnchorOperation),
+    OnTable(TableOperation),
 }
 
 /// The value of `-F`.
-fn flush_word(text: &str) -> Option<Word>
-    ensures { result ≡ flush_word text.now }
+fn flush_operation(text: &str) -> Option<Operation>
+    ensures { result ≡ flush_operation text.now }
 {
     if text == "rules" {
-        return Some(Word::Whole(WholeWord::FlushRules));
+        return Some(Operation::Whole(AnchorOperation::FlushRules));
     }
     if text == "Tables" {
-        return Some(Word::Whole(WholeWord::FlushTables));
+        return Some(Operation::Whole(AnchorOperation::FlushTables));
     }
     if text == "all" {
-        return Some(Word::Whole(WholeWord::FlushAll));
+        return Some(Operation::Whole(AnchorOperation::FlushAll));
     }
     None
 }
 
 /// The value of `-T`.
-fn table_word(text: &str) -> Option<Word>
-    ensures { result ≡ table_word text.now }
+fn table_operation(text: &str) -> Option<Operation>
+    ensures { result ≡ table_operation text.now }
 {
     if text == "add" {
-        return Some(Word::OnTable(TableWord::Add));
+        return Some(Operation::OnTable(TableOperation::Add));
     }
     if text == "delete" {
-        return Some(Word::OnTable(TableWord::Delete));
+        return Some(Operation::OnTable(TableOperation::Delete));
     }
     if text == "replace" {
-        return Some(Word::OnTable(TableWord::Replace));
+        return Some(Operation::OnTable(TableOperation::Replace));
     }
     if text == "flush" {
-        return Some(Word::OnTable(TableWord::Flush));
+        return Some(Operation::OnTable(TableOperation::Flush));
     }
     if text == "show" {
-        return Some(Word::OnTable(TableWord::Show));
+        return Some(Operation::OnTable(TableOperation::Show));
     }
     if text == "test" {
-        return Some(Word::OnTable(TableWord::Test));
+        return Some(Operation::OnTable(TableOperation::Test));
     }
     None
 }
 
 /// The value of `-s`.
-fn show_word(text: &str) -> Option<Word>
-    ensures { result ≡ show_word text.now }
+fn show_operation(text: &str) -> Option<Operation>
+    ensures { result ≡ show_operation text.now }
 {
     if text == "rules" {
-        return Some(Word::Whole(WholeWord::ShowRules));
+        return Some(Operation::Whole(AnchorOperation::ShowRules));
     }
     if text == "Tables" {
-        return Some(Word::Whole(WholeWord::ShowTables));
+        return Some(Operation::Whole(AnchorOperation::ShowTables));
     }
     if text == "Anchors" {
-        return Some(Word::Whole(WholeWord::ShowAnchors));
+        return Some(Operation::Whole(AnchorOperation::ShowAnchors));
     }
     None
 }
 
 /// What is done with the text of `-f`: with `-n` it is checked alone.
-fn load_word(check: bool) -> Word
-    ensures { result ≡ load_word check }
+fn load_operation(check: bool) -> Operation
+    ensures { result ≡ load_operation check }
 {
     if check {
-        Word::Whole(WholeWord::Check)
+        Operation::Whole(AnchorOperation::Check)
     } else {
-        Word::Whole(WholeWord::Load)
+        Operation::Whole(AnchorOperation::Load)
     }
 }
 
 /// The one operation of `-f`, `-F`, `-T` and `-s`; none where there is none or more than one, or `-n` without `-f`.
-pub(crate) fn word_of(given: Given<'_, '_>) -> Option<Word>
-    ensures { result ≡ word_of (given_of given.entry) }
+pub(crate) fn operation_of(given: Given<'_, '_>) -> Option<Operation>
+    ensures { result ≡ operation_of (given_of given.entry) }
 {
     match (given.file, given.flush, given.change, given.show) {
-        (Some(_), None, None, None) => Some(load_word(given.check)),
-        (None, Some(text), None, None) if !given.check => flush_word(text),
-        (None, None, Some(text), None) if !given.check => table_word(text),
-        (None, None, None, Some(text)) if !given.check => show_word(text),
+        (Some(_), None, None, None) => Some(load_operation(given.check)),
+        (None, Some(text), None, None) if !given.check => flush_operation(text),
+        (None, None, Some(text), None) if !given.check => table_operation(text),
+        (None, None, None, Some(text)) if !given.check => show_operation(text),
         _ => None,
     }
 }
 
-impl TableWord {
+impl TableOperation {
     /// Whether that many addresses may be behind it.
     pub(crate) fn may_have(self, count: usize) -> bool
         ensures { result ≡ may_have self count }
     {
         match self {
-            TableWord::Add | TableWord::Delete | TableWord::Test => count > 0,
-            TableWord::Replace => true,
-            TableWord::Flush | TableWord::Show => count == 0,
+            TableOperation::Add | TableOperation::Delete | TableOperation::Test => count > 0,
+            TableOperation::Replace => true,
+            TableOperation::Flush | TableOperation::Show => count == 0,
         }
     }
 }

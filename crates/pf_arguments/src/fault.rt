@@ -16,13 +16,13 @@ pub enum CommandFault {
     #[error("out of memory")]
     Memory,
     /// 40: the options don't go together, or a value of one isn't among its values.
-    #[error("the words are no command")]
+    #[error("the arguments form no command")]
     Usage,
     /// 24: the value of `-a` is no path.
-    #[error("the path is no path of an anchor")]
+    #[error("the path is no anchor's")]
     BadPath,
-    /// 1 to 3: an address is none.
-    #[error("an address is none")]
+    /// 1 to 3: an address is malformed.
+    #[error("an address is malformed")]
     BadAddress(AddrFault),
     /// 41: the command has more than 32,768 bytes or 4,096 addresses.
     #[error("the command is too long")]

@@ -12,7 +12,7 @@ ghost use Rattle.pf_arguments.specs.inner.Answers.{given_of, PathGiven};
 
 use crate::action::Action;
 use crate::addresses::{entries, read_addresses};
-use crate::chosen::{TableWord, WholeWord, Word, word_of};
+use crate::chosen::{AnchorOperation, Operation, TableOperation, operation_of};
 use crate::fault::CommandFault;
 use crate::given::Given;
 use clap::ArgMatches;
@@ -62,15 +62,15 @@ fn table_given(alloc: Global, given: Given<'_, '_>) -> Result<Option<TableName>,
 /// What is done with an anchor as a whole.
 fn whole_action(
     alloc: Global,
-    word: WholeWord,
+    operation: AnchorOperation,
     path: Path,
     text: &[u8],
 ) -> Result<Action, CommandFault>
-    ensures answer { Answers result (whole_action word path text.now) }
+    ensures answer { Answers result (whole_action operation path text.now) }
     ensures short { IfOk result IsShort }
 {
-    match word {
-        WholeWord::Load => {
+    match operation {
+        AnchorOperation::Load => {
             let text = Vec::from_slice(alloc, text)?;
             change(
                 alloc,
@@ -81,31 +81,31 @@ fn whole_action(
                 },
             )
         }
-        WholeWord::Check => Ok(Action::CheckOnly(path)),
-        WholeWord::FlushRules => change(alloc, Command::FlushRules { path }),
-        WholeWord::FlushTables => change(alloc, Command::FlushTables { path }),
-        WholeWord::FlushAll => change(alloc, Command::FlushAll { path }),
-        WholeWord::ShowRules => Ok(Action::ShowRules(path)),
-        WholeWord::ShowTables => Ok(Action::ShowTables(path)),
-        WholeWord::ShowAnchors => Ok(Action::ShowAnchors),
+        AnchorOperation::Check => Ok(Action::CheckOnly(path)),
+        AnchorOperation::FlushRules => change(alloc, Command::FlushRules { path }),
+        AnchorOperation::FlushTables => change(alloc, Command::FlushTables { path }),
+        AnchorOperation::FlushAll => change(alloc, Command::FlushAll { path }),
+        AnchorOperation::ShowRules => Ok(Action::ShowRules(path)),
+        AnchorOperation::ShowTables => Ok(Action::ShowTables(path)),
+        AnchorOperation::ShowAnchors => Ok(Action::ShowAnchors),
     }
 }
 
 /// What is done with a table.
 fn table_action(
     alloc: Global,
-    word: TableWord,
+    operation: TableOperation,
     path: Path,
     table: TableName,
-    words: &[&str],
+    addresses: &[&str],
 ) -> Result<Action, CommandFault>
-    requires { may_have word (length words.now) ≡ true }
-    ensures answer { Answers result (table_action word path table (map (λ w. w.now) words.now)) }
+    requires { may_have operation (length addresses.now) ≡ true }
+    ensures answer { Answers result (table_action operation path table (map (λ w. w.now) addresses.now)) }
     ensures short { IfOk result IsShort }
 {
-    match word {
-        TableWord::Add => {
-            let items = entries(alloc, words)?;
+    match operation {
+        TableOperation::Add => {
+            let items = entries(alloc, addresses)?;
             let addresses = SomeAddresses { items };
             change(
                 alloc,
@@ -116,8 +116,8 @@ fn table_action(
                 },
             )
         }
-        TableWord::Delete => {
-            let items = entries(alloc, words)?;
+        TableOperation::Delete => {
+            let items = entries(alloc, addresses)?;
             let addresses = SomeAddresses { items };
             change(
                 alloc,
@@ -128,8 +128,8 @@ fn table_action(
                 },
             )
         }
-        TableWord::Replace => {
-            let addresses = entries(alloc, words)?;
+        TableOperation::Replace => {
+            let addresses = entries(alloc, addresses)?;
             change(
                 alloc,
                 Command::Replace {
@@ -139,10 +139,10 @@ fn table_action(
                 },
             )
         }
-        TableWord::Flush => change(alloc, Command::FlushTable { path, table }),
-        TableWord::Show => Ok(Action::TableShow(path, table)),
-        TableWord::Test => {
-            let list = read_addresses(alloc, words)?;
+        TableOperation::Flush => change(alloc, Command::FlushTable { path, table }),
+        TableOperation::Show => Ok(Action::TableShow(path, table)),
+        TableOperation::Test => {
+            let list = read_addresses(alloc, addresses)?;
             Ok(Action::TableTest(path, table, list))
         }
     }
@@ -151,34 +151,38 @@ fn table_action(
 /// The action of an operation that isn't on a table: neither `-t` nor addresses are given with it.
 fn whole_asked(
     alloc: Global,
-    word: WholeWord,
+    operation: AnchorOperation,
     given: Given<'_, '_>,
     text: &[u8],
 ) -> Result<Action, CommandFault>
-    ensures answer { Answers result (whole_asked word (given_of given.entry) text.now) }
+    ensures answer { Answers result (whole_asked operation (given_of given.entry) text.now) }
     ensures short { IfOk result IsShort }
 {
     if given.table.is_some() || !given.addresses.is_empty() {
         return Err(CommandFault::Usage);
     }
     let path = path_given(alloc, given)?;
-    whole_action(alloc, word, path, text)
+    whole_action(alloc, operation, path, text)
 }
 
 /// The action of an operation on a table: `-t` names the table, and there are as many addresses as the operation may
 /// have.
-fn table_asked(alloc: Global, word: TableWord, given: Given<'_, '_>) -> Result<Action, CommandFault>
-    ensures answer { Answers result (table_asked word (table_given (given_of given.entry)) (given_of given.entry)) }
+fn table_asked(
+    alloc: Global,
+    operation: TableOperation,
+    given: Given<'_, '_>,
+) -> Result<Action, CommandFault>
+    ensures answer { Answers result (table_asked operation (table_given (given_of given.entry)) (given_of given.entry)) }
     ensures short { IfOk result IsShort }
 {
     let Some(table) = table_given(alloc, given)? else {
         return Err(CommandFault::Usage);
     };
-    if !word.may_have(given.addresses.len()) {
+    if !operation.may_have(given.addresses.len()) {
         return Err(CommandFault::Usage);
     }
     let path = path_given(alloc, given)?;
-    table_action(alloc, word, path, table, given.addresses)
+    table_action(alloc, operation, path, table, given.addresses)
 }
 
 /// What the matches of pfctl's arguments ask for; `text` is what the file of `-f` has.
@@ -195,9 +199,9 @@ pub fn from_matches(
     ensures short { IfOk result IsShort }
 {
     let given = Given::of(matches);
-    match word_of(given) {
+    match operation_of(given) {
         None => Err(CommandFault::Usage),
-        Some(Word::Whole(word)) => whole_asked(alloc, word, given, text),
-        Some(Word::OnTable(word)) => table_asked(alloc, word, given),
+        Some(Operation::Whole(operation)) => whole_asked(alloc, operation, given, text),
+        Some(Operation::OnTable(operation)) => table_asked(alloc, operation, given),
     }
 }

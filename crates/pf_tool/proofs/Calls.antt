@@ -1,4 +1,4 @@
--- The word that a parse entered, and its packet words.
+-- The subcommand that a parse entered, and its packets.
 use Rattle.std.proofs.Common.{◌≡◌, ℕ, true, List, Option, Some, None, [], ◌∷◌, inl, inr, refl, subst, sym, ◌⊎◌, codes}
 use Rattle.std.specs.Prelude.{option_map}
 use Rattle.clap.specs.Words.{Row, Text, subcommand_rows_of, subcommand_rows, subcommand_name_of}
@@ -13,7 +13,7 @@ use Rattle.cli_io.specs.declared.status.Status.{Status}
 use Rattle.cli_io.specs.declared.status.Status.TheVariants as status
 use Rattle.std.specs.Io.KnownBytes.{Appends}
 use Rattle.cli_io.specs.Written.{IsMisused, AppendsFront, line}
-use Rattle.pf_tool.specs.Words.{pfx_app, CallValue, called, unless_faulty, call_of}
+use Rattle.pf_tool.specs.Options.{pfx_app, CallValue, called, unless_faulty, call_of}
 use Rattle.cli_io.specs.declared.paragraph.Explanation.{Explanation}
 use Rattle.pf_tool.specs.Tool.{Ran}
 
@@ -31,20 +31,20 @@ none_both : (T : Type 0) (o : Option T) (f : T → Text) (g : T → List Row) �
 none_both T None f g e = refl
 none_both T (Some x) f g e = absurd cc
 
--- the rows of the word, which is this one
+-- the rows of the subcommand, which is this one
 pub rows_entered : (m : ArgMatches) (name : Text) (rows : List Row) → subcommand_name_of m ≡ Some name
     → option_map (λ p. p.1) (subcommand_rows (out-ArgMatches m).subcommand) ≡ Some rows → subcommand_rows_of m ≡ Some (name, rows)
 rows_entered m name rows e f = both _ (out-ArgMatches m).subcommand _ _ name rows e f
 
--- no word is entered
+-- no subcommand is entered
 pub none_entered : (m : ArgMatches) → subcommand_name_of m ≡ None → subcommand_rows_of m ≡ None
 none_entered m e = none_both _ (out-ArgMatches m).subcommand _ _ e
 
--- a parse that passes says what is called
-pub call_entered : (table : List Explanation) (words : List Text) (m : ArgMatches) → fault_of pfx_app words ≡ [] → subcommand_rows_of m ≡ subcommand_of pfx_app words
-    → call_of table words ≡ called table (subcommand_rows_of m)
+-- a parse that passes gives what is called
+pub call_entered : (table : List Explanation) (arguments : List Text) (m : ArgMatches) → fault_of pfx_app arguments ≡ [] → subcommand_rows_of m ≡ subcommand_of pfx_app arguments
+    → call_of table arguments ≡ called table (subcommand_rows_of m)
 unfolding call_of
-call_entered table words m e f = rw (e, f) refl
+call_entered table arguments m e f = rw (e, f) refl
 
 -- a front of `memory` was written
 abbrev MemoryFront : (old new : Option (List ℕ)) → Type 0
@@ -72,11 +72,11 @@ refused_by table s [] call e input old new h k none failed = elim k as (λ _. Ra
 refused_by table s (x ∷ xs) call e input old new h k none failed = misused_over table s input old new h
 
 -- a parse that is refused
-pub call_refused : (table : List Explanation) (s : Status) (words : List Text) (e : Error) (input old new : Option (List ℕ)) → IsMisused s old new
-    → HasKind (fault_of pfx_app words) e → (kind_of e ≡ OutOfMemory → s ≡ status.Usage → ⊥) → (kind_of e ≡ OutOfMemory → s ≡ status.Failed → MemoryFront old new)
-    → Ran table s (call_of table words) input old new
+pub call_refused : (table : List Explanation) (s : Status) (arguments : List Text) (e : Error) (input old new : Option (List ℕ)) → IsMisused s old new
+    → HasKind (fault_of pfx_app arguments) e → (kind_of e ≡ OutOfMemory → s ≡ status.Usage → ⊥) → (kind_of e ≡ OutOfMemory → s ≡ status.Failed → MemoryFront old new)
+    → Ran table s (call_of table arguments) input old new
 unfolding call_of
-call_refused table s words e input old new h k none failed = refused_by table s (fault_of pfx_app words) _ e input old new h k none failed
+call_refused table s arguments e input old new h k none failed = refused_by table s (fault_of pfx_app arguments) _ e input old new h k none failed
 
 -- out of memory
 pub memory_over : (table : List Explanation) (s : Status) (call : Option CallValue) (input old new : Option (List ℕ)) →
@@ -90,7 +90,7 @@ memory_over table s (Some call) input old new h f = elim h [
   | inr both ↦ subst (λ r. Ran table r (Some call) input old new) (sym both.0) both.1
 ]
 
--- what is said of words that ask for nothing
+-- what is printed for arguments that ask for nothing
 pub misnamed_over : (table : List Explanation) (s : Status) (input old new : Option (List ℕ)) → (s ≡ status.Usage) ⊎ (s ≡ status.Failed) → Ran table s None input old new
 misnamed_over table s input old new h = elim h [
   | inl e ↦ subst (λ r. Ran table r None input old new) (sym e) refl
@@ -105,12 +105,12 @@ simple_and_free = refl
 simple : is_simple pfx_app ≡ true
 simple = refl
 
-pub kinds_of_program : (a : App) (words : List Text) (e : Error) → a ≡ pfx_app → (is_simple_and_free a ≡ true → HasKind (fault_of a words) e)
-    → HasKind (fault_of pfx_app words) e
-kinds_of_program a words e same h = let P : App → Type 0 = λ b. is_simple_and_free b ≡ true → HasKind (fault_of b words) e in subst P same h simple_and_free
+pub kinds_of_program : (a : App) (arguments : List Text) (e : Error) → a ≡ pfx_app → (is_simple_and_free a ≡ true → HasKind (fault_of a arguments) e)
+    → HasKind (fault_of pfx_app arguments) e
+kinds_of_program a arguments e same h = let P : App → Type 0 = λ b. is_simple_and_free b ≡ true → HasKind (fault_of b arguments) e in subst P same h simple_and_free
 
-pub passes_program : (a : App) (words : List Text) → a ≡ pfx_app → (is_simple_and_free a ≡ true → fault_of a words ≡ []) → fault_of pfx_app words ≡ []
-passes_program a words same h = let P : App → Type 0 = λ b. is_simple_and_free b ≡ true → fault_of b words ≡ [] in subst P same h simple_and_free
+pub passes_program : (a : App) (arguments : List Text) → a ≡ pfx_app → (is_simple_and_free a ≡ true → fault_of a arguments ≡ []) → fault_of pfx_app arguments ≡ []
+passes_program a arguments same h = let P : App → Type 0 = λ b. is_simple_and_free b ≡ true → fault_of b arguments ≡ [] in subst P same h simple_and_free
 
-pub rows_of_program : (a : App) (words : List Text) (m : ArgMatches) → a ≡ pfx_app → HasMatchesOf a words m → subcommand_rows_of m ≡ subcommand_of pfx_app words
-rows_of_program a words m same h = let P : App → Type 0 = λ b. HasMatchesOf b words m in (subst P same h simple).1
+pub rows_of_program : (a : App) (arguments : List Text) (m : ArgMatches) → a ≡ pfx_app → HasMatchesOf a arguments m → subcommand_rows_of m ≡ subcommand_of pfx_app arguments
+rows_of_program a arguments m same h = let P : App → Type 0 = λ b. HasMatchesOf b arguments m in (subst P same h simple).1

@@ -44,14 +44,14 @@ pub under_input : (more : Option Text) (quiet : Bool) (packets : List Text) (byt
     → w ≡ quieted quiet (tested_texts packets (Some bytes) lines) → IfSome o (λ input. AreTested None more quiet packets input w)
 under_input more quiet packets bytes lines o w h k e = IfSome_then o h (λ input same. (Some bytes, ap Some same, (lines, k input same, e)))
 
--- neither a file nor words have packets: the input has them too
+-- neither a file nor arguments have packets: the input has them too
 pub both_lines : (more : Option (Bor (List ℕ))) (packets : List (Bor (List ℕ))) (bytes input : List ℕ) → more ≡ None → length packets < 1 → bytes ≡ input
     → AreLines (option_copied more) (map (λ p. p.now) packets) (Some bytes) input
 both_lines None [] bytes input e n same = ap Some same
 both_lines None (p ∷ packets) bytes input e n same = absurd (omega arith)
 both_lines (Some path) packets bytes input e n same = absurd cc
 
--- words have packets, and no file
+-- arguments have packets, and no file
 pub no_lines : (more : Option (Bor (List ℕ))) (packets : List (Bor (List ℕ))) (bytes input : List ℕ) → more ≡ None → 1 ≤ length packets → bytes ≡ []
     → AreLines (option_copied more) (map (λ p. p.now) packets) (Some bytes) input
 no_lines None [] bytes input e n none = absurd (omega arith)

@@ -1,3 +1,3 @@
-pub mod Words
+pub mod Options
 pub mod Tool
 pub mod inner

@@ -25,7 +25,7 @@ use Rattle.cli_io.specs.declared.paragraph.Explanation.{Explanation}
 use Rattle.cli_io.specs.Explained.{paragraph, paragraphs}
 use Rattle.pf_tool.specs.declared.output.Ending.{Ending}
 use Rattle.pf_tool.specs.declared.output.Ending.TheVariants.{Done, Refused}
-use Rattle.pf_tool.specs.Words.{CallValue, Test, Check, Ctl, Lab, Explain, CheckFiles, TestFiles}
+use Rattle.pf_tool.specs.Options.{CallValue, Test, Check, Ctl, Lab, Explain, CheckFiles, TestFiles}
 use Rattle.cli_io.specs.declared.status.Status.{Status}
 use Rattle.cli_io.specs.declared.status.Status.TheVariants as status
 use Rattle.cli_io.specs.Written.{line, AppendsFront}

@@ -13,7 +13,7 @@ ghost use Rattle.pf_tool.specs.inner.Sources.{text_in};
 
 use crate::call::Call;
 use crate::checking::{check_output, checked_texts};
-use crate::deciding::say_rules;
+use crate::deciding::report_rules;
 use crate::explaining::explained;
 use crate::output::{Output, quieted};
 use crate::packets::packet_texts;
@@ -71,7 +71,7 @@ fn test_input<R: Read>(
     let input = input_of(alloc, reader)?;
     let output = test_output(alloc, packets, &input)?;
     if remarks.has_rules() {
-        say_rules(alloc, &input, packets, remarks)?;
+        report_rules(alloc, &input, packets, remarks)?;
     }
     remarks.add("stdin", output.text.as_str())?;
     Ok(output)
@@ -170,7 +170,7 @@ fn check_files<R: Read>(
 }
 
 /// Adds the messages of which rules decide the packets of arguments and of lines.
-fn say_decided(
+fn report_decided(
     alloc: Global,
     packets: &[&str],
     rules: Option<&[u8]>,
@@ -185,7 +185,7 @@ fn say_decided(
             let mut all = Vec::new(alloc);
             all.extend_from_slice(packets)?;
             all.extend_from_slice(&more)?;
-            say_rules(alloc, text, &all, remarks)
+            report_rules(alloc, text, &all, remarks)
         }
         None => Ok(()),
     }
@@ -214,7 +214,7 @@ fn test_sources(
 {
     let output = tested_texts(alloc, packets, rules.bytes(), lines.bytes())?;
     if remarks.has_rules() {
-        say_decided(alloc, packets, rules.bytes(), lines.bytes(), remarks)?;
+        report_decided(alloc, packets, rules.bytes(), lines.bytes(), remarks)?;
     }
     let printed = output.text.as_str();
     remarks.add(refused_name(rules, lines, printed), printed)?;

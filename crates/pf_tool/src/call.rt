@@ -3,8 +3,8 @@
 ghost use Rattle.std.specs.Prelude.{◌≡◌, Some, map, option_map};
 ghost use Rattle.std.specs.Option.{option_copied};
 ghost use Rattle.clap.specs.Words.{found_of, rows_of, first_of, subcommand_rows_of};
-ghost use Rattle.pf_tool.specs.Words.{place_for, is_given, check_call, test_call, words_call, explain_as};
-ghost use Rattle.pf_tool.specs.Words.{called_by, called};
+ghost use Rattle.pf_tool.specs.Options.{place_for, is_given, check_call, test_call, packets_call, explain_as};
+ghost use Rattle.pf_tool.specs.Options.{called_by, called};
 ghost use Rattle.pf_tool.specs.inner.Calls.{asked};
 
 use clap::ArgMatches;
@@ -99,8 +99,8 @@ fn check_call<'m, 'a>(inner: &'m ArgMatches<'a>) -> Call<'m, 'a>
 }
 
 /// What `test` asks for without a file.
-fn words_call<'m, 'a>(quiet: bool, packets: &'m [&'a str]) -> Option<Call<'m, 'a>>
-    ensures { option_map asked result ≡ words_call quiet (map (λ p. p.now) packets.now) }
+fn packets_call<'m, 'a>(quiet: bool, packets: &'m [&'a str]) -> Option<Call<'m, 'a>>
+    ensures { option_map asked result ≡ packets_call quiet (map (λ p. p.now) packets.now) }
 {
     match packets {
         [] => None,
@@ -136,7 +136,7 @@ fn test_call<'m, 'a>(inner: &'m ArgMatches<'a>) -> Option<Call<'m, 'a>>
         Some(_) => Some(files),
         None => match more {
             Some(_) => Some(files),
-            None => words_call(quiet, packets),
+            None => packets_call(quiet, packets),
         },
     }
 }
@@ -157,24 +157,24 @@ fn explain_call<'m, 'a>(table: &'m [Explanation], code: Option<&str>) -> Option<
 /// What a subcommand asks for with the matches of its arguments.
 fn call_by<'m, 'a>(
     table: &'m [Explanation],
-    word: &str,
+    subcommand: &str,
     inner: &'m ArgMatches<'a>,
 ) -> Option<Call<'m, 'a>>
-    ensures { option_map asked result ≡ called_by table.now word.now (rows_of (found_of inner.now)) }
+    ensures { option_map asked result ≡ called_by table.now subcommand.now (rows_of (found_of inner.now)) }
 {
-    if word == "check" {
+    if subcommand == "check" {
         return Some(check_call(inner));
     }
-    if word == "test" {
+    if subcommand == "test" {
         return test_call(inner);
     }
-    if word == "ctl" {
+    if subcommand == "ctl" {
         return Some(Call::Ctl);
     }
-    if word == "lab" {
+    if subcommand == "lab" {
         return Some(Call::Lab);
     }
-    if word == "explain" {
+    if subcommand == "explain" {
         return explain_call(table, value_in(inner, "code"));
     }
     None
@@ -188,7 +188,7 @@ pub(crate) fn call_in<'m, 'a>(
     ensures { option_map asked result ≡ called table.now (subcommand_rows_of matches.now) }
 {
     match matches.subcommand() {
-        Some((word, inner)) => call_by(table, word, inner),
+        Some((subcommand, inner)) => call_by(table, subcommand, inner),
         None => None,
     }
 }
@@ -207,6 +207,6 @@ pub(crate) fn misnamed(matches: &ArgMatches<'_>) -> &'static str {
         Some("test") =>
             "error: no packet is given\n\nFor more information, try 'pfx test --help'.\n",
         Some("explain") => "error: no refusal has this number; pfx explain shows all\n",
-        _ => "error: this word stands by itself, behind pfx\n",
+        _ => "error: this subcommand must come directly after pfx\n",
     }
 }

@@ -29,7 +29,7 @@ fn shown_rule(alloc: Global, config: &Config, found: &Verdict<'_>) -> Result<Str
 
 /// Adds for each packet, by its place from 1, the verdict and the rule that decides, up to the first text that is no
 /// packet.
-fn say_each(
+fn report_each(
     alloc: Global,
     config: &Config,
     packets: &[&str],
@@ -45,13 +45,13 @@ fn say_each(
         let shown = show_verdict(alloc, &found)?;
         let rule = shown_rule(alloc, config, &found)?;
         let line = format!(in alloc; "packet {at}: {shown}: {}", rule.as_str().trim_end())?;
-        remarks.say(line.as_str())?;
+        remarks.push_line(line.as_str())?;
     }
     Ok(())
 }
 
 /// Adds for each packet under a ruleset which rule decides; nothing for a ruleset that is refused.
-pub(crate) fn say_rules(
+pub(crate) fn report_rules(
     alloc: Global,
     text: &[u8],
     packets: &[&str],
@@ -62,7 +62,7 @@ pub(crate) fn say_rules(
     };
     let mut config = Config::new(alloc)?;
     match config.load(&Path::main(alloc), rules) {
-        Ok(()) => say_each(alloc, &config, packets, remarks),
+        Ok(()) => report_each(alloc, &config, packets, remarks),
         Err(_) => Ok(()),
     }
 }

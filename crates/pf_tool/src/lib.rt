@@ -6,7 +6,7 @@
 //! - [`run`]: the subcommands `check`, `test`, `ctl`, `lab` and `explain`, over any reader and writers.
 //! - [`Status`]: how a run ends, and the exit status.
 //!
-//! Within: `words` has the arguments as `clap` reads them, `call` what they ask for, `checking`, `testing`, `scripts`
+//! Within: `options` has the arguments as `clap` reads them, `call` what they ask for, `checking`, `testing`, `scripts`
 //! and `explaining` what each subcommand writes, `source` and `packets` rulesets and packets in files, `answering` what
 //! a call writes over the input and files, `remarks` and `deciding` the messages on standard error, `output` what a run
 //! writes, `running` one run from the arguments to the status.
@@ -85,6 +85,7 @@ mod call;
 mod checking;
 mod deciding;
 mod explaining;
+mod options;
 mod output;
 mod packets;
 mod remarks;
@@ -92,7 +93,6 @@ mod running;
 mod scripts;
 mod source;
 mod testing;
-mod words;
 
 pub use cli_io::Status;
 pub use running::run;

@@ -67,7 +67,7 @@ impl<'t> Remarks<'t> {
     }
 
     /// Adds a line.
-    pub(crate) fn say(&mut self, line: &str) -> Result<(), AllocError> {
+    pub(crate) fn push_line(&mut self, line: &str) -> Result<(), AllocError> {
         self.text.push_str(line)?;
         self.text.push('\n')
     }
@@ -85,8 +85,8 @@ impl<'t> Remarks<'t> {
             name,
             code,
         };
-        let said = format!(in self.alloc; "{remark}")?;
-        self.say(said.as_str())
+        let line = format!(in self.alloc; "{remark}")?;
+        self.push_line(line.as_str())
     }
 
     /// Adds that an argument or a line is no packet, by its place from 1.

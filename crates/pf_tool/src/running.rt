@@ -1,15 +1,15 @@
 //! A run of the program.
 
 ghost use Rattle.std.specs.Prelude.{◌≡◌, ◌⊎◌, map, Some};
-ghost use Rattle.pf_tool.specs.Words.{call_of};
+ghost use Rattle.pf_tool.specs.Options.{call_of};
 ghost use Rattle.pf_tool.specs.Tool.{Ran};
 ghost use Rattle.pf_tool.specs.inner.Calls.{asked};
 
 use crate::answering::{RunFault, output_for};
 use crate::call::{Call, call_in, is_verbose, misnamed};
+use crate::options::command;
 use crate::output::Ending;
 use crate::remarks::{Level, Remarks};
-use crate::words::command;
 use cli_io::{Explanation, Status, misused, out_of_memory, write_bytes};
 use std::convert::AsStr;
 use std::io::{Read, Write};
@@ -81,20 +81,20 @@ fn misnamed_words<W: Write>(text: &str, writer: &mut W) -> Status
 pub fn run<S: AsStr, R: Read, W: Write, E: Write>(
     rt: &HostRuntime,
     table: &[Explanation],
-    words: &[S],
+    arguments: &[S],
     reader: &mut R,
     writer: &mut W,
     errors: &mut E,
     is_terminal: bool,
 ) -> Status
-    ensures { Ran table.now result (call_of table.now (map S.text words.now)) (R.remaining reader.old)
+    ensures { Ran table.now result (call_of table.now (map S.text arguments.now)) (R.remaining reader.old)
         (W.contents writer.old) (W.contents writer.new) }
 {
     let alloc = rt.alloc();
     let Ok(command) = command(alloc) else {
         return out_of_memory(writer);
     };
-    let matches = match command.try_get_matches_from(words) {
+    let matches = match command.try_get_matches_from(arguments) {
         Ok(matches) => matches,
         Err(error) => return misused(alloc, &error, writer),
     };

@@ -8,8 +8,8 @@
 //! the same line, what it writes, each line of its standard error behind `! `, and `-- STATUS`.
 
 use crate::line::{BEGIN, Line, LineFault, arguments_of, line_of, mode_of};
+use crate::reporting::run_line;
 use crate::running::subcommand_of;
-use crate::telling::run_line;
 use bstr::ByteSlice;
 use clap::{Arg, ArgAction, Command};
 use cli_io::{InputFault, Status, misused, out_of_memory, read_all};
@@ -20,28 +20,28 @@ use std::fs::{self, Permissions};
 use std::io::{self, Write};
 use std::os::unix::fs::PermissionsExt;
 
-const FILE: &str = "The file of command lines; without one, or with -, it is standard input";
+const FILE: &str = "The file of command lines; - or none is standard input";
 
 const BELOW: &str =
-    "A line that begins with == is a command line, its arguments between tabs. The lines up to the next are its input:
+    "A line that begins with == is a command line, its arguments separated by tabs. The lines up to the next are its input:
   == check\t--anchor\t# a comment
   block all
   == !\tcheck
   bogus
-Before the subcommand may be ! (it must fail) and then | (its input begins with what the last show wrote). An argument
-* stands for the lines before the first command line, but for empty ones and those that begin with #. chmod MODE FILE..
-sets the mode of files, in octal digits.
+Before the subcommand may be ! (it must fail) and then | (its input begins with the output of the last show). An argument
+* is replaced by the lines before the first command line, without empty ones and those that begin with #. chmod MODE
+FILE.. sets the mode of files, in octal digits.
 
-Each is printed with its output, each line of its standard error behind !, and -- STATUS. What isn't run, as a batch in
-a batch, is refused 40; a file that can't be read, or whose mode can't be set, is refused 90.
+Each is printed with its output, each line of its standard error after !, and -- STATUS. A command line that isn't run,
+as a batch in a batch, is refused 40; a file that can't be read, or whose mode can't be set, is refused 90.
 
-Status: 0 where each ended with 0, or with another status where it must fail; else 1, and standard error has each that
+Exit status: 0 if each ended with 0, or with another status if it must fail; else 1, and standard error has those that
 didn't.";
 
 /// The modes that `chmod` takes.
 const BAD_MODE: LineFault = LineFault::Refused(
     40,
-    "chmod takes a mode of octal digits, 0 to 7777, and files",
+    "chmod needs a mode of octal digits, 0 to 7777, and files",
 );
 
 /// `batch [FILE]`

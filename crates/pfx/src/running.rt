@@ -128,18 +128,18 @@ fn help_ask<R: Read, W: Write, E: Write>(
     writer: &mut W,
     errors: &mut E,
 ) -> Status {
-    let status = run_control_ask(rt, rt.alloc(), arguments, reader, writer, errors, false);
+    let status = run_control_ask(rt, rt, rt.alloc(), arguments, reader, writer, errors, false);
     if status != Status::Usage {
         return status;
     }
-    match writer.write_all(b"\nWhere a node has neither control socket nor key, over UDP:\n\n") {
+    match writer.write_all(b"\nTo a node with neither control socket nor key, over UDP:\n\n") {
         Ok(()) => run_net(rt, rt.alloc(), arguments, reader, writer),
         Err(_) => Status::Failed,
     }
 }
 
 /// Writes which program this is.
-fn tell_version<W: Write>(writer: &mut W) -> Status {
+fn print_version<W: Write>(writer: &mut W) -> Status {
     match write_version(writer) {
         Ok(()) => Status::Done,
         Err(_) => Status::Failed,
@@ -157,11 +157,12 @@ fn run_plain<R: Read, W: Write, E: Write>(
 ) -> Status {
     let alloc = rt.alloc();
     match subcommand_of(arguments) {
-        "--version" | "-V" => tell_version(writer),
+        "--version" | "-V" => print_version(writer),
         "ask" if asks_help(arguments) && !has_control(arguments) => {
             help_ask(rt, arguments, reader, writer, errors)
         }
         "ask" if has_control(arguments) => run_control_ask(
+            rt,
             rt,
             alloc,
             arguments,
@@ -172,7 +173,7 @@ fn run_plain<R: Read, W: Write, E: Write>(
         ),
         "node" | "ask" | "key" => run_net(rt, alloc, arguments, reader, writer),
         "show" => run_show(rt, alloc, arguments, writer),
-        "follow" => run_follow(rt, alloc, arguments, writer, errors),
+        "follow" => run_follow(rt, rt, alloc, arguments, writer, errors),
         "check" if asks_nft(arguments) => run_nft(rt, alloc, arguments, reader, writer),
         _ => run(
             rt,

@@ -5,15 +5,15 @@ use Rattle.px_model.specs.Spelling.{Bytes}
 use Rattle.px_model.specs.World.{NodeState, nothing_stored, started}
 use Rattle.px_records.specs.declared.records.Records.{Ghosts}
 use Rattle.px_wire.specs.Message.{Group}
-use Rattle.px_replica.specs.Lives.{TraceEvent, Lived}
+use Rattle.px_replica.specs.Traces.{TraceEvent, Traced}
 use Rattle.pf_node.specs.declared.state.Node.{Node}
-use Rattle.node_loop.specs.Living.{sent_by}
+use Rattle.node_loop.specs.Moves.{sent_by}
 use Rattle.pfx_laws.specs.Clusters.{Cluster, ClusterEvent, MayAllHappen, after, begun}
 use Rattle.pfx_laws.specs.Promised.{IsNode}
 use Rattle.pfx_laws.specs.Wires.{Stretch, AreStretches, AreCarried, trace_in, stand, cluster_event, history_of}
 use Rattle.pfx_laws.specs.Carried.{Goes, WiresNeverDiffer, WiresLearnWhatWasAsked, EquallyAppliedOverWires, StandsSo}
 use Rattle.pfx_laws.proofs.Agreeing.{never_differ, learn_what_was_asked, equally_applied}
-use Rattle.pfx_laws.proofs.Carrying.{wires_are_histories, lived_front}
+use Rattle.pfx_laws.proofs.Carrying.{wires_are_histories, traced_front}
 
 -- ---- the first stretches alone
 
@@ -39,10 +39,10 @@ goes_first : (g : Group) (xs ys : List Stretch) → Goes g (xs ++ ys) → Goes g
 goes_first g xs ys goes = record {
   group = goes.group;
   are = are_first g xs ys goes.are;
-  lived = λ m below.
+  traced = λ m below.
       let s = started nothing_stored in
-      lived_front g m s (stand (xs ++ ys) m) (trace_in m xs) (trace_in m ys)
-      (subst (λ (ds : List TraceEvent). Lived g m s ds (stand (xs ++ ys) m)) (trace_then m xs ys) (goes.lived m below));
+      traced_front g m s (stand (xs ++ ys) m) (trace_in m xs) (trace_in m ys)
+      (subst (λ (ds : List TraceEvent). Traced g m s ds (stand (xs ++ ys) m)) (trace_then m xs ys) (goes.traced m below));
   carried = carried_first g xs ys [] goes.carried;
 }
 

@@ -13,16 +13,16 @@ use Rattle.px_model.specs.World.{NodeState, started}
 use Rattle.px_model.specs.Spelling.{Bytes}
 use Rattle.px_wire.specs.Message.{Group, DatagramBytes}
 use Rattle.px_wire.specs.Members.{as_sent}
-use Rattle.px_replica.specs.Lives.{TraceEvent, Lived, stopped}
+use Rattle.px_replica.specs.Traces.{TraceEvent, Traced, stopped}
 use Rattle.px_replica.specs.Spelled.{for_members}
 use Rattle.px_replica.specs.declared.datagram.Datagram.{Datagram}
 use Rattle.node_loop.specs.Turns.{handed_over}
-use Rattle.node_loop.specs.Living.{Heard, message_in, messages_of, AreBrought, sent_by}
+use Rattle.node_loop.specs.Moves.{Heard, message_in, messages_of, AreBrought, sent_by}
 use Rattle.pfx_laws.specs.Clusters.{Cluster, ClusterEvent, IsDelivered, WasSent, MayAllHappen, next, after, begun}
 use Rattle.pfx_laws.specs.Wires.{Stretch, AreStretches, IsCarried, AreCarried, trace_in, led_to, cluster_event, history_of}
 use Rattle.pfx_laws.specs.Carried.{WiresAreHistories}
 use Rattle.pfx_laws.specs.Runs.{IsStretch}
-use Rattle.node_loop.proofs.Lives.{lived_then}
+use Rattle.node_loop.proofs.Runs.{traced_then}
 use Rattle.pfx_laws.proofs.Following.{after_both}
 
 -- ---- what was handed to wires is among what was handed out
@@ -151,37 +151,37 @@ all_more g sent more m (TraceEvent.Opens ∷ ds) h = all_more g sent more m ds h
 put_here : (nodes : ℕ → NodeState Bytes) (m : ℕ) (t : NodeState Bytes) → put nodes m t m ≡ t
 put_here nodes m t = cond-true (nat_eq m m) t (nodes m) (eq-eqb m m refl)
 
-lived_from : (g : Group) (nodes : ℕ → NodeState Bytes) (m : ℕ) (s t : NodeState Bytes) (ds : List TraceEvent) → Lived g m s ds t →
-    Lived g m (put nodes m s m) ds t
-lived_from g nodes m s t ds l = subst (λ (z : NodeState Bytes). Lived g m z ds t) (sym (put_here nodes m s)) l
+traced_from : (g : Group) (nodes : ℕ → NodeState Bytes) (m : ℕ) (s t : NodeState Bytes) (ds : List TraceEvent) → Traced g m s ds t →
+    Traced g m (put nodes m s m) ds t
+traced_from g nodes m s t ds l = subst (λ (z : NodeState Bytes). Traced g m z ds t) (sym (put_here nodes m s)) l
 
-trace_may : (g : Group) (m : ℕ) (ds : List TraceEvent) (c : Cluster) (t : NodeState Bytes) → m < g.members → Lived g m (c.nodes m) ds t →
+trace_may : (g : Group) (m : ℕ) (ds : List TraceEvent) (c : Cluster) (t : NodeState Bytes) → m < g.members → Traced g m (c.nodes m) ds t →
     AreDelivered g c.sent m ds → MayAllHappen g (map (cluster_event m) ds) c
 trace_may g m [] c t below l delivered = tt
 trace_may g m (TraceEvent.Calls x u out ∷ ds) c t below l delivered = (
   (record { below = below; is_up = l.0 }, ((l.1, delivered.0), l.2)),
-  trace_may g m ds (next c (ClusterEvent.Calls m x u out)) t below (lived_from g c.nodes m u t ds l.3)
+  trace_may g m ds (next c (ClusterEvent.Calls m x u out)) t below (traced_from g c.nodes m u t ds l.3)
       (all_more g c.sent (for_members out) m ds delivered.1),
 )
 trace_may g m (TraceEvent.Stops x left ∷ ds) c t below l delivered = (
   (record { below = below; is_up = l.0 }, ((l.1, delivered.0), l.2)),
-  trace_may g m ds (next c (ClusterEvent.Stops m x left)) t below (lived_from g c.nodes m (stopped left) t ds l.3) delivered.1,
+  trace_may g m ds (next c (ClusterEvent.Stops m x left)) t below (traced_from g c.nodes m (stopped left) t ds l.3) delivered.1,
 )
 trace_may g m (TraceEvent.Opens ∷ ds) c t below l delivered = (
   below,
-  trace_may g m ds (next c (ClusterEvent.Opens m)) t below (lived_from g c.nodes m (started (c.nodes m).stored) t ds l) delivered,
+  trace_may g m ds (next c (ClusterEvent.Opens m)) t below (traced_from g c.nodes m (started (c.nodes m).stored) t ds l) delivered,
 )
 
 -- its member is in the state after its trace
-stands_here : (g : Group) (m : ℕ) (ds : List TraceEvent) (c : Cluster) (t : NodeState Bytes) → Lived g m (c.nodes m) ds t →
+stands_here : (g : Group) (m : ℕ) (ds : List TraceEvent) (c : Cluster) (t : NodeState Bytes) → Traced g m (c.nodes m) ds t →
     (after (map (cluster_event m) ds) c).nodes m ≡ t
 stands_here g m [] c t l = sym l
 stands_here g m (TraceEvent.Calls x u out ∷ ds) c t l =
-    stands_here g m ds (next c (ClusterEvent.Calls m x u out)) t (lived_from g c.nodes m u t ds l.3)
+    stands_here g m ds (next c (ClusterEvent.Calls m x u out)) t (traced_from g c.nodes m u t ds l.3)
 stands_here g m (TraceEvent.Stops x left ∷ ds) c t l =
-    stands_here g m ds (next c (ClusterEvent.Stops m x left)) t (lived_from g c.nodes m (stopped left) t ds l.3)
+    stands_here g m ds (next c (ClusterEvent.Stops m x left)) t (traced_from g c.nodes m (stopped left) t ds l.3)
 stands_here g m (TraceEvent.Opens ∷ ds) c t l =
-    stands_here g m ds (next c (ClusterEvent.Opens m)) t (lived_from g c.nodes m (started (c.nodes m).stored) t ds l)
+    stands_here g m ds (next c (ClusterEvent.Opens m)) t (traced_from g c.nodes m (started (c.nodes m).stored) t ds l)
 
 -- the others are in the states in which they were
 stands_else : (m k : ℕ) (ds : List TraceEvent) (c : Cluster) → nat_eq k m ≡ false → (after (map (cluster_event m) ds) c).nodes k ≡ c.nodes k
@@ -198,7 +198,7 @@ abbrev Stands : Cluster → (ℕ → NodeState Bytes) → Type 0
 Stands c nodes = (k : ℕ) → c.nodes k ≡ nodes k
 
 stands_then : (g : Group) (m : ℕ) (ds : List TraceEvent) (c : Cluster) (nodes : ℕ → NodeState Bytes) (t : NodeState Bytes) →
-    Stands c nodes → Lived g m (c.nodes m) ds t → Stands (after (map (cluster_event m) ds) c) (put nodes m t)
+    Stands c nodes → Traced g m (c.nodes m) ds t → Stands (after (map (cluster_event m) ds) c) (put nodes m t)
 stands_then g m ds c nodes t stands l k =
     let d = after (map (cluster_event m) ds) c in
     elim (eqb_tells k m) [
@@ -230,23 +230,23 @@ led_then s (TraceEvent.Stops x left ∷ xs) ys = led_then (stopped left) xs ys
 led_then s (TraceEvent.Opens ∷ xs) ys = led_then (started s.stored) xs ys
 
 -- its state is the one after its trace
-pub lived_to : (g : Group) (me : ℕ) (s t : NodeState Bytes) (xs : List TraceEvent) → Lived g me s xs t → t ≡ led_to s xs
-lived_to g me s t [] l = l
-lived_to g me s t (TraceEvent.Calls x u out ∷ xs) l = lived_to g me u t xs l.3
-lived_to g me s t (TraceEvent.Stops x left ∷ xs) l = lived_to g me (stopped left) t xs l.3
-lived_to g me s t (TraceEvent.Opens ∷ xs) l = lived_to g me (started s.stored) t xs l
+pub traced_to : (g : Group) (me : ℕ) (s t : NodeState Bytes) (xs : List TraceEvent) → Traced g me s xs t → t ≡ led_to s xs
+traced_to g me s t [] l = l
+traced_to g me s t (TraceEvent.Calls x u out ∷ xs) l = traced_to g me u t xs l.3
+traced_to g me s t (TraceEvent.Stops x left ∷ xs) l = traced_to g me (stopped left) t xs l.3
+traced_to g me s t (TraceEvent.Opens ∷ xs) l = traced_to g me (started s.stored) t xs l
 
-pub lived_front : (g : Group) (me : ℕ) (s t : NodeState Bytes) (xs ys : List TraceEvent) → Lived g me s (xs ++ ys) t → Lived g me s xs (led_to s xs)
-lived_front g me s t [] ys l = refl
-lived_front g me s t (TraceEvent.Calls x u out ∷ xs) ys l = (l.0, l.1, l.2, lived_front g me u t xs ys l.3)
-lived_front g me s t (TraceEvent.Stops x left ∷ xs) ys l = (l.0, l.1, l.2, lived_front g me (stopped left) t xs ys l.3)
-lived_front g me s t (TraceEvent.Opens ∷ xs) ys l = lived_front g me (started s.stored) t xs ys l
+pub traced_front : (g : Group) (me : ℕ) (s t : NodeState Bytes) (xs ys : List TraceEvent) → Traced g me s (xs ++ ys) t → Traced g me s xs (led_to s xs)
+traced_front g me s t [] ys l = refl
+traced_front g me s t (TraceEvent.Calls x u out ∷ xs) ys l = (l.0, l.1, l.2, traced_front g me u t xs ys l.3)
+traced_front g me s t (TraceEvent.Stops x left ∷ xs) ys l = (l.0, l.1, l.2, traced_front g me (stopped left) t xs ys l.3)
+traced_front g me s t (TraceEvent.Opens ∷ xs) ys l = traced_front g me (started s.stored) t xs ys l
 
-lived_back : (g : Group) (me : ℕ) (s t : NodeState Bytes) (xs ys : List TraceEvent) → Lived g me s (xs ++ ys) t → Lived g me (led_to s xs) ys t
-lived_back g me s t [] ys l = l
-lived_back g me s t (TraceEvent.Calls x u out ∷ xs) ys l = lived_back g me u t xs ys l.3
-lived_back g me s t (TraceEvent.Stops x left ∷ xs) ys l = lived_back g me (stopped left) t xs ys l.3
-lived_back g me s t (TraceEvent.Opens ∷ xs) ys l = lived_back g me (started s.stored) t xs ys l
+traced_back : (g : Group) (me : ℕ) (s t : NodeState Bytes) (xs ys : List TraceEvent) → Traced g me s (xs ++ ys) t → Traced g me (led_to s xs) ys t
+traced_back g me s t [] ys l = l
+traced_back g me s t (TraceEvent.Calls x u out ∷ xs) ys l = traced_back g me u t xs ys l.3
+traced_back g me s t (TraceEvent.Stops x left ∷ xs) ys l = traced_back g me (stopped left) t xs ys l.3
+traced_back g me s t (TraceEvent.Opens ∷ xs) ys l = traced_back g me (started s.stored) t xs ys l
 
 -- how the members are behind a stretch
 abbrev pub put_on : (ℕ → NodeState Bytes) → Stretch → ℕ → NodeState Bytes
@@ -254,7 +254,7 @@ put_on nodes x = put nodes x.member (led_to (nodes x.member) x.trace)
 
 -- each member's trace from there on
 abbrev pub Live : Group → (ℕ → NodeState Bytes) → List Stretch → Type 0
-Live g nodes xs = (m : ℕ) → m < g.members → Lived g m (nodes m) (trace_in m xs) (led_to (nodes m) (trace_in m xs))
+Live g nodes xs = (m : ℕ) → m < g.members → Traced g m (nodes m) (trace_in m xs) (led_to (nodes m) (trace_in m xs))
 
 -- the trace of this stretch's member begins with the stretch's trace
 own_trace : (m : ℕ) (x : Stretch) (xs : List Stretch) → nat_eq m x.member ≡ true → trace_in m (x ∷ xs) ≡ x.trace ++ trace_in m xs
@@ -284,16 +284,16 @@ led_on nodes x xs k = elim (eqb_tells k x.member) [
 ]
 
 abbrev Leads : Group → (m : ℕ) → NodeState Bytes → List TraceEvent → Type 0
-Leads g m s ds = Lived g m s ds (led_to s ds)
+Leads g m s ds = Traced g m s ds (led_to s ds)
 
 leads_back : (g : Group) (m : ℕ) (s : NodeState Bytes) (xs ys : List TraceEvent) → Leads g m s (xs ++ ys) → Leads g m (led_to s xs) ys
 leads_back g m s xs ys l =
-    subst (λ (t : NodeState Bytes). Lived g m (led_to s xs) ys t) (led_then s xs ys) (lived_back g m s (led_to s (xs ++ ys)) xs ys l)
+    subst (λ (t : NodeState Bytes). Traced g m (led_to s xs) ys t) (led_then s xs ys) (traced_back g m s (led_to s (xs ++ ys)) xs ys l)
 
 leads_then : (g : Group) (m : ℕ) (s : NodeState Bytes) (xs ys : List TraceEvent) → Leads g m s xs → Leads g m (led_to s xs) ys → Leads g m s (xs ++ ys)
 leads_then g m s xs ys a b =
-    subst (λ (t : NodeState Bytes). Lived g m s (xs ++ ys) t) (sym (led_then s xs ys))
-    (lived_then g m s (led_to s xs) (led_to (led_to s xs) ys) xs ys a b)
+    subst (λ (t : NodeState Bytes). Traced g m s (xs ++ ys) t) (sym (led_then s xs ys))
+    (traced_then g m s (led_to s xs) (led_to (led_to s xs) ys) xs ys a b)
 
 -- after a stretch each member's trace goes on
 live_on : (g : Group) (nodes : ℕ → NodeState Bytes) (x : Stretch) (xs : List Stretch) → Live g nodes (x ∷ xs) → Live g (put_on nodes x) xs
@@ -311,7 +311,7 @@ pub live_first : (g : Group) (nodes : ℕ → NodeState Bytes) (x : Stretch) (xs
 live_first g nodes x xs first live k below = elim (eqb_tells k x.member) [
   | inl is ↦
       (let mine : Leads g k (nodes k) x.trace =
-      subst (λ (j : ℕ). Leads g j (nodes j) x.trace) (sym is.1) first.lived in
+      subst (λ (j : ℕ). Leads g j (nodes j) x.trace) (sym is.1) first.traced in
       subst (λ (ds : List TraceEvent). Leads g k (nodes k) ds) (sym (own_trace k x xs is.0))
       (leads_then g k (nodes k) x.trace (trace_in k xs) mine
       (subst (λ (s : NodeState Bytes). Leads g k s (trace_in k xs)) (put_own nodes x k is.0 is.1) (live k below))))
@@ -337,11 +337,11 @@ goes_on g (x ∷ xs) c nodes handed few stands holds are live carried =
     let m = x.member in
     let hs = map (cluster_event m) x.trace in
     let then = led_to (nodes m) x.trace in
-    let mine : Lived g m (nodes m) x.trace then =
-    lived_front g m (nodes m) (led_to (nodes m) (trace_in m (x ∷ xs))) x.trace (trace_in m xs)
-    (subst (λ (ds : List TraceEvent). Lived g m (nodes m) ds (led_to (nodes m) (trace_in m (x ∷ xs)))) (own_trace m x xs (eq-eqb m m refl)) (live m are.0)) in
-    let from : Lived g m (c.nodes m) x.trace then =
-    subst (λ (z : NodeState Bytes). Lived g m z x.trace then) (sym (stands m)) mine in
+    let mine : Traced g m (nodes m) x.trace then =
+    traced_front g m (nodes m) (led_to (nodes m) (trace_in m (x ∷ xs))) x.trace (trace_in m xs)
+    (subst (λ (ds : List TraceEvent). Traced g m (nodes m) ds (led_to (nodes m) (trace_in m (x ∷ xs)))) (own_trace m x xs (eq-eqb m m refl)) (live m are.0)) in
+    let from : Traced g m (c.nodes m) x.trace then =
+    subst (λ (z : NodeState Bytes). Traced g m z x.trace then) (sym (stands m)) mine in
     let other = no_client g.members m few are.0 in
     let delivered = all_delivered g handed c.sent m x.gave x.trace other holds carried.0 are.1 in
     let rest = goes_on g xs (after hs c) (put_on nodes x) (handed ++ sent_by x.trace) few
@@ -352,4 +352,4 @@ goes_on g (x ∷ xs) c nodes handed few stands holds are live carried =
 
 pub wires_are_histories : WiresAreHistories
 wires_are_histories g xs goes =
-    goes_on g xs begun begun.nodes [] goes.group.few (λ k. refl) (λ m b other among. absurd among) goes.are goes.lived goes.carried
+    goes_on g xs begun begun.nodes [] goes.group.few (λ k. refl) (λ m b other among. absurd among) goes.are goes.traced goes.carried

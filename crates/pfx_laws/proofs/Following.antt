@@ -21,7 +21,7 @@ use Rattle.px_wire.specs.Members.{as_sent, Passing}
 use Rattle.px_replica.specs.Made.{same, answer}
 use Rattle.px_replica.specs.Spelled.{AreSpelled}
 use Rattle.px_replica.specs.declared.datagram.Datagram.{Datagram}
-use Rattle.px_replica.specs.Lives.{stopped}
+use Rattle.px_replica.specs.Traces.{stopped}
 use Rattle.px_replica.specs.Spelled.{for_members}
 use Rattle.px_replica.proofs.Telling.{are_append, are_members, comes_spelled, one_message}
 use Rattle.pfx_laws.specs.Clusters as clusters

@@ -9,15 +9,15 @@ use Rattle.px_model.specs.Node.Input.{Asks, Ticks, Comes}
 use Rattle.px_model.specs.Spelling.{Bytes}
 use Rattle.px_model.specs.World.{NodeState, started}
 use Rattle.px_wire.specs.Message.{Group}
-use Rattle.px_replica.specs.Lives.{TraceEvent, Lived}
-use Rattle.px_replica.specs.Lives.TraceEvent.{Calls}
+use Rattle.px_replica.specs.Traces.{TraceEvent, Traced}
+use Rattle.px_replica.specs.Traces.TraceEvent.{Calls}
 use Rattle.px_replica.specs.declared.datagram.Datagram.{Datagram}
 use Rattle.px_transport.specs.Wires.{WireEvent, Gave, Handed, given_in, handed_in, gives, hands}
 use Rattle.node_loop.specs.Again.{AreAmong}
 use Rattle.node_loop.specs.Resending.{came_in}
 use Rattle.node_loop.specs.Turns.{handed_over}
-use Rattle.node_loop.specs.Living as living
-use Rattle.node_loop.specs.Living.{Move, trace_of, events_of, sent_by, message_in, AreMoves, IsBrought, AreBrought, LeavesThere}
+use Rattle.node_loop.specs.Moves as has_trace
+use Rattle.node_loop.specs.Moves.{Move, trace_of, events_of, sent_by, message_in, AreMoves, IsBrought, AreBrought, LeavesThere}
 use Rattle.node_loop.proofs.Traffic.{one_brought}
 use Rattle.px_transport.specs.Loopback as loopback
 use Rattle.px_transport.specs.Loopback.{Loop, IsQueue}
@@ -43,7 +43,7 @@ pub fronts_are_runs : (g : Group) (m : ℕ) (first : Record Bytes) (events : Lis
 fronts_are_runs g m first events more trace end unanswered r = record {
   moves = r.moves;
   does = r.does;
-  lived = r.lived;
+  traced = r.traced;
   up = r.up;
   hears = r.hears;
   are = r.are;
@@ -75,11 +75,11 @@ split {X} (e ∷ front) rest (x ∷ xs) ys h =
       | inr s ↦ inr (s.0, ap (λ (zs : List X). e ∷ zs) s.1 ∙ ap (λ (z : X). z ∷ xs) one)
     ]
 
-up_before : (g : Group) (m : ℕ) (ms : List Move) (s t : NodeState Bytes) → Lived g m s (trace_of ms) t → t.is_up ≡ true → s.is_up ≡ true
+up_before : (g : Group) (m : ℕ) (ms : List Move) (s t : NodeState Bytes) → Traced g m s (trace_of ms) t → t.is_up ≡ true → s.is_up ≡ true
 up_before g m [] s t v up = ap (λ (u : NodeState Bytes). u.is_up) (sym v) ∙ up
-up_before g m (living.Does came i u out ∷ ms) s t v up = v.0
-up_before g m (living.Passes b ∷ ms) s t v up = up_before g m ms s t v up
-up_before g m (living.Repeats to b ∷ ms) s t v up = up_before g m ms s t v up
+up_before g m (has_trace.Does came i u out ∷ ms) s t v up = v.0
+up_before g m (has_trace.Passes b ∷ ms) s t v up = up_before g m ms s t v up
+up_before g m (has_trace.Repeats to b ∷ ms) s t v up = up_before g m ms s t v up
 
 handed_front : (front rest : List WireEvent) → AreAmong (handed_in front) (handed_in (front ++ rest))
 handed_front [] rest d n = absurd n
@@ -92,7 +92,7 @@ record Cut (g : Group) (m : ℕ) (hears : Bool) (ms : List Move) (s t : NodeStat
     (front : List WireEvent) : Type 0 where
   moves : List Move
   then : NodeState Bytes
-  lived : Lived g m s (trace_of moves) then
+  traced : Traced g m s (trace_of moves) then
   up : then.is_up ≡ true
   are : AreMoves g m hears moves before kept
   last : List WireEvent
@@ -101,15 +101,15 @@ record Cut (g : Group) (m : ℕ) (hears : Bool) (ms : List Move) (s t : NodeStat
   again : AreAmong (handed_in last) (kept ++ sent_by (trace_of moves))
   later : List TraceEvent
   all : trace_of ms ≡ trace_of moves ++ later
-  goes_on : Lived g m then later t
+  goes_on : Traced g m then later t
 
 -- nothing went yet
 none_yet : (g : Group) (m : ℕ) (hears : Bool) (ms : List Move) (s t : NodeState Bytes) (before : List Bytes) (kept : List (ℕ × Bytes)) →
-    Lived g m s (trace_of ms) t → t.is_up ≡ true → Cut g m hears ms s t before kept []
+    Traced g m s (trace_of ms) t → t.is_up ≡ true → Cut g m hears ms s t before kept []
 none_yet g m hears ms s t before kept v up = record {
   moves = [];
   then = s;
-  lived = refl;
+  traced = refl;
   up = up_before g m ms s t v up;
   are = tt;
   last = [];
@@ -124,15 +124,15 @@ none_yet g m hears ms s t before kept v up = record {
 -- a call answered, and of what it sends this wasn't handed over
 within_one : (g : Group) (m : ℕ) (hears : Bool) (came : Option Bytes) (i : Input Bytes) (u : NodeState Bytes)
     (out : List Datagram) (ms : List Move) (s t : NodeState Bytes) (before : List Bytes) (kept : List (ℕ × Bytes)) (front : List WireEvent)
-    (lost : List (ℕ × Bytes)) → Lived g m s (trace_of (living.Does came i u out ∷ ms)) t → t.is_up ≡ true →
-    AreMoves g m hears (living.Does came i u out ∷ ms) before kept → front ++ hands lost ≡ gives came ++ hands (handed_over out) →
-    Cut g m hears (living.Does came i u out ∷ ms) s t before kept front
+    (lost : List (ℕ × Bytes)) → Traced g m s (trace_of (has_trace.Does came i u out ∷ ms)) t → t.is_up ≡ true →
+    AreMoves g m hears (has_trace.Does came i u out ∷ ms) before kept → front ++ hands lost ≡ gives came ++ hands (handed_over out) →
+    Cut g m hears (has_trace.Does came i u out ∷ ms) s t before kept front
 within_one g m hears came i u out ms s t before kept front lost v up a h =
     let all = gives came ++ hands (handed_over out) in
     record {
-      moves = living.Does came i u out ∷ [];
+      moves = has_trace.Does came i u out ∷ [];
       then = u;
-      lived = (v.0, v.1, v.2, refl);
+      traced = (v.0, v.1, v.2, refl);
       up = up_before g m ms u t v.3 up;
       are = (a.0, tt);
       last = [];
@@ -154,12 +154,12 @@ went_more own front behind events last lost is h =
     ∙ ap (λ (es : List WireEvent). own ++ es) h ∙ sym (append_assoc own events last)
 
 cut : (g : Group) (m : ℕ) (hears : Bool) (ms : List Move) (s t : NodeState Bytes) (before : List Bytes) (kept : List (ℕ × Bytes))
-    (front rest last : List WireEvent) → front ++ rest ≡ events_of ms ++ last → Lived g m s (trace_of ms) t → t.is_up ≡ true →
+    (front rest last : List WireEvent) → front ++ rest ≡ events_of ms ++ last → Traced g m s (trace_of ms) t → t.is_up ≡ true →
     AreMoves g m hears ms before kept → AreAmong (handed_in last) (kept ++ sent_by (trace_of ms)) → Cut g m hears ms s t before kept front
 cut g m hears [] s t before kept front rest last h v up a k = record {
   moves = [];
   then = t;
-  lived = v;
+  traced = v;
   up = up;
   are = tt;
   last = front;
@@ -170,15 +170,15 @@ cut g m hears [] s t before kept front rest last h v up a k = record {
   all = refl;
   goes_on = refl;
 }
-cut g m hears (living.Passes b ∷ ms) s t before kept [] rest last h v up a k = none_yet g m hears (living.Passes b ∷ ms) s t before kept v up
-cut g m hears (living.Passes b ∷ ms) s t before kept (e ∷ front) rest last h v up a k =
+cut g m hears (has_trace.Passes b ∷ ms) s t before kept [] rest last h v up a k = none_yet g m hears (has_trace.Passes b ∷ ms) s t before kept v up
+cut g m hears (has_trace.Passes b ∷ ms) s t before kept (e ∷ front) rest last h v up a k =
     let one : e ≡ Gave b = cc in
     let more : front ++ rest ≡ events_of ms ++ last = cc in
     let c = cut g m hears ms s t (before ++ b ∷ []) kept front rest last more v up a.1 k in
     record {
-      moves = living.Passes b ∷ c.moves;
+      moves = has_trace.Passes b ∷ c.moves;
       then = c.then;
-      lived = c.lived;
+      traced = c.traced;
       up = c.up;
       are = (a.0, c.are);
       last = c.last;
@@ -189,16 +189,16 @@ cut g m hears (living.Passes b ∷ ms) s t before kept (e ∷ front) rest last h
       all = c.all;
       goes_on = c.goes_on;
     }
-cut g m hears (living.Repeats to b ∷ ms) s t before kept [] rest last h v up a k =
-    none_yet g m hears (living.Repeats to b ∷ ms) s t before kept v up
-cut g m hears (living.Repeats to b ∷ ms) s t before kept (e ∷ front) rest last h v up a k =
+cut g m hears (has_trace.Repeats to b ∷ ms) s t before kept [] rest last h v up a k =
+    none_yet g m hears (has_trace.Repeats to b ∷ ms) s t before kept v up
+cut g m hears (has_trace.Repeats to b ∷ ms) s t before kept (e ∷ front) rest last h v up a k =
     let one : e ≡ Handed to b = cc in
     let more : front ++ rest ≡ events_of ms ++ last = cc in
     let c = cut g m hears ms s t before kept front rest last more v up a.1 k in
     record {
-      moves = living.Repeats to b ∷ c.moves;
+      moves = has_trace.Repeats to b ∷ c.moves;
       then = c.then;
-      lived = c.lived;
+      traced = c.traced;
       up = c.up;
       are = (a.0, c.are);
       last = c.last;
@@ -209,7 +209,7 @@ cut g m hears (living.Repeats to b ∷ ms) s t before kept (e ∷ front) rest la
       all = c.all;
       goes_on = c.goes_on;
     }
-cut g m hears (living.Does came i u out ∷ ms) s t before kept front rest last h v up a k =
+cut g m hears (has_trace.Does came i u out ∷ ms) s t before kept front rest last h v up a k =
     let ds = handed_over out in
     let own = gives came ++ hands ds in
     let at = split front rest own (events_of ms ++ last) (h ∙ append_assoc own (events_of ms) last) in
@@ -218,9 +218,9 @@ cut g m hears (living.Does came i u out ∷ ms) s t before kept front rest last 
           let c = cut g m hears ms u t (before ++ came_in came) (kept ++ ds) b.0 rest last b.2 v.3 up a.1
           (subst (λ (es : List (ℕ × Bytes)). AreAmong (handed_in last) es) (sym (append_assoc kept ds (sent_by (trace_of ms)))) k) in
           record {
-            moves = living.Does came i u out ∷ c.moves;
+            moves = has_trace.Does came i u out ∷ c.moves;
             then = c.then;
-            lived = (v.0, v.1, v.2, c.lived);
+            traced = (v.0, v.1, v.2, c.traced);
             up = c.up;
             are = (a.0, c.are);
             last = c.last;
@@ -235,10 +235,10 @@ cut g m hears (living.Does came i u out ∷ ms) s t before kept front rest last 
       | inr w ↦ ends came front w.0 v a w.1
     ]
   where
-    ends : (came' : Option Bytes) (front' lack : List WireEvent) → Lived g m s (trace_of (living.Does came' i u out ∷ ms)) t →
-        AreMoves g m hears (living.Does came' i u out ∷ ms) before kept → front' ++ lack ≡ gives came' ++ hands (handed_over out) →
-        Cut g m hears (living.Does came' i u out ∷ ms) s t before kept front'
-    ends c [] lack v' a' e = none_yet g m hears (living.Does c i u out ∷ ms) s t before kept v' up
+    ends : (came' : Option Bytes) (front' lack : List WireEvent) → Traced g m s (trace_of (has_trace.Does came' i u out ∷ ms)) t →
+        AreMoves g m hears (has_trace.Does came' i u out ∷ ms) before kept → front' ++ lack ≡ gives came' ++ hands (handed_over out) →
+        Cut g m hears (has_trace.Does came' i u out ∷ ms) s t before kept front'
+    ends c [] lack v' a' e = none_yet g m hears (has_trace.Does c i u out ∷ ms) s t before kept v' up
     ends None (x ∷ f) lack v' a' e =
         let r = hands_end (x ∷ f) lack (handed_over out) e in
         within_one g m hears None i u out ms s t before kept (x ∷ f) r.0 v' up a'
@@ -268,7 +268,7 @@ pub front_of_wire : (g : Group) (m : ℕ) (first : Record Bytes) (front back : L
 front_of_wire g m first front back trace end unanswered r =
     let c = cut g m r.hears r.moves (started first) end [] [] front (back ++ hands r.lost) r.last
     (sym (append_assoc front back (hands r.lost)) ∙ r.went)
-    r.lived r.up r.are r.again in
+    r.traced r.up r.are r.again in
     record {
       before = trace_of c.moves;
       then = c.then;
@@ -276,7 +276,7 @@ front_of_wire g m first front back trace end unanswered r =
       ran = record {
         moves = c.moves;
         does = refl;
-        lived = c.lived;
+        traced = c.traced;
         up = c.up;
         hears = r.hears;
         are = c.are;
@@ -469,41 +469,41 @@ front_at_sealed_socket g keys s m first front back trace end unanswered r =
 record Moment (g : Group) (m : ℕ) (hears : Bool) (done rest : List Move) (s t : NodeState Bytes) (before : List Bytes)
     (kept : List (ℕ × Bytes)) : Type 0 where
   then : NodeState Bytes
-  lived : Lived g m s (trace_of done) then
-  goes_on : Lived g m then (trace_of rest) t
+  traced : Traced g m s (trace_of done) then
+  goes_on : Traced g m then (trace_of rest) t
   are : AreMoves g m hears done before kept
   came : List Bytes
   sent : List (ℕ × Bytes)
   next : AreMoves g m hears rest came sent
 
 moment : (g : Group) (m : ℕ) (hears : Bool) (done rest : List Move) (s t : NodeState Bytes) (before : List Bytes) (kept : List (ℕ × Bytes)) →
-    Lived g m s (trace_of (done ++ rest)) t → AreMoves g m hears (done ++ rest) before kept → Moment g m hears done rest s t before kept
+    Traced g m s (trace_of (done ++ rest)) t → AreMoves g m hears (done ++ rest) before kept → Moment g m hears done rest s t before kept
 moment g m hears [] rest s t before kept v a =
-    record { then = s; lived = refl; goes_on = v; are = tt; came = before; sent = kept; next = a }
-moment g m hears (living.Does b i u out ∷ done) rest s t before kept v a =
+    record { then = s; traced = refl; goes_on = v; are = tt; came = before; sent = kept; next = a }
+moment g m hears (has_trace.Does b i u out ∷ done) rest s t before kept v a =
     let r = moment g m hears done rest u t (before ++ came_in b) (kept ++ handed_over out) v.3 a.1 in record {
       then = r.then;
-      lived = (v.0, v.1, v.2, r.lived);
+      traced = (v.0, v.1, v.2, r.traced);
       goes_on = r.goes_on;
       are = (a.0, r.are);
       came = r.came;
       sent = r.sent;
       next = r.next;
     }
-moment g m hears (living.Passes b ∷ done) rest s t before kept v a =
+moment g m hears (has_trace.Passes b ∷ done) rest s t before kept v a =
     let r = moment g m hears done rest s t (before ++ b ∷ []) kept v a.1 in record {
       then = r.then;
-      lived = r.lived;
+      traced = r.traced;
       goes_on = r.goes_on;
       are = (a.0, r.are);
       came = r.came;
       sent = r.sent;
       next = r.next;
     }
-moment g m hears (living.Repeats to b ∷ done) rest s t before kept v a =
+moment g m hears (has_trace.Repeats to b ∷ done) rest s t before kept v a =
     let r = moment g m hears done rest s t before kept v a.1 in record {
       then = r.then;
-      lived = r.lived;
+      traced = r.traced;
       goes_on = r.goes_on;
       are = (a.0, r.are);
       came = r.came;
@@ -516,20 +516,20 @@ at_moment : (g : Group) (m : ℕ) (first : Record Bytes) (events : List WireEven
     Moment g m r.hears done rest (started first) end [] []
 at_moment g m first events trace end unanswered r done rest is =
     moment g m r.hears done rest (started first) end [] []
-    (subst (λ (ms : List Move). Lived g m (started first) (trace_of ms) end) is r.lived)
+    (subst (λ (ms : List Move). Traced g m (started first) (trace_of ms) end) is r.traced)
     (subst (λ (ms : List Move). AreMoves g m r.hears ms [] []) is r.are)
 
 -- A run that is killed between two moves, or, as `fronts_are_runs` has it, before all of the one before is handed over.
 pub killed_between : (g : Group) (m : ℕ) (first : Record Bytes) (events : List WireEvent) (trace : List TraceEvent) (end : NodeState Bytes)
     (unanswered : List Bytes) (r : Ran g m first events trace end unanswered) (done rest : List Move) → r.moves ≡ done ++ rest →
-    (then : NodeState Bytes) × Ran g m first (events_of done) (trace_of done) then [] × Lived g m then (trace_of rest) end
+    (then : NodeState Bytes) × Ran g m first (events_of done) (trace_of done) then [] × Traced g m then (trace_of rest) end
 killed_between g m first events trace end unanswered r done rest is =
     let o = at_moment g m first events trace end unanswered r done rest is in (
       o.then,
       record {
         moves = done;
         does = refl;
-        lived = o.lived;
+        traced = o.traced;
         up = up_before g m rest o.then end o.goes_on r.up;
         hears = r.hears;
         are = o.are;
@@ -562,11 +562,11 @@ brought g m (Some b) (Comes sender message) is = one_brought g m b sender messag
 -- left of the record is what a stop may leave.
 pub killed_in_call : (g : Group) (m : ℕ) (first : Record Bytes) (events : List WireEvent) (trace : List TraceEvent) (end : NodeState Bytes)
     (unanswered : List Bytes) (r : Ran g m first events trace end unanswered) (done later : List Move) (came : Option Bytes)
-    (i : Input Bytes) (u : NodeState Bytes) (out : List Datagram) → r.moves ≡ done ++ living.Does came i u out ∷ later →
+    (i : Input Bytes) (u : NodeState Bytes) (out : List Datagram) → r.moves ≡ done ++ has_trace.Does came i u out ∷ later →
     (then : NodeState Bytes) × Ran g m first (events_of done ++ gives came) (trace_of done) then (came_in came) ×
     LeavesThere g m (came_in came) then then.stored × LeavesThere g m (came_in came) then u.stored
 killed_in_call g m first events trace end unanswered r done later came i u out is =
-    let o = at_moment g m first events trace end unanswered r done (living.Does came i u out ∷ later) is in
+    let o = at_moment g m first events trace end unanswered r done (has_trace.Does came i u out ∷ later) is in
     let v = o.goes_on in
     let makes = v.2 in
     let comes = brought g m came i o.next.0 in (
@@ -574,7 +574,7 @@ killed_in_call g m first events trace end unanswered r done later came i u out i
       record {
         moves = done;
         does = refl;
-        lived = o.lived;
+        traced = o.traced;
         up = v.0;
         hears = r.hears;
         are = o.are;

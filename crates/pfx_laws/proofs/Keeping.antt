@@ -12,10 +12,10 @@ use Rattle.px_model.specs.Spelling.{Bytes}
 use Rattle.px_model.specs.Step.{commit}
 use Rattle.px_model.specs.World.{NodeState, started}
 use Rattle.px_wire.specs.Message.{Group}
-use Rattle.px_replica.specs.Lives.{TraceEvent, Lived, stopped}
-use Rattle.px_replica.specs.Lives.TraceEvent.{Calls, Stops, Opens}
+use Rattle.px_replica.specs.Traces.{TraceEvent, Traced, stopped}
+use Rattle.px_replica.specs.Traces.TraceEvent.{Calls, Stops, Opens}
 use Rattle.px_replica.specs.Made.{same, answer, LeavesOne}
-use Rattle.node_loop.specs.Living.{LeavesThere}
+use Rattle.node_loop.specs.Moves.{LeavesThere}
 use Rattle.pfx_laws.specs.Carried.{HasLearned}
 use Rattle.pfx_laws.specs.Members.{RunEvent, Run, AreRuns, EverLearned, stands_after}
 
@@ -44,16 +44,16 @@ stop_keeps : (n me : ℕ) (s : NodeState Bytes) (x : Input Bytes) (left : Record
 stop_keeps n me s x left p e (inl same) h = ap (λ (d : Record Bytes). d.learned p) same ∙ h
 stop_keeps n me s x left p e (inr (plan, is, change)) h = ap (λ (d : Record Bytes). d.learned p) change ∙ plan_keeps n me s x plan p e is h
 
-pub lived_keeps : (g : Group) (me : ℕ) (s t : NodeState Bytes) (ds : List TraceEvent) (p : ℕ) (e : Entry Bytes) → Lived g me s ds t →
+pub traced_keeps : (g : Group) (me : ℕ) (s t : NodeState Bytes) (ds : List TraceEvent) (p : ℕ) (e : Entry Bytes) → Traced g me s ds t →
     HasLearned s p e → HasLearned t p e
-lived_keeps g me s t [] p e l h = ap (λ (u : NodeState Bytes). u.stored.learned p) l ∙ h
-lived_keeps g me s t (Calls x u out ∷ ds) p e l h =
+traced_keeps g me s t [] p e l h = ap (λ (u : NodeState Bytes). u.stored.learned p) l ∙ h
+traced_keeps g me s t (Calls x u out ∷ ds) p e l h =
     let made = l.2 in
-    lived_keeps g me u t ds p e l.3
+    traced_keeps g me u t ds p e l.3
     (ap (λ (v : NodeState Bytes). v.stored.learned p) made.follows ∙ plan_keeps g.members me s x made.plan p e made.steps h)
-lived_keeps g me s t (Stops x left ∷ ds) p e l h =
-    lived_keeps g me (stopped left) t ds p e l.3 (stop_keeps g.members me s x left p e l.2 h)
-lived_keeps g me s t (Opens ∷ ds) p e l h = lived_keeps g me (started s.stored) t ds p e l h
+traced_keeps g me s t (Stops x left ∷ ds) p e l h =
+    traced_keeps g me (stopped left) t ds p e l.3 (stop_keeps g.members me s x left p e l.2 h)
+traced_keeps g me s t (Opens ∷ ds) p e l h = traced_keeps g me (started s.stored) t ds p e l h
 
 -- ---- run after run
 

@@ -30,7 +30,7 @@ pub mod Backwards
 pub mod Alone
 pub mod Following
 pub mod Agreeing
-pub mod Living
+pub mod Tracing
 pub mod Carrying
 pub mod Carried
 pub mod Stretching

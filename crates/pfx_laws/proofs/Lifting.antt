@@ -7,7 +7,7 @@ use Rattle.px_model.specs.Node.{Record}
 use Rattle.px_model.specs.Spelling.{Bytes}
 use Rattle.px_model.specs.Step.{put}
 use Rattle.px_wire.specs.Message.{Group}
-use Rattle.node_loop.specs.Living.{LeavesThere}
+use Rattle.node_loop.specs.Moves.{LeavesThere}
 use Rattle.pfx_laws.specs.Members.{RunEvent, Starts, During, Run, AreRuns, events_at}
 
 -- ---- one member's

@@ -9,7 +9,7 @@ use Rattle.px_model.specs.Step.{put}
 use Rattle.node_loop.specs.Again.{AreAmong}
 use Rattle.node_loop.proofs.Among.{among_all, among_front, among_none, among_sides}
 use Rattle.px_model.specs.World.{started}
-use Rattle.node_loop.specs.Living.{trace_of}
+use Rattle.node_loop.specs.Moves.{trace_of}
 use Rattle.px_transport.specs.Wires.{WireEvent, Gave, Handed}
 use Rattle.px_transport.specs.Loopback.{Loop, Passes, Keeps, Returns, IsQueue, above_in, below_in}
 use Rattle.std.specs.Int.{w32, to_be_bytes}
@@ -19,7 +19,7 @@ use Rattle.pfx_laws.specs.Promised.{IsGroup}
 use Rattle.pfx_laws.specs.Wires.{Stretch}
 use Rattle.pfx_laws.specs.Members.{RunEvent, Starts, During, Run, AreRuns, IsEmpty, events_at, InStretches}
 use Rattle.pfx_laws.specs.Sockets.{WasHanded}
-use Rattle.pfx_laws.proofs.Keeping.{KeepsLearned, lived_keeps}
+use Rattle.pfx_laws.proofs.Keeping.{KeepsLearned, traced_keeps}
 use Rattle.pfx_laws.proofs.Lifting as lifting
 use Rattle.pfx_laws.proofs.Lifting.{AreBelow, during, each_first}
 use Rattle.pfx_laws.proofs.Networking.{Carries, IsRun, wires_go}
@@ -198,4 +198,4 @@ loops_go {K} g network runs few carries are =
 
 -- a run keeps what its record has as learned
 pub above_keeps : {K : Type 0} (g : Group) (m : ℕ) → KeepsLearned {K = K} (IsAbove g m)
-above_keeps g m r own p e is h = let ran = is.ran in lived_keeps g m (started r.first) r.end (trace_of ran.moves) p e ran.lived h
+above_keeps g m r own p e is h = let ran = is.ran in traced_keeps g m (started r.first) r.end (trace_of ran.moves) p e ran.traced h

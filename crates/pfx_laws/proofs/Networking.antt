@@ -16,22 +16,22 @@ use Rattle.px_transport.specs.Wires.{WireEvent, Gave, Handed, given_in, handed_i
 use Rattle.px_wire.specs.Message.{Group, Message, DatagramBytes}
 use Rattle.px_wire.specs.Members.{as_sent}
 use Rattle.px_replica.specs.Spelled.{AreSpelled}
-use Rattle.px_replica.specs.Lives.{TraceEvent, Lived}
-use Rattle.px_replica.specs.Lives.TraceEvent.{Calls, Stops, Opens}
+use Rattle.px_replica.specs.Traces.{TraceEvent, Traced}
+use Rattle.px_replica.specs.Traces.TraceEvent.{Calls, Stops, Opens}
 use Rattle.px_replica.specs.declared.datagram.Datagram.{Datagram}
 use Rattle.node_loop.specs.Resending.{came_in}
 use Rattle.node_loop.specs.Turns.{handed_over}
-use Rattle.node_loop.specs.Living as living
-use Rattle.node_loop.specs.Living.{Heard, message_in, messages_of, AreBrought, sent_by, LeavesThere}
-use Rattle.node_loop.specs.Living.{Move, trace_of, events_of, IsBrought, AreMoves}
+use Rattle.node_loop.specs.Moves as has_trace
+use Rattle.node_loop.specs.Moves.{Heard, message_in, messages_of, AreBrought, sent_by, LeavesThere}
+use Rattle.node_loop.specs.Moves.{Move, trace_of, events_of, IsBrought, AreMoves}
 use Rattle.node_loop.proofs.Traffic.{one_brought, none_brought, brought_more, brought_then}
-use Rattle.node_loop.proofs.Lives.{lived_then}
+use Rattle.node_loop.proofs.Runs.{traced_then}
 use Rattle.node_control.specs.Sockets.{Ran}
 use Rattle.pfx_laws.specs.Promised.{IsGroup}
 use Rattle.pfx_laws.specs.Wires.{Stretch, AreStretches, IsCarried, AreCarried, trace_in, led_to}
 use Rattle.pfx_laws.specs.Members.{RunEvent, Starts, During, Run, AreRuns, IsEmpty, events_at, stands, stands_after, IsTrace, IsLaterTrace, InStretches}
 use Rattle.pfx_laws.specs.Sockets.{WasHanded}
-use Rattle.pfx_laws.proofs.Carrying.{lived_to}
+use Rattle.pfx_laws.proofs.Carrying.{traced_to}
 use Rattle.pfx_laws.proofs.Lifting.{during, during_append, below_or}
 
 -- ---- what a member does, one thing after another, through its runs
@@ -420,9 +420,9 @@ hands_then (d ∷ ds) later = Resends d.0 d.1 ∷ hands_then ds later
 
 abbrev moves_then : {K : Type 0} → List Move → List (Act K) → List (Act K)
 moves_then [] later = later
-moves_then (living.Does came i t out ∷ ms) later = Answers came i t out ∷ hands_then (handed_over out) (moves_then ms later)
-moves_then (living.Passes b ∷ ms) later = Skips b ∷ moves_then ms later
-moves_then (living.Repeats to b ∷ ms) later = Resends to b ∷ moves_then ms later
+moves_then (has_trace.Does came i t out ∷ ms) later = Answers came i t out ∷ hands_then (handed_over out) (moves_then ms later)
+moves_then (has_trace.Passes b ∷ ms) later = Skips b ∷ moves_then ms later
+moves_then (has_trace.Repeats to b ∷ ms) later = Resends to b ∷ moves_then ms later
 
 -- what goes over the wire where a call failed
 abbrev last_then : {K : Type 0} → List WireEvent → List (Act K) → List (Act K)
@@ -436,15 +436,15 @@ hands_happen (d ∷ ds) later = ap (λ (fs : List (RunEvent _ WireEvent)). Durin
 
 moves_happen : {K : Type 0} (ms : List Move) (later : List (Act K)) → happen (moves_then ms later) ≡ during (events_of ms) ++ happen later
 moves_happen [] later = refl
-moves_happen (living.Does came i t out ∷ ms) later =
+moves_happen (has_trace.Does came i t out ∷ ms) later =
     let ds = handed_over out in
     let then = during (events_of ms) ++ happen later in
     ap (λ (fs : List (RunEvent _ WireEvent)). during (gives came) ++ fs)
     (hands_happen ds (moves_then ms later) ∙ ap (λ (fs : List (RunEvent _ WireEvent)). during (hands ds) ++ fs) (moves_happen ms later))
     ∙ sym (during_append (gives came) (hands ds) then)
     ∙ sym (during_append (gives came ++ hands ds) (events_of ms) (happen later))
-moves_happen (living.Passes b ∷ ms) later = ap (λ (fs : List (RunEvent _ WireEvent)). During (Gave b) ∷ fs) (moves_happen ms later)
-moves_happen (living.Repeats to b ∷ ms) later = ap (λ (fs : List (RunEvent _ WireEvent)). During (Handed to b) ∷ fs) (moves_happen ms later)
+moves_happen (has_trace.Passes b ∷ ms) later = ap (λ (fs : List (RunEvent _ WireEvent)). During (Gave b) ∷ fs) (moves_happen ms later)
+moves_happen (has_trace.Repeats to b ∷ ms) later = ap (λ (fs : List (RunEvent _ WireEvent)). During (Handed to b) ∷ fs) (moves_happen ms later)
 
 last_happens : {K : Type 0} (es : List WireEvent) (later : List (Act K)) → happen (last_then es later) ≡ during es ++ happen later
 last_happens [] later = refl
@@ -457,15 +457,15 @@ hands_befall (d ∷ ds) later = hands_befall ds later
 
 moves_befall : {K : Type 0} (ms : List Move) (later : List (Act K)) → trace_of_acts (moves_then ms later) ≡ trace_of ms ++ trace_of_acts later
 moves_befall [] later = refl
-moves_befall (living.Does came i t out ∷ ms) later =
+moves_befall (has_trace.Does came i t out ∷ ms) later =
     ap (λ (ds : List TraceEvent). Calls i t out ∷ ds) (hands_befall (handed_over out) (moves_then ms later) ∙ moves_befall ms later)
-moves_befall (living.Passes b ∷ ms) later = moves_befall ms later
-moves_befall (living.Repeats to b ∷ ms) later = moves_befall ms later
+moves_befall (has_trace.Passes b ∷ ms) later = moves_befall ms later
+moves_befall (has_trace.Repeats to b ∷ ms) later = moves_befall ms later
 
-last_befalls : {K : Type 0} (es : List WireEvent) (later : List (Act K)) → trace_of_acts (last_then es later) ≡ trace_of_acts later
-last_befalls [] later = refl
-last_befalls (Gave b ∷ es) later = last_befalls es later
-last_befalls (Handed to b ∷ es) later = last_befalls es later
+last_traces : {K : Type 0} (es : List WireEvent) (later : List (Act K)) → trace_of_acts (last_then es later) ≡ trace_of_acts later
+last_traces [] later = refl
+last_traces (Gave b ∷ es) later = last_traces es later
+last_traces (Handed to b ∷ es) later = last_traces es later
 
 last_sound : {K : Type 0} (g : Group) (m : ℕ) (es : List WireEvent) (later : List (Act K)) (came : List Bytes) (sent : List (ℕ × Bytes)) →
     AreAmong (handed_in es) sent → ((more : List Bytes) → AreAmong (came ++ given_in es) more → AreSound g m later more sent) →
@@ -482,12 +482,12 @@ hands_sound g m [] later came sent a s = s
 hands_sound g m (d ∷ ds) later came sent a s = (a d (inl refl), hands_sound g m ds later came sent (λ x n. a x (inr n)) s)
 
 moves_sound : {K : Type 0} (g : Group) (m : ℕ) (hears : Bool) (ms : List Move) (before : List Bytes) (kept : List (ℕ × Bytes))
-    (later : List (Act K)) (came : List Bytes) (sent : List (ℕ × Bytes)) (from then : NodeState Bytes) → Lived g m from (trace_of ms) then →
+    (later : List (Act K)) (came : List Bytes) (sent : List (ℕ × Bytes)) (from then : NodeState Bytes) → Traced g m from (trace_of ms) then →
     AreMoves g m hears ms before kept → AreAmong kept sent →
     ((more : List Bytes) (many : List (ℕ × Bytes)) → AreAmong (kept ++ sent_by (trace_of ms)) many → AreSound g m later more many) →
     AreSound g m (moves_then ms later) came sent
 moves_sound g m hears [] before kept later came sent from then v a k s = s came sent (among_then (kept ++ []) kept sent (and_none kept) k)
-moves_sound g m hears (living.Does b i t out ∷ ms) before kept later came sent from then v a k s =
+moves_sound g m hears (has_trace.Does b i t out ∷ ms) before kept later came sent from then v a k s =
     let made = v.2 in (
       a.0,
       are_messages g made.plan.sends out (subst (λ (ds : List Datagram). AreSpelled g made.plan.sends ds) (sym made.handed) made.spelled),
@@ -498,9 +498,9 @@ moves_sound g m hears (living.Does b i t out ∷ ms) before kept later came sent
           (λ more many c. s more many
           (subst (λ (ds : List (ℕ × Bytes)). AreAmong ds many) (append_assoc kept (handed_over out) (sent_by (trace_of ms))) c))),
     )
-moves_sound g m hears (living.Passes b ∷ ms) before kept later came sent from then v a k s =
+moves_sound g m hears (has_trace.Passes b ∷ ms) before kept later came sent from then v a k s =
     moves_sound g m hears ms (before ++ b ∷ []) kept later (came ++ b ∷ []) sent from then v a.1 k s
-moves_sound g m hears (living.Repeats to b ∷ ms) before kept later came sent from then v a k s =
+moves_sound g m hears (has_trace.Repeats to b ∷ ms) before kept later came sent from then v a k s =
     (k (to, b) a.0, moves_sound g m hears ms before kept later came sent from then v a.1 k s)
 
 -- ---- one list of acts behind another
@@ -528,11 +528,11 @@ hands_apart (d ∷ ds) xs ys = ap (λ (zs : List (Act _)). Resends d.0 d.1 ∷ z
 
 moves_apart : {K : Type 0} (ms : List Move) (xs ys : List (Act K)) → moves_then ms (xs ++ ys) ≡ moves_then ms xs ++ ys
 moves_apart [] xs ys = refl
-moves_apart (living.Does came i t out ∷ ms) xs ys =
+moves_apart (has_trace.Does came i t out ∷ ms) xs ys =
     ap (λ (zs : List (Act _)). Answers came i t out ∷ hands_then (handed_over out) zs) (moves_apart ms xs ys)
     ∙ ap (λ (zs : List (Act _)). Answers came i t out ∷ zs) (hands_apart (handed_over out) (moves_then ms xs) ys)
-moves_apart (living.Passes b ∷ ms) xs ys = ap (λ (zs : List (Act _)). Skips b ∷ zs) (moves_apart ms xs ys)
-moves_apart (living.Repeats to b ∷ ms) xs ys = ap (λ (zs : List (Act _)). Resends to b ∷ zs) (moves_apart ms xs ys)
+moves_apart (has_trace.Passes b ∷ ms) xs ys = ap (λ (zs : List (Act _)). Skips b ∷ zs) (moves_apart ms xs ys)
+moves_apart (has_trace.Repeats to b ∷ ms) xs ys = ap (λ (zs : List (Act _)). Resends to b ∷ zs) (moves_apart ms xs ys)
 
 last_apart : {K : Type 0} (es : List WireEvent) (ys : List (Act K)) → last_then es ys ≡ last_then es [] ++ ys
 last_apart [] ys = refl
@@ -589,14 +589,14 @@ only_happens (Begins k ds ∷ xs) [] [] h = absurd (cc)
 only_happens (Begins k ds ∷ xs) [] (d ∷ es) h = absurd (cc)
 only_happens (Begins k ds ∷ xs) (e ∷ own) lost h = absurd (cc)
 
-only_befalls : {K : Type 0} (xs : List (Act K)) (own : List WireEvent) → trace_of_acts (only xs own) ≡ trace_of_acts xs
-only_befalls [] own = refl
-only_befalls (Answers None i t out ∷ xs) own = ap (λ (ds : List TraceEvent). Calls i t out ∷ ds) (only_befalls xs own)
-only_befalls (Answers (Some b) i t out ∷ xs) own = ap (λ (ds : List TraceEvent). Calls i t out ∷ ds) (only_befalls xs (behind own))
-only_befalls (Skips b ∷ xs) own = only_befalls xs (behind own)
-only_befalls (Resends to b ∷ xs) [] = only_befalls xs []
-only_befalls (Resends to b ∷ xs) (e ∷ own) = only_befalls xs own
-only_befalls (Begins k ds ∷ xs) own = ap (λ (es : List TraceEvent). ds ++ es) (only_befalls xs own)
+only_traces : {K : Type 0} (xs : List (Act K)) (own : List WireEvent) → trace_of_acts (only xs own) ≡ trace_of_acts xs
+only_traces [] own = refl
+only_traces (Answers None i t out ∷ xs) own = ap (λ (ds : List TraceEvent). Calls i t out ∷ ds) (only_traces xs own)
+only_traces (Answers (Some b) i t out ∷ xs) own = ap (λ (ds : List TraceEvent). Calls i t out ∷ ds) (only_traces xs (behind own))
+only_traces (Skips b ∷ xs) own = only_traces xs (behind own)
+only_traces (Resends to b ∷ xs) [] = only_traces xs []
+only_traces (Resends to b ∷ xs) (e ∷ own) = only_traces xs own
+only_traces (Begins k ds ∷ xs) own = ap (λ (es : List TraceEvent). ds ++ es) (only_traces xs own)
 
 only_sound : {K : Type 0} (g : Group) (m : ℕ) (xs : List (Act K)) (own : List WireEvent) (later : List (Act K)) (came : List Bytes)
     (sent : List (ℕ × Bytes)) → AreSound g m (xs ++ later) came sent → AreSound g m (only xs own ++ later) came sent
@@ -641,24 +641,24 @@ module _ {K : Type 0} (g : Group) (m : ℕ) where
       ∙ ap (λ (es : List (RunEvent K WireEvent)). es ++ happen later)
       (only_happens (whole_run r own ran) own ran.lost (whole_happens r own ran))
 
-  run_befalls : (r : Run K) (own : List WireEvent) (ran : IsRun g m r own) (later : List (Act K)) →
+  run_leads : (r : Run K) (own : List WireEvent) (ran : IsRun g m r own) (later : List (Act K)) →
       trace_of_acts (run_then r own ran later) ≡ r.trace ++ trace_of_acts later
   unfolding run_then
-  run_befalls r own ran later =
+  run_leads r own ran later =
       befall_append (only (whole_run r own ran) own) later
       ∙ ap (λ (ds : List TraceEvent). ds ++ trace_of_acts later)
-      (only_befalls (whole_run r own ran) own
+      (only_traces (whole_run r own ran) own
       ∙ moves_befall ran.moves (last_then ran.last [])
-      ∙ ap (λ (ds : List TraceEvent). trace_of ran.moves ++ ds) (last_befalls ran.last [])
+      ∙ ap (λ (ds : List TraceEvent). trace_of ran.moves ++ ds) (last_traces ran.last [])
       ∙ append-nil (trace_of ran.moves)
       ∙ sym ran.does)
 
-  run_lives : (r : Run K) (own : List WireEvent) (ran : IsRun g m r own) (later : List (Act K)) (then : NodeState Bytes) →
-      Lived g m r.end (trace_of_acts later) then → Lived g m (started r.first) (trace_of_acts (run_then r own ran later)) then
-  run_lives r own ran later then v =
+  run_traces : (r : Run K) (own : List WireEvent) (ran : IsRun g m r own) (later : List (Act K)) (then : NodeState Bytes) →
+      Traced g m r.end (trace_of_acts later) then → Traced g m (started r.first) (trace_of_acts (run_then r own ran later)) then
+  run_traces r own ran later then v =
       let ds : r.trace ++ trace_of_acts later ≡ trace_of ran.moves ++ trace_of_acts later = ap (λ (ds : List TraceEvent). ds ++ trace_of_acts later) ran.does in
-      subst (λ (ds : List TraceEvent). Lived g m (started r.first) ds then) (sym ds ∙ sym (run_befalls r own ran later))
-      (lived_then g m (started r.first) r.end then (trace_of ran.moves) (trace_of_acts later) ran.lived v)
+      subst (λ (ds : List TraceEvent). Traced g m (started r.first) ds then) (sym ds ∙ sym (run_leads r own ran later))
+      (traced_then g m (started r.first) r.end then (trace_of ran.moves) (trace_of_acts later) ran.traced v)
 
   -- sound, where this came and more
   abbrev SoundAfter : List (Act K) → (unanswered : List Bytes) → Type 0
@@ -671,7 +671,7 @@ module _ {K : Type 0} (g : Group) (m : ℕ) where
       only_sound g m (whole_run r own ran) own later came sent
       (subst (λ (xs : List (Act K)). AreSound g m xs came sent)
       (ap (λ (xs : List (Act K)). moves_then ran.moves xs) (last_apart ran.last later) ∙ moves_apart ran.moves (last_then ran.last []) later)
-      (moves_sound g m ran.hears ran.moves [] [] (last_then ran.last later) came sent (started r.first) r.end ran.lived ran.are (among_none sent)
+      (moves_sound g m ran.hears ran.moves [] [] (last_then ran.last later) came sent (started r.first) r.end ran.traced ran.are (among_none sent)
       (λ more many c. last_sound g m ran.last later more many (among_then (handed_in ran.last) (sent_by (trace_of ran.moves)) many ran.again c)
       (λ all d. s all many (subst (λ (bs : List Bytes). AreAmong bs all) (sym ran.came)
       (among_then (given_in ran.last) (more ++ given_in ran.last) all (among_back (given_in ran.last) more (given_in ran.last) (among_all (given_in ran.last))) d))))))
@@ -681,13 +681,13 @@ module _ {K : Type 0} (g : Group) (m : ℕ) where
     acts : List (Act K)
     happens : happen acts ≡ events
     sound : SoundAfter acts unanswered
-    lived : Lived g m s (trace_of_acts acts) (stands_after s runs)
+    traced : Traced g m s (trace_of_acts acts) (stands_after s runs)
     happened : IsLaterTrace runs (trace_of_acts acts)
 
   later : (s : NodeState Bytes) (unanswered : List Bytes) (runs : List (Run K)) (events : List (RunEvent K WireEvent)) → s.is_up ≡ true →
       AreRuns g m (IsRun g m) (LeavesThere g m unanswered s) runs events → Later s unanswered runs events
   later s unanswered [] events up are =
-      record { acts = []; happens = sym are; sound = λ came sent a. tt; lived = refl; happened = refl }
+      record { acts = []; happens = sym are; sound = λ came sent a. tt; traced = refl; happened = refl }
   later s unanswered (r ∷ rs) events up (left, own, more, ran, all, are) =
       let x = left.0 in
       let l = later r.end r.unanswered rs more ran.up are in
@@ -703,8 +703,8 @@ module _ {K : Type 0} (g : Group) (m : ℕ) where
           refl,
           run_sound r own ran l.acts l.sound came sent,
         );
-        lived = (up, left.1, left.3, run_lives r own ran l.acts (stands_after r.end rs) l.lived);
-        happened = (x, trace_of_acts l.acts, ap (λ (ds : List TraceEvent). Stops x r.first ∷ (Opens ∷ ds)) (run_befalls r own ran l.acts), l.happened);
+        traced = (up, left.1, left.3, run_traces r own ran l.acts (stands_after r.end rs) l.traced);
+        happened = (x, trace_of_acts l.acts, ap (λ (ds : List TraceEvent). Stops x r.first ∷ (Opens ∷ ds)) (run_leads r own ran l.acts), l.happened);
       }
 
   -- what a member does in all its runs
@@ -712,11 +712,11 @@ module _ {K : Type 0} (g : Group) (m : ℕ) where
     pub acts : List (Act K)
     pub happens : happen acts ≡ events
     pub sound : AreSound g m acts [] []
-    pub lived : Lived g m (started nothing_stored) (trace_of_acts acts) (stands_after (started nothing_stored) runs)
+    pub traced : Traced g m (started nothing_stored) (trace_of_acts acts) (stands_after (started nothing_stored) runs)
     pub happened : IsTrace runs (trace_of_acts acts)
 
   acted : (runs : List (Run K)) (events : List (RunEvent K WireEvent)) → AreRuns g m (IsRun g m) IsEmpty runs events → Acted runs events
-  acted [] events are = record { acts = []; happens = sym are; sound = tt; lived = refl; happened = refl }
+  acted [] events are = record { acts = []; happens = sym are; sound = tt; traced = refl; happened = refl }
   acted (r ∷ rs) events (empty, own, more, ran, all, are) =
       let l = later r.end r.unanswered rs more ran.up are in
       let acts = run_then r own ran l.acts in
@@ -725,15 +725,15 @@ module _ {K : Type 0} (g : Group) (m : ℕ) where
         happens = ap (λ (es : List (RunEvent K WireEvent)). Starts r.key ∷ es)
             (run_happens r own ran l.acts ∙ ap (λ (es : List (RunEvent K WireEvent)). during own ++ es) l.happens) ∙ sym all;
         sound = (none_brought g m [], refl, run_sound r own ran l.acts l.sound [] []);
-        lived = subst (λ (d : Record Bytes). Lived g m (started d) (trace_of_acts acts) (stands_after r.end rs)) empty
-            (run_lives r own ran l.acts (stands_after r.end rs) l.lived);
-        happened = (trace_of_acts l.acts, run_befalls r own ran l.acts, l.happened);
+        traced = subst (λ (d : Record Bytes). Traced g m (started d) (trace_of_acts acts) (stands_after r.end rs)) empty
+            (run_traces r own ran l.acts (stands_after r.end rs) l.traced);
+        happened = (trace_of_acts l.acts, run_leads r own ran l.acts, l.happened);
       }
 
 -- ---- all members
 
-as_led : (g : Group) (me : ℕ) (s t : NodeState Bytes) (ds : List TraceEvent) → Lived g me s ds t → Lived g me s ds (led_to s ds)
-as_led g me s t ds l = subst (λ (u : NodeState Bytes). Lived g me s ds u) (lived_to g me s t ds l) l
+as_led : (g : Group) (me : ℕ) (s t : NodeState Bytes) (ds : List TraceEvent) → Traced g me s ds t → Traced g me s ds (led_to s ds)
+as_led g me s t ds l = subst (λ (u : NodeState Bytes). Traced g me s ds u) (traced_to g me s t ds l) l
 
 module _ {K : Type 0} (g : Group) (network : List (ℕ × RunEvent K WireEvent)) (runs : ℕ → List (Run K))
     (are : (m : ℕ) → m < g.members → AreRuns g m (IsRun g m) IsEmpty (runs m) (events_at m network)) where
@@ -753,29 +753,29 @@ module _ {K : Type 0} (g : Group) (network : List (ℕ × RunEvent K WireEvent))
   rest_at m (inl b) below = (acted_at m b).happens
   rest_at m (inr above) below = absurd (omega (arith, above, below))
 
-  lived_at : (m : ℕ) (w : (m < g.members) ⊎ (g.members ≤ m)) → m < g.members → (ds : List TraceEvent) → ds ≡ trace_of_acts (plan_of m w) →
-      Lived g m (started nothing_stored) ds (stands runs m) × IsTrace (runs m) ds
-  lived_at m (inl b) below ds e = (
-    subst (λ (xs : List TraceEvent). Lived g m (started nothing_stored) xs (stands runs m)) (sym e) (acted_at m b).lived,
+  traced_at : (m : ℕ) (w : (m < g.members) ⊎ (g.members ≤ m)) → m < g.members → (ds : List TraceEvent) → ds ≡ trace_of_acts (plan_of m w) →
+      Traced g m (started nothing_stored) ds (stands runs m) × IsTrace (runs m) ds
+  traced_at m (inl b) below ds e = (
+    subst (λ (xs : List TraceEvent). Traced g m (started nothing_stored) xs (stands runs m)) (sym e) (acted_at m b).traced,
     subst (λ (xs : List TraceEvent). IsTrace (runs m) xs) (sym e) (acted_at m b).happened,
   )
-  lived_at m (inr above) below ds e = absurd (omega (arith, above, below))
+  traced_at m (inr above) below ds e = absurd (omega (arith, above, below))
 
   pub wires_go : IsGroup g → Carries g network [] → (stretches : List Stretch) × InStretches g runs stretches
   wires_go few carries =
       let w = whole g network [] [] (λ m. []) (λ m. plan_of m (below_or m g.members))
       (λ m below. sound_at m (below_or m g.members) below) (λ m below. rest_at m (below_or m g.members) below)
       (λ m b below n. absurd n) (λ b n. absurd n) (λ d n. absurd n) carries in
-      let lived = λ (m : ℕ) (below : m < g.members). lived_at m (below_or m g.members) below (trace_in m w.stretches) (w.trace m below) in (
+      let traced = λ (m : ℕ) (below : m < g.members). traced_at m (below_or m g.members) below (trace_in m w.stretches) (w.trace m below) in (
         w.stretches,
         record {
           goes = record {
             group = few;
             are = w.are;
-            lived = λ m below. as_led g m (started nothing_stored) (stands runs m) (trace_in m w.stretches) (lived m below).0;
+            traced = λ m below. as_led g m (started nothing_stored) (stands runs m) (trace_in m w.stretches) (traced m below).0;
             carried = w.carried;
           };
-          happened = λ m below. (lived m below).1;
-          leaves = λ m below. sym (lived_to g m (started nothing_stored) (stands runs m) (trace_in m w.stretches) (lived m below).0);
+          happened = λ m below. (traced m below).1;
+          leaves = λ m below. sym (traced_to g m (started nothing_stored) (stands runs m) (trace_in m w.stretches) (traced m below).0);
         },
       )

@@ -6,7 +6,7 @@ use Rattle.px_packet.specs.Headers.{start_bytes}
 use Rattle.px_model.specs.Law.{Among, NoneTwice}
 use Rattle.px_model.specs.Node.{Record}
 use Rattle.px_model.specs.Spelling.{Bytes}
-use Rattle.node_loop.specs.Living.{LeavesThere}
+use Rattle.node_loop.specs.Moves.{LeavesThere}
 use Rattle.px_transport.specs.Networks.{Cluster}
 use Rattle.px_wire.specs.Message.{Group}
 use Rattle.pfx_laws.specs.Members.{RunEvent, Starts, During, Run, AreRuns, events_at}

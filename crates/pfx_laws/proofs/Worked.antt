@@ -7,7 +7,7 @@ use Rattle.px_model.specs.Node.Input.{Ticks}
 use Rattle.px_model.specs.Spelling.{Bytes}
 use Rattle.px_model.specs.World.{NodeState, nothing_stored, started}
 use Rattle.px_wire.specs.Message.{Group, group, Message, DatagramBytes}
-use Rattle.px_replica.specs.Lives.TraceEvent.{Calls, Stops, Opens}
+use Rattle.px_replica.specs.Traces.TraceEvent.{Calls, Stops, Opens}
 use Rattle.node_loop.specs.Resending.{IsOutside}
 use Rattle.px_replica.specs.declared.datagram.Datagram.{Datagram}
 use Rattle.std.specs.declared.net.socket_addr.SocketAddr.{SocketAddr}
@@ -117,7 +117,7 @@ nothing_yet g m first = record {
     ran = record {
       moves = [];
       does = refl;
-      lived = refl;
+      traced = refl;
       up = refl;
       hears = false;
       are = tt;
@@ -168,8 +168,8 @@ store_goes_on G m given back next end events later a b empty left = (
 )
 
 -- its trace
-pub befell_it : IsTrace (idle nothing_stored ∷ idle nothing_stored ∷ []) (Stops Ticks nothing_stored ∷ Opens ∷ [])
-befell_it = (Stops Ticks nothing_stored ∷ Opens ∷ [], refl, (Ticks, [], refl, refl))
+pub is_its_trace : IsTrace (idle nothing_stored ∷ idle nothing_stored ∷ []) (Stops Ticks nothing_stored ∷ Opens ∷ [])
+is_its_trace = (Stops Ticks nothing_stored ∷ Opens ∷ [], refl, (Ticks, [], refl, refl))
 
 -- ---- with a key
 

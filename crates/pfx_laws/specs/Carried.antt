@@ -6,7 +6,7 @@ use Rattle.px_model.specs.Spelling.{Bytes}
 use Rattle.px_model.specs.World.{NodeState, nothing_stored, started}
 use Rattle.px_records.specs.declared.records.Records.{Ghosts}
 use Rattle.px_wire.specs.Message.{Group}
-use Rattle.px_replica.specs.Lives.{Lived}
+use Rattle.px_replica.specs.Traces.{Traced}
 use Rattle.pf_eval.specs.Verdicts.{judgement}
 use Rattle.pf_eval.specs.declared.packet.Packet.{Packet}
 use Rattle.pf_node.specs.declared.state.Node.{Node}
@@ -21,7 +21,7 @@ use Rattle.pfx_laws.specs.Wires.{Stretch, AreStretches, AreCarried, trace_in, st
 pub record Goes (g : Group) (stretches : List Stretch) : Type 0 where
   pub group : IsGroup g
   pub are : AreStretches g stretches
-  pub lived : (m : ℕ) → m < g.members → Lived g m (started nothing_stored) (trace_in m stretches) (stand stretches m)
+  pub traced : (m : ℕ) → m < g.members → Traced g m (started nothing_stored) (trace_in m stretches) (stand stretches m)
   pub carried : AreCarried g stretches []
 
 -- the members' events are a history of the cluster, which leaves each of them in the state after its stretches

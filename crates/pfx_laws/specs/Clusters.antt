@@ -9,7 +9,7 @@ use Rattle.px_model.specs.World.{NodeState, nothing_stored, started, command_of}
 use Rattle.px_model.specs.Spelling.{Bytes}
 use Rattle.px_wire.specs.Message.{Group, DatagramBytes}
 use Rattle.px_wire.specs.Members.{as_sent}
-use Rattle.px_replica.specs.Lives.{stopped, IsInput}
+use Rattle.px_replica.specs.Traces.{stopped, IsInput}
 use Rattle.px_replica.specs.Made.{Makes, LeavesOne}
 use Rattle.px_replica.specs.Spelled.{for_members}
 use Rattle.px_replica.specs.declared.datagram.Datagram.{Datagram}

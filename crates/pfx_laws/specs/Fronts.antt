@@ -4,7 +4,7 @@ use Rattle.px_model.specs.Node.{Record}
 use Rattle.px_model.specs.Spelling.{Bytes}
 use Rattle.px_model.specs.World.{NodeState}
 use Rattle.px_wire.specs.Message.{Group}
-use Rattle.px_replica.specs.Lives.{TraceEvent, Lived}
+use Rattle.px_replica.specs.Traces.{TraceEvent, Traced}
 use Rattle.px_transport.specs.Sending.{Sealer}
 use Rattle.node_udp.specs.Sockets.{SocketEvent}
 use Rattle.node_control.specs.Sockets.{RanAt, RanSealed}
@@ -19,7 +19,7 @@ pub record Front (g : Group) (m : ℕ) (Is : List TraceEvent → NodeState Bytes
   pub ran : Is before then unanswered
   pub later : List TraceEvent
   pub all : trace ≡ before ++ later
-  pub goes_on : Lived g m then later end
+  pub goes_on : Traced g m then later end
 
 -- Wherever what went over a run's socket is cut off, without a key or with one, the prefix of it is what went over the
 -- socket of a run, whose trace is a prefix of the member's trace.

@@ -7,7 +7,7 @@ pub mod Labels
 pub mod Alone
 pub mod Clusters
 pub mod Promised
-pub mod Lives
+pub mod Traces
 pub mod Wires
 pub mod Carried
 pub mod Runs

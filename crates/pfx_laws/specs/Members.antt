@@ -6,9 +6,9 @@ use Rattle.px_model.specs.Spelling.{Bytes}
 use Rattle.px_model.specs.World.{NodeState, nothing_stored, started}
 use Rattle.px_records.specs.declared.records.Records.{Ghosts}
 use Rattle.px_wire.specs.Message.{Group}
-use Rattle.px_replica.specs.Lives.{TraceEvent}
-use Rattle.px_replica.specs.Lives.TraceEvent.{Stops, Opens}
-use Rattle.node_loop.specs.Living.{LeavesThere}
+use Rattle.px_replica.specs.Traces.{TraceEvent}
+use Rattle.px_replica.specs.Traces.TraceEvent.{Stops, Opens}
+use Rattle.node_loop.specs.Moves.{LeavesThere}
 use Rattle.pf_eval.specs.Verdicts.{judgement}
 use Rattle.pf_eval.specs.declared.packet.Packet.{Packet}
 use Rattle.pf_node.specs.declared.state.Node.{Node}

@@ -5,13 +5,13 @@ use Rattle.px_model.specs.Spelling.{Bytes}
 use Rattle.px_model.specs.World.{NodeState, nothing_stored, started}
 use Rattle.px_records.specs.declared.records.Records.{Ghosts}
 use Rattle.px_wire.specs.Message.{Group, group}
-use Rattle.px_replica.specs.Lives.{Lived}
-use Rattle.px_replica.specs.Lives.TraceEvent.{Stops, Opens}
+use Rattle.px_replica.specs.Traces.{Traced}
+use Rattle.px_replica.specs.Traces.TraceEvent.{Stops, Opens}
 use Rattle.px_replica.specs.Replicas.{records_of, membership_of, state_in}
 use Rattle.px_replica.specs.declared.fault.NodeFault.{NodeFault}
 use Rattle.node_loop.specs.Turns.{Stand}
 use Rattle.px_transport.specs.Wires.{given_in}
-use Rattle.node_loop.specs.Living.{messages_of, trace_of, came_by, AreBrought, Living}
+use Rattle.node_loop.specs.Moves.{messages_of, trace_of, came_by, AreBrought, HasTrace}
 use Rattle.pfx_laws.specs.Promised.{IsGroup}
 use Rattle.pfx_laws.specs.Wires.{Stretch, AreStretches, AreCarried, trace_in, led_to, stand}
 use Rattle.pfx_laws.specs.Carried.{Goes}
@@ -22,12 +22,12 @@ use Rattle.pfx_laws.specs.Carried.{Goes}
 -- received its wire gave it in a datagram.
 pub record IsStretch (g : Group) (from : NodeState Bytes) (x : Stretch) : Type 0 where
   pub below : x.member < g.members
-  pub lived : Lived g x.member from x.trace (led_to from x.trace)
+  pub traced : Traced g x.member from x.trace (led_to from x.trace)
   pub brought : AreBrought g x.member x.gave (messages_of x.trace)
 
 -- the stretch of its trace, up to the call that failed, if one did
 abbrev pub stretch_of : {R : Type 0} {G : Ghosts R} (x z : Stand G) (answered : Option NodeFault) →
-    Living x z answered → Stretch
+    HasTrace x z answered → Stretch
 stretch_of x z answered l = record {
   member = (membership_of x.replica).me;
   trace = trace_of l.moves;
@@ -36,7 +36,7 @@ stretch_of x z answered l = record {
 
 -- the stretch of its trace in which it stopped, in a call for this input
 abbrev pub stretch_to : {R : Type 0} {G : Ghosts R} (x z : Stand G) (answered : Option NodeFault) →
-    Living x z answered → Input Bytes → Record Bytes → Stretch
+    HasTrace x z answered → Input Bytes → Record Bytes → Stretch
 stretch_to x z answered l input left = record {
   member = (membership_of x.replica).me;
   trace = trace_of l.moves ++ Stops input left ∷ [];
@@ -45,9 +45,9 @@ stretch_to x z answered l input left = record {
 
 -- A member's trace is a stretch from where it began, and leads to its state. And whatever a stop in the end may leave
 -- of its record, there is a stretch of it that ends with that stop.
-abbrev pub LivesAreStretches : {R : Type 0} → Ghosts R → Type 0
-LivesAreStretches G =
-    (x z : Stand G) (answered : Option NodeFault) (l : Living x z answered) →
+abbrev pub TracesAreStretches : {R : Type 0} → Ghosts R → Type 0
+TracesAreStretches G =
+    (x z : Stand G) (answered : Option NodeFault) (l : HasTrace x z answered) →
     (membership_of x.replica).me < (membership_of x.replica).members →
     IsStretch (group (membership_of x.replica)) (state_in x.replica) (stretch_of x z answered l) ×
     (l.then ≡ led_to (state_in x.replica) (trace_of l.moves)) ×
@@ -75,11 +75,11 @@ pub record IsNew {R : Type 0} {G : Ghosts R} (g : Group) (m : ℕ) (x : Stand G)
 -- Members run side by side, each over a record of its own from empty on; their traces are cut into stretches of one
 -- event or several, in some order; and of what their wires gave and were handed in these the network is such a one.
 -- Then the promises for stretches hold, and the state of each member is the one after its stretches.
-abbrev pub LivesGo : {R : Type 0} → Ghosts R → Type 0
-LivesGo G =
+abbrev pub TracesGo : {R : Type 0} → Ghosts R → Type 0
+TracesGo G =
     (g : Group) → IsGroup g → (from to : (m : ℕ) → Stand G) (answered : (m : ℕ) → Option NodeFault)
-    (lives : (m : ℕ) → m < g.members → Living (from m) (to m) (answered m)) →
+    (all_traced : (m : ℕ) → m < g.members → HasTrace (from m) (to m) (answered m)) →
     ((m : ℕ) → m < g.members → IsNew g m (from m)) →
-    (stretches : List Stretch) → ((m : ℕ) (it : m < g.members) → trace_in m stretches ≡ trace_of (lives m it).moves) →
+    (stretches : List Stretch) → ((m : ℕ) (it : m < g.members) → trace_in m stretches ≡ trace_of (all_traced m it).moves) →
     AreStretches g stretches → AreCarried g stretches [] →
-    Goes g stretches × ((m : ℕ) (it : m < g.members) → stand stretches m ≡ (lives m it).then)
+    Goes g stretches × ((m : ℕ) (it : m < g.members) → stand stretches m ≡ (all_traced m it).then)

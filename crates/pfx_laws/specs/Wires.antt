@@ -4,8 +4,8 @@ use Rattle.px_model.specs.Law.{Among}
 use Rattle.px_model.specs.World.{NodeState, nothing_stored, started}
 use Rattle.px_model.specs.Spelling.{Bytes}
 use Rattle.px_wire.specs.Message.{Group}
-use Rattle.px_replica.specs.Lives.{TraceEvent, stopped}
-use Rattle.node_loop.specs.Living.{messages_of, AreBrought, sent_by}
+use Rattle.px_replica.specs.Traces.{TraceEvent, stopped}
+use Rattle.node_loop.specs.Moves.{messages_of, AreBrought, sent_by}
 use Rattle.node_loop.specs.Resending.{IsOutside}
 use Rattle.pfx_laws.specs.Clusters.{ClusterEvent}
 

@@ -1,12 +1,12 @@
 //! What holds of every cluster of nodes.
 
 ghost use Rattle.pfx_laws.specs.Fronts.{FrontsAreRuns};
-ghost use Rattle.pfx_laws.specs.Lives.{LivesAreHistories};
+ghost use Rattle.pfx_laws.specs.Traces.{TracesAreHistories};
 ghost use Rattle.pfx_laws.specs.Promised.{HistoriesAreRuns, NodesAgree, LearnWhatWasAsked, NeverDiffer};
 ghost use Rattle.pfx_laws.specs.Promised.{EquallyApplied};
 ghost use Rattle.pfx_laws.specs.Carried.{WiresAreHistories, WiresNeverDiffer, WiresLearnWhatWasAsked};
 ghost use Rattle.pfx_laws.specs.Carried.{EquallyAppliedOverWires};
-ghost use Rattle.pfx_laws.specs.Runs.{LivesAreStretches, LivesGo, OpeningsAreStretches};
+ghost use Rattle.pfx_laws.specs.Runs.{TracesAreStretches, TracesGo, OpeningsAreStretches};
 ghost use Rattle.pfx_laws.specs.Sockets.{EquallyAppliedAtSockets, SocketsGo, SocketsLearnWhatWasAsked};
 ghost use Rattle.pfx_laws.specs.Sockets.{SocketsNeverDiffer};
 ghost use Rattle.pfx_laws.specs.Sealed.{EquallyAppliedAtSealedSockets};
@@ -16,9 +16,9 @@ use px_records::Records;
 
 /// Any traces of members, each from an empty record, make a history, in any order of their events in which each
 /// datagram that one received had been handed out to it before. What turns make is such a trace
-/// (`node_loop::laws::turns_are_lived`).
-pub fn lives_are_histories()
-    ensures { LivesAreHistories }
+/// (`node_loop::laws::turns_are_traces`).
+pub fn traces_are_histories()
+    ensures { TracesAreHistories }
 {}
 
 /// Any events of nodes over any records are a run of the world: calls, stops in the midst of one, failures of a store,
@@ -55,8 +55,8 @@ pub fn equally_applied_nodes_are_equal<R: Records, Q: Records>()
 
 /// A member's trace is a stretch, which leads to its state at the end; and its trace up to a stop there is one,
 /// whatever that leaves.
-pub fn lives_are_stretches<R: Records>()
-    ensures { LivesAreStretches R.Records }
+pub fn traces_are_stretches<R: Records>()
+    ensures { TracesAreStretches R.Records }
 {}
 
 /// A member's trace from an opening on is a stretch, with that opening, from any state before.
@@ -90,8 +90,8 @@ pub fn equally_applied_over_wires<R: Records, Q: Records>()
 
 /// Members that run side by side, each from an empty record on, and any order of their events in which the network is
 /// such a one: these laws hold of their states at the end.
-pub fn lives_go<R: Records>()
-    ensures { LivesGo R.Records }
+pub fn traces_go<R: Records>()
+    ensures { TracesGo R.Records }
 {}
 
 /// Members that run one after another over sockets, each run over what a stop may have left of the one before, and to

@@ -13,18 +13,18 @@
 -- - **A call in one clause** (px_replica's `Call`, node_loop's `Turned` and `Served`): a record of which each field is what
 --   one answer means, the step made, a refusal, a failure, a stop; search takes it apart, and a caller names the field.
 --   `Called` in px_replica's proofs takes calls from one form to another.
--- - **From turns to the law**: what turns make is a trace of one member (`Lived`), one trace after the other
---   (node_loop's `Lives`). That members' traces, in whatever order, are a history is one induction over the events, in
---   which a member's next event is the first of its trace (`Living.own`), and the others keep their states
---   (`Living.on`).
+-- - **From turns to the law**: what turns make is a trace of one member (`Traced`), one trace after the other
+--   (node_loop's `Runs`). That members' traces, in whatever order, are a history is one induction over the events, in
+--   which a member's next event is the first of its trace (`Tracing.own`), and the others keep their states
+--   (`Tracing.on`).
 -- - **The datagrams on a wire** are proved together with the trace, not after it: node_loop's `Led` has both, so that one
 --   lemma puts one trace behind another (`led_then`), and each list has its own (`Traffic.grows_then`, `brings_then`,
 --   `sent_then`). What a wire gave is a relation of two lists by recursion on the datagrams (`Brings`); the laws above
 --   need only that each message has its datagram (`AreBrought`).
--- - **A trace with a control socket** (node_control's `Lives`): a node works (`Led`), or it failed in a request and does
+-- - **A trace with a control socket** (node_control's `Ran`): a node works (`Led`), or it failed in a request and does
 --   nothing more (`Broken`, `Lost`); each step of a run is one of four cases.
 -- - **The network's order** (pfx_laws's `Carrying`): each datagram that wires were handed is one that nodes sent
---   (`Holds`), kept event by event; each member's trace is cut where its parts are (`lived_front`, `live_on`).
+--   (`Holds`), kept event by event; each member's trace is cut where its parts are (`traced_front`, `live_on`).
 -- - What was learned stays learned over a run as what was sent does (`Agreeing.run_learned`, px_model's
 --   `States.run_sent`).
 -- - **One turn**: `hear` lends `&mut Vec` to a function of its own, or the goal has `take n (new ++ drop ..)`; the

@@ -6,5 +6,5 @@ pub mod Members
 pub mod Made
 pub mod Replicas
 pub mod Calls
-pub mod Lives
+pub mod Traces
 pub mod inner

@@ -1,7 +1,7 @@
 //! Runs of `ask` and `follow` at a node's control socket.
 
 use crate::network::Network;
-use crate::operator::{Operator, text_of};
+use crate::operator::{Operator, Sockets, text_of};
 use crate::scripted::run_steps;
 use crate::serving::SOCKET;
 use cli_ask::run_control_ask;
@@ -11,12 +11,22 @@ use std::alloc::{AllocError, Global};
 use std::fs;
 use std::io::{self, Cursor};
 
-/// The arguments, in which `~` stands for a blank, with the program's name before them.
-pub(crate) fn words_of(alloc: Global, words: &str) -> Result<Vec<String>, AllocError> {
+/// The arguments, in which `~` stands for a blank, with the program's name before them, and with more behind the
+/// subcommand.
+pub(crate) fn words_of(
+    alloc: Global,
+    words: &str,
+    more: &[&str],
+) -> Result<Vec<String>, AllocError> {
     let mut all = Vec::new(alloc);
     all.push(String::from_str(alloc, "pfx")?)?;
-    for word in words.split(' ') {
+    for (at, word) in words.split(' ').enumerate() {
         all.push(word.replace(alloc, "~", " ")?)?;
+        if at == 0 {
+            for argument in more {
+                all.push(String::from_str(alloc, *argument)?)?;
+            }
+        }
     }
     Ok(all)
 }
@@ -39,24 +49,25 @@ pub(crate) fn print_run(
 /// Runs the program with these arguments at the control socket.
 fn run(rt: &HostRuntime, operator: &Operator<'_>, words: &str, input: &str) -> io::Result<()> {
     let alloc = rt.alloc();
-    let owned = words_of(alloc, words)?;
-    let mut all = Vec::new(alloc);
-    for (at, word) in owned.iter().enumerate() {
-        all.push(word.as_str())?;
-        if at == 1 {
-            all.push("--control")?;
-            all.push(SOCKET)?;
-        }
-    }
+    let all = words_of(alloc, words, &["--control", SOCKET])?;
+    let sockets = Sockets { operator };
     let (mut written, mut said) = (Vec::new(alloc), Vec::new(alloc));
     let status = if words.starts_with("follow ") {
-        run_follow(operator, alloc, &all, &mut written, &mut said)
+        run_follow(
+            operator,
+            &sockets,
+            alloc,
+            all.as_slice(),
+            &mut written,
+            &mut said,
+        )
     } else {
         let mut reader = Cursor::new(input.as_bytes());
         run_control_ask(
             operator,
+            &sockets,
             alloc,
-            &all,
+            all.as_slice(),
             &mut reader,
             &mut written,
             &mut said,

@@ -100,7 +100,7 @@ impl Network {
         let words = words.replace(alloc, "@1", self.first.as_str())?;
         let words = words.replace(alloc, "@2", self.second.as_str())?;
         let words = words.replace(alloc, "@3", self.figures.to_string(alloc)?.as_str())?;
-        let words = words_of(alloc, words.as_str())?;
+        let words = words_of(alloc, words.as_str(), &[])?;
         let mut written = Vec::new(alloc);
         let status = run_net(rt, alloc, words.as_slice(), &mut io::empty(), &mut written);
         print_run(rt, status, &written, &[])?;

@@ -226,6 +226,48 @@ impl Net for Operator<'_> {
     }
 }
 
+/// The node in place of the network, for a run that has the operator's files by another handle.
+#[derive(Drop)]
+pub(crate) struct Sockets<'a> {
+    pub(crate) operator: &'a Operator<'a>,
+}
+
+impl Clock for Sockets<'_> {
+    fn monotonic(&self) -> io::Result<Duration> {
+        self.operator.monotonic()
+    }
+
+    fn since_1970(&self) -> io::Result<Duration> {
+        self.operator.since_1970()
+    }
+}
+
+impl Net for Sockets<'_> {
+    type Stream = TcpStream;
+
+    type Listener = TcpListener;
+
+    fn bind(&self, addr: SocketAddr) -> io::Result<TcpListener> {
+        self.operator.bind(addr)
+    }
+
+    fn connect(&self, addr: SocketAddr) -> io::Result<TcpStream> {
+        self.operator.connect(addr)
+    }
+
+    fn connect_unix(&self, addr: &net::SocketAddr) -> io::Result<UnixStream> {
+        self.operator.connect_unix(addr)
+    }
+
+    fn unix_pair(&self) -> io::Result<(UnixStream, UnixStream)> {
+        self.operator.unix_pair()
+    }
+
+    fn unix_socket(&self) -> io::Result<OwnedFd> {
+        self.operator.unix_socket()
+    }
+}
+
 impl Files for Operator<'_> {
     type File = <HostRuntime as Files>::File;
 

@@ -1,9 +1,9 @@
 //! Three members over UDP: what a client asks is applied by each, and lost datagrams change no outcome.
 ghost use Rattle.std.specs.Prelude.{◌<◌};
 
-use crate::members::{ask, ask_load, member, room};
+use crate::members::{ask, ask_load, buffers, member};
 use crate::parties::{Party, all_agree, apply, turns};
-use node_loop::Room;
+use node_loop::TurnBuffers;
 use node_udp::UdpWire;
 use pf_addr::{Prefix, parse_prefix};
 use pf_entry::TableName;
@@ -113,8 +113,8 @@ fn all_block(alloc: Global, parties: &[Member]) -> bool {
 }
 
 /// Whether the first member answers an Ask as accepted.
-fn is_asked<W: Wire>(parties: &mut [Member], client: &mut W, room: &mut Room) -> bool {
-    let is_sent = client.send(0, &ASK) && turns(parties, 0, room);
+fn is_asked<W: Wire>(parties: &mut [Member], client: &mut W, buffers: &mut TurnBuffers) -> bool {
+    let is_sent = client.send(0, &ASK) && turns(parties, 0, buffers);
     let mut answer = [0u8; 29];
     is_sent && client.recv(&mut answer) == Some(29) && answer == ASKED
 }
@@ -123,10 +123,10 @@ fn is_asked<W: Wire>(parties: &mut [Member], client: &mut W, room: &mut Room) ->
 fn applies<W: Wire>(
     parties: &mut [Member],
     client: &mut W,
-    room: &mut Room,
+    buffers: &mut TurnBuffers,
     alloc: Global,
 ) -> bool {
-    is_asked(parties, client, room) && apply(parties, room, 1) && all_block(alloc, parties)
+    is_asked(parties, client, buffers) && apply(parties, buffers, 1) && all_block(alloc, parties)
 }
 
 /// The members' addresses.
@@ -136,10 +136,10 @@ static MEMBERS: [&str; 3] = ["127.0.0.1:39481", "127.0.0.1:39482", "127.0.0.1:39
 fn loopback(rt: HostRuntime) {
     let alloc = rt.alloc();
     let mut client = UdpWire::bind(&rt, alloc, &MEMBERS[..1], 255, 200).expect(&rt, "a socket");
-    let mut room = room(alloc).expect(&rt, "memory");
+    let mut buffers = buffers(alloc).expect(&rt, "memory");
     let mut parties = Vec::new(alloc);
     assert!(rt; all_join(&rt, &mut parties, &MEMBERS, u64::MAX, 10));
-    assert!(rt; applies(&mut parties, &mut client, &mut room, alloc));
+    assert!(rt; applies(&mut parties, &mut client, &mut buffers, alloc));
 }
 
 /// Whether the node is asked that the main ruleset's table `t` hold the address alone.
@@ -182,9 +182,9 @@ fn ask_all(alloc: Global, parties: &mut [Member]) -> bool {
 }
 
 /// Whether any two of three nodes agree after each of 600 turns.
-fn go_on(alloc: Global, parties: &mut [Member], room: &mut Room) -> bool {
+fn go_on(alloc: Global, parties: &mut [Member], buffers: &mut TurnBuffers) -> bool {
     for number in 0..600usize {
-        if !turns(parties, number % 3, room) || !all_agree(alloc, parties) {
+        if !turns(parties, number % 3, buffers) || !all_agree(alloc, parties) {
             return false;
         }
     }
@@ -210,11 +210,11 @@ fn lossy(rt: &HostRuntime, k: u64) -> Option<u32>
     requires { 0 < k }
 {
     let alloc = rt.alloc();
-    let mut room = room(alloc)?;
+    let mut buffers = buffers(alloc)?;
     let mut parties = Vec::new(alloc);
     let is_on = all_join(rt, &mut parties, &LOSSY, k, 5)
         && ask_all(alloc, &mut parties)
-        && go_on(alloc, &mut parties, &mut room);
+        && go_on(alloc, &mut parties, &mut buffers);
     if is_on { most_applied(&parties) } else { None }
 }
 

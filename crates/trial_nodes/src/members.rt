@@ -1,6 +1,6 @@
 //! Members with empty records in memory, and what is asked of them.
 
-use node_loop::{Room, SystemClock, TickTimer, finish, round};
+use node_loop::{SystemClock, TickTimer, TurnBuffers, finish, round};
 use pf_entry::Profile;
 use pf_node::{Command, Membership, Node};
 use pf_rules::Path;
@@ -48,9 +48,9 @@ pub(crate) fn ask_load(alloc: Global, node: &mut Node<MemoryRecords>, text: &[u8
 
 /// The buffers of a member of this cluster of three: what they hold of one member nobody uses in a turn, so others
 /// share them.
-pub(crate) fn room(alloc: Global) -> Option<Room> {
+pub(crate) fn buffers(alloc: Global) -> Option<TurnBuffers> {
     let m = Membership::new(7, 3, 0)?;
-    Room::new(alloc, &m, true).ok()
+    TurnBuffers::new(alloc, &m, true).ok()
 }
 
 /// A datagram that comes.
@@ -66,16 +66,16 @@ pub(crate) fn runs(
     node: &mut Node<MemoryRecords>,
     wire: &mut LoopbackWire<MemoryWire>,
 ) -> bool {
-    let Ok(mut room) = Room::new(rt.alloc(), &node.membership(), true) else {
+    let Ok(mut buffers) = TurnBuffers::new(rt.alloc(), &node.membership(), true) else {
         return false;
     };
     let mut timer = TickTimer::new(0);
     let mut clock = SystemClock { clock: rt };
-    round(node, wire, &mut room, &mut timer, 0).is_ok()
+    round(node, wire, &mut buffers, &mut timer, 0).is_ok()
         && finish(
             node,
             wire,
-            &mut room,
+            &mut buffers,
             &mut timer,
             &mut clock,
             Instant::now(rt).ok(),

@@ -1,9 +1,9 @@
 //! Three members over packets: what is asked is applied by each, also where packets are lost.
 ghost use Rattle.std.specs.Prelude.{◌<◌};
 
-use crate::members::{ask_load, member, room};
+use crate::members::{ask_load, buffers, member};
 use crate::parties::{Party, apply, are_same};
-use node_loop::Room;
+use node_loop::TurnBuffers;
 use node_udp::UdpWire;
 use pf_node::Node;
 use px_packet::{PacketKeys, Start};
@@ -74,7 +74,7 @@ fn all_join(rt: &HostRuntime, parties: &mut Vec<Party<Packets>>, k: u64) -> bool
 fn spreads(
     alloc: Global,
     parties: &mut [Party<Packets>],
-    room: &mut Room,
+    buffers: &mut TurnBuffers,
     me: usize,
     text: &str,
     count: u32,
@@ -83,7 +83,7 @@ fn spreads(
         Some(party) => ask_load(alloc, &mut party.node, text.as_bytes()),
         None => false,
     };
-    is_asked && apply(parties, room, count)
+    is_asked && apply(parties, buffers, count)
 }
 
 /// Rules that are longer than a packet.
@@ -92,11 +92,11 @@ fn long_text(alloc: Global) -> Result<String, AllocError> {
 }
 
 /// A short load by one member, and one that is longer than a packet by another: whether each applies them.
-fn lives(rt: &HostRuntime, k: u64) -> bool
+fn all_traced(rt: &HostRuntime, k: u64) -> bool
     requires { 0 < k }
 {
     let alloc = rt.alloc();
-    let Some(mut room) = room(alloc) else {
+    let Some(mut buffers) = buffers(alloc) else {
         return false;
     };
     let Ok(text) = long_text(alloc) else {
@@ -104,8 +104,8 @@ fn lives(rt: &HostRuntime, k: u64) -> bool
     };
     let mut parties = Vec::new(alloc);
     all_join(rt, &mut parties, k)
-        && spreads(alloc, &mut parties, &mut room, 0, "block from 10/8\n", 1)
-        && spreads(alloc, &mut parties, &mut room, 1, text.as_str(), 2)
+        && spreads(alloc, &mut parties, &mut buffers, 0, "block from 10/8\n", 1)
+        && spreads(alloc, &mut parties, &mut buffers, 1, text.as_str(), 2)
         && are_same(alloc, &parties)
 }
 
@@ -120,18 +120,22 @@ fn returns(rt: &HostRuntime, parties: &mut Vec<Party<Packets>>, party: Party<Pac
 }
 
 /// Whether each of the three is asked a load, which all apply.
-fn ask_each(alloc: Global, parties: &mut [Party<Packets>], room: &mut Room) -> bool {
-    spreads(alloc, parties, room, 0, "block from 10/8\n", 1)
-        && spreads(alloc, parties, room, 1, "pass to 10/8\n", 2)
-        && spreads(alloc, parties, room, 2, "block out\n", 3)
+fn ask_each(alloc: Global, parties: &mut [Party<Packets>], buffers: &mut TurnBuffers) -> bool {
+    spreads(alloc, parties, buffers, 0, "block from 10/8\n", 1)
+        && spreads(alloc, parties, buffers, 1, "pass to 10/8\n", 2)
+        && spreads(alloc, parties, buffers, 2, "block out\n", 3)
 }
 
 /// Whether the last member stops, another is asked a load meanwhile, and the last one is started again without it.
-fn stops_and_returns(rt: &HostRuntime, parties: &mut Vec<Party<Packets>>, room: &mut Room) -> bool {
+fn stops_and_returns(
+    rt: &HostRuntime,
+    parties: &mut Vec<Party<Packets>>,
+    buffers: &mut TurnBuffers,
+) -> bool {
     let Some(last) = parties.pop() else {
         return false;
     };
-    let is_on = spreads(rt.alloc(), parties, room, 0, "pass out\n", 4);
+    let is_on = spreads(rt.alloc(), parties, buffers, 0, "pass out\n", 4);
     let was_away = last.node.applied() == 3;
     returns(rt, parties, last) && is_on && was_away
 }
@@ -139,22 +143,24 @@ fn stops_and_returns(rt: &HostRuntime, parties: &mut Vec<Party<Packets>>, room: 
 #[test]
 fn a_member_that_was_away_has_what_the_others_have(rt: HostRuntime) {
     let alloc = rt.alloc();
-    let mut room = room(alloc).expect(&rt, "memory");
+    let mut buffers = buffers(alloc).expect(&rt, "memory");
     let mut parties = Vec::new(alloc);
-    assert!(rt; all_join(&rt, &mut parties, u64::MAX) && ask_each(alloc, &mut parties, &mut room));
-    assert!(rt; stops_and_returns(&rt, &mut parties, &mut room));
+    assert!(rt;
+        all_join(&rt, &mut parties, u64::MAX) && ask_each(alloc, &mut parties, &mut buffers)
+    );
+    assert!(rt; stops_and_returns(&rt, &mut parties, &mut buffers));
     // it has what was asked meanwhile, and what it is asked then all have
-    assert!(rt; apply(&mut parties, &mut room, 4));
-    assert!(rt; spreads(alloc, &mut parties, &mut room, 2, "pass in\n", 5));
+    assert!(rt; apply(&mut parties, &mut buffers, 4));
+    assert!(rt; spreads(alloc, &mut parties, &mut buffers, 2, "pass in\n", 5));
     assert!(rt; are_same(alloc, &parties));
 }
 
 #[test]
 fn what_is_asked_is_applied_over_packets(rt: HostRuntime) {
-    assert!(rt; lives(&rt, u64::MAX));
+    assert!(rt; all_traced(&rt, u64::MAX));
 }
 
 #[test]
 fn lost_packets_are_sent_again(rt: HostRuntime) {
-    assert!(rt; lives(&rt, 7));
+    assert!(rt; all_traced(&rt, 7));
 }

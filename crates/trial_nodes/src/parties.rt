@@ -1,7 +1,7 @@
 //! Members with wires of their own, and turns of them.
 
 use crate::listing::are_equal;
-use node_loop::{Room, turn};
+use node_loop::{TurnBuffers, turn};
 use pf_node::Node;
 use px_records::MemoryRecords;
 use px_transport::Wire;
@@ -29,17 +29,21 @@ impl<W: Drop> Party<W> {
 }
 
 /// Whether a turn of the member with this number is made.
-pub(crate) fn turns<W: Wire>(parties: &mut [Party<W>], me: usize, room: &mut Room) -> bool {
+pub(crate) fn turns<W: Wire>(
+    parties: &mut [Party<W>],
+    me: usize,
+    buffers: &mut TurnBuffers,
+) -> bool {
     match parties.get_mut(me) {
-        Some(party) => turn(&mut party.node, &mut party.wire, room).is_ok(),
+        Some(party) => turn(&mut party.node, &mut party.wire, buffers).is_ok(),
         None => false,
     }
 }
 
 /// Whether a turn of each is made.
-fn all_turn<W: Wire>(parties: &mut [Party<W>], room: &mut Room) -> bool {
+fn all_turn<W: Wire>(parties: &mut [Party<W>], buffers: &mut TurnBuffers) -> bool {
     for me in 0..parties.len() {
-        if !turns(parties, me, room) {
+        if !turns(parties, me, buffers) {
             return false;
         }
     }
@@ -57,9 +61,13 @@ pub(crate) fn have_applied<W>(parties: &[Party<W>], count: u32) -> bool {
 }
 
 /// Turns of each member in order, until each has applied that many commands: whether all have, after 3,000 at most.
-pub(crate) fn apply<W: Wire>(parties: &mut [Party<W>], room: &mut Room, count: u32) -> bool {
+pub(crate) fn apply<W: Wire>(
+    parties: &mut [Party<W>],
+    buffers: &mut TurnBuffers,
+    count: u32,
+) -> bool {
     for _ in 0..3_000 {
-        if !all_turn(parties, room) {
+        if !all_turn(parties, buffers) {
             return false;
         }
         if have_applied(parties, count) {

@@ -1,7 +1,7 @@
 //! Members that show how far they are, and what they are sent again.
 
 use crate::members::{coming, member};
-use node_loop::{Room, TickTimer, round};
+use node_loop::{TickTimer, TurnBuffers, round};
 use pf_node::Node;
 use px_records::MemoryRecords;
 use px_transport::MemoryWire;
@@ -35,12 +35,12 @@ fn votes_of(alloc: Global, wire: &MemoryWire) -> Option<Vec<Vote>> {
 fn round_with(
     alloc: Global,
     node: &mut Node<MemoryRecords>,
-    room: &mut Room,
+    buffers: &mut TurnBuffers,
     coming: Vec<Vec<u8>>,
 ) -> Option<Vec<Vote>> {
     let mut wire = MemoryWire::new(alloc, coming);
     let mut timer = TickTimer::new(0);
-    match round(node, &mut wire, room, &mut timer, 0) {
+    match round(node, &mut wire, buffers, &mut timer, 0) {
         Ok(_) => votes_of(alloc, &wire),
         Err(_) => None,
     }
@@ -50,14 +50,14 @@ fn round_with(
 fn votes(
     alloc: Global,
     node: &mut Node<MemoryRecords>,
-    room: &mut Room,
+    buffers: &mut TurnBuffers,
     datagram: &[u8],
     wanted: &[Vote],
 ) -> bool {
     let Ok(coming) = coming(alloc, datagram) else {
         return false;
     };
-    match round_with(alloc, node, room, coming) {
+    match round_with(alloc, node, buffers, coming) {
         Some(votes) => votes.as_slice() == wanted,
         None => false,
     }
@@ -76,11 +76,11 @@ fn three(alloc: Global) -> Result<Vec<Vec<u8>>, AllocError> {
 }
 
 /// Whether the node votes for three commands, once for each of 15, and learns them.
-fn learns_three(alloc: Global, node: &mut Node<MemoryRecords>, room: &mut Room) -> bool {
+fn learns_three(alloc: Global, node: &mut Node<MemoryRecords>, buffers: &mut TurnBuffers) -> bool {
     let Ok(coming) = three(alloc) else {
         return false;
     };
-    match round_with(alloc, node, room, coming) {
+    match round_with(alloc, node, buffers, coming) {
         Some(votes) => votes.len() == 45 && node.applied() >= 3,
         None => false,
     }
@@ -91,11 +91,11 @@ fn reminds(alloc: Global, datagram: &[u8], wanted: &[Vote]) -> bool {
     let Some(mut node) = member(alloc, 15, 0) else {
         return false;
     };
-    let Ok(mut room) = Room::new(alloc, &node.membership(), true) else {
+    let Ok(mut buffers) = TurnBuffers::new(alloc, &node.membership(), true) else {
         return false;
     };
-    learns_three(alloc, &mut node, &mut room)
-        && votes(alloc, &mut node, &mut room, datagram, wanted)
+    learns_three(alloc, &mut node, &mut buffers)
+        && votes(alloc, &mut node, &mut buffers, datagram, wanted)
 }
 
 /// A flush of main's tables that member 1 proposes at the position, for member 0.
@@ -153,20 +153,20 @@ fn who_lacks_nothing_behind_is_sent_nothing_again(rt: HostRuntime) {
 }
 
 /// Whether the node votes for a request once for each of 15, and then answers it by the vote alone.
-fn answers_again(alloc: Global, node: &mut Node<MemoryRecords>, room: &mut Room) -> bool {
+fn answers_again(alloc: Global, node: &mut Node<MemoryRecords>, buffers: &mut TurnBuffers) -> bool {
     let Ok(first) = coming(alloc, &accept(0)) else {
         return false;
     };
-    let is_first = match round_with(alloc, node, room, first) {
+    let is_first = match round_with(alloc, node, buffers, first) {
         Some(votes) => votes.len() == 15,
         None => false,
     };
-    is_first && votes(alloc, node, room, &accept(0), &[(1, 0)])
+    is_first && votes(alloc, node, buffers, &accept(0), &[(1, 0)])
 }
 
 #[test]
 fn a_request_that_comes_again_is_answered_by_the_vote(rt: HostRuntime) {
     let mut node = member(rt.alloc(), 15, 0).expect(&rt, "a member");
-    let mut room = Room::new(rt.alloc(), &node.membership(), true).expect(&rt, "memory");
-    assert!(rt; answers_again(rt.alloc(), &mut node, &mut room));
+    let mut buffers = TurnBuffers::new(rt.alloc(), &node.membership(), true).expect(&rt, "memory");
+    assert!(rt; answers_again(rt.alloc(), &mut node, &mut buffers));
 }

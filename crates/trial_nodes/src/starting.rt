@@ -1,7 +1,7 @@
 //! What is asked of a node by datagrams.
 
 use crate::members::{coming, member};
-use node_loop::{Room, TickTimer, round};
+use node_loop::{TickTimer, TurnBuffers, round};
 use pf_node::Node;
 use px_records::MemoryRecords;
 use px_transport::MemoryWire;
@@ -16,10 +16,10 @@ const ASK: [u8; 29] = [
 /// How many datagrams are dropped in a round in which the node is asked a command. None where there is no round.
 fn dropped(alloc: Global, node: &mut Node<MemoryRecords>, hears_asks: bool) -> Option<u32> {
     let mut wire = MemoryWire::new(alloc, coming(alloc, &ASK).ok()?);
-    let mut room = Room::new(alloc, &node.membership(), hears_asks).ok()?;
+    let mut buffers = TurnBuffers::new(alloc, &node.membership(), hears_asks).ok()?;
     let mut timer = TickTimer::new(0);
-    match round(node, &mut wire, &mut room, &mut timer, 0) {
-        Ok(_) => Some(room.counts().dropped),
+    match round(node, &mut wire, &mut buffers, &mut timer, 0) {
+        Ok(_) => Some(buffers.counts().dropped),
         Err(_) => None,
     }
 }

@@ -7,7 +7,7 @@ use Rattle.px_replica.specs.Codes.{node_fault_code}
 use Rattle.px_store.specs.declared.fault.AdoptFault.{AdoptFault}
 use Rattle.px_store.specs.Adopting.{code_of}
 use Rattle.px_transport.specs.Wires.{WireEvent}
-use Rattle.node_loop.specs.Lives.{Runs, HostedRuns}
+use Rattle.node_loop.specs.Runs.{Runs, HostedRuns}
 use Rattle.node_loop.specs.declared.ended.Ended.{Ended}
 use Rattle.node_loop.specs.declared.ended.Ended.TheVariants as ended
 use Rattle.node_udp.specs.declared.answer.AskAnswer.{AskAnswer}

@@ -7,7 +7,7 @@ use Rattle.px_packet.specs.declared.start.Start.{Start}
 use Rattle.px_records.specs.declared.records.Records.{Ghosts}
 use Rattle.px_transport.specs.Sending.{Sealer}
 use Rattle.px_wire.specs.declared.membership.Membership.{Membership}
-use Rattle.node_loop.specs.Lives.{Runs}
+use Rattle.node_loop.specs.Runs.{Runs}
 use Rattle.node_loop.specs.declared.ended.Ended.{Ended}
 use Rattle.node_udp.specs.Addresses.{AreFound}
 use Rattle.node_udp.specs.Members.{route_of}

@@ -8,7 +8,7 @@ use Rattle.toml.specs.Parse.{parse_document}
 use Rattle.cli_files.specs.Files.{settings_of}
 use Rattle.cli_files.specs.Settings.{texts_at}
 use Rattle.cli_files.specs.declared.settings.NodeFile.{NodeFile}
-use Rattle.cli_node.specs.declared.node.NodeWords.{NodeWords}
+use Rattle.cli_node.specs.declared.node.NodeArguments.{NodeArguments}
 use Rattle.cli_node.specs.declared.outcome.Outcome.{Outcome}
 use Rattle.cli_node.specs.declared.outcome.Outcome.TheVariants.{Front, Stopped, Asked, Key, Refused, RefusedLine}
 use Rattle.cli_node.specs.declared.outcome.Outcome.TheVariants.{NoAnswer, Sound, Made, Memory, Unread}
@@ -16,8 +16,8 @@ use Rattle.cli_node.specs.declared.settings.TheConstants.{UNREADABLE, BAD_SETTIN
 use Rattle.cli_node.specs.inner.Given.{AreTurns, IsFlag, IsFlagIn, IsNumberIn, text_in}
 
 -- What the arguments and a file of settings say, with these members: an option goes before the file.
-pub record AreWords
-    (matches : ArgMatches) (file : NodeFile) (members : List (List ℕ)) (w : NodeWords) : Type 0 where
+pub record AreArguments
+    (matches : ArgMatches) (file : NodeFile) (members : List (List ℕ)) (w : NodeArguments) : Type 0 where
   pub me : IsNumberIn matches file (codes "me") w.me
   pub cluster : IsNumberIn matches file (codes "cluster") w.cluster
   pub is_from_file : w.is_from_file ≡ is_some (first_value (found_of matches) (codes "config"))
@@ -34,7 +34,7 @@ pub record AreWords
   pub are_members : map (λ t. t.now) w.members.now ≡ members
 
 -- each setting has the one that it needs: a second key and new starts a key, figures a control socket
-abbrev pub is_whole : NodeWords → Bool
+abbrev pub is_whole : NodeArguments → Bool
 is_whole w = ((not (is_some w.other_key) && not w.makes_starts) || is_some w.key)
     && (not (is_some w.metrics) || is_some w.control)
 
@@ -44,16 +44,16 @@ members_in matches file = unwrap_or (option_map raw_values (matched_of (found_of
     (texts_at (get_member (codes "members") (settings_of file)))
 
 -- a node is checked or run
-abbrev pub IsDone : (ran checked : NodeWords → Outcome → Type 0) → (is_check : Bool) → NodeWords → Outcome → Type 0
+abbrev pub IsDone : (ran checked : NodeArguments → Outcome → Type 0) → (is_check : Bool) → NodeArguments → Outcome → Type 0
 IsDone ran checked false w outcome = ran w outcome
 IsDone ran checked true w outcome = checked w outcome
 
 -- What these settings give with these members: 92, or what the node gives that they describe. It is checked where that
 -- is asked for.
-abbrev pub IsSettled : (ran checked : NodeWords → Outcome → Type 0) → ArgMatches → NodeFile →
+abbrev pub IsSettled : (ran checked : NodeArguments → Outcome → Type 0) → ArgMatches → NodeFile →
     (members : List (List ℕ)) → Outcome → Type 0
 IsSettled ran checked matches file members outcome = (outcome ≡ Refused BAD_SETTINGS)
-    ⊎ ((w : NodeWords) × (is_check : Bool) × AreWords matches file members w × (is_whole w ≡ true)
+    ⊎ ((w : NodeArguments) × (is_check : Bool) × AreArguments matches file members w × (is_whole w ≡ true)
     × IsFlag (one_text (found_of matches) (codes "check")) is_check × IsDone ran checked is_check w outcome)
 
 -- why a file gives no settings: out of memory, or it can't be read or is wrong
@@ -82,7 +82,7 @@ AreSettings is_of_file (Some path) file =
     (text : List ℕ) × is_of_file text × (parse_document text ≡ Some (settings_of file))
 
 -- What `node` gives: its file's refusal, out of memory, or what its settings give.
-abbrev pub IsNode : (ran checked : NodeWords → Outcome → Type 0) → (is_of_file : (text : List ℕ) → Type 0) →
+abbrev pub IsNode : (ran checked : NodeArguments → Outcome → Type 0) → (is_of_file : (text : List ℕ) → Type 0) →
     ArgMatches → Outcome → Type 0
 IsNode ran checked is_of_file matches outcome = IsUnsettled (first_value (found_of matches) (codes "config")) outcome
     ⊎ ((outcome ≡ Memory)

@@ -11,9 +11,9 @@ use Rattle.pf_arguments.specs.declared.given.Given.{Given}
 use Rattle.pf_arguments.specs.declared.fault.CommandFault.{CommandFault}
 use Rattle.pf_arguments.specs.declared.fault.CommandFault.TheVariants.{Memory, Usage, BadPath, BadAddress, TooLong}
 use Rattle.pf_arguments.specs.Answers.{FailsToRead}
-use Rattle.pf_arguments.specs.Asked.{GivenWords, lower}
+use Rattle.pf_arguments.specs.Asked.{GivenArguments, lower}
 
-abbrev pub given_of : Given → GivenWords
+abbrev pub given_of : Given → GivenArguments
 given_of given = record {
   path = option_copied given.path;
   file = option_copied given.file;

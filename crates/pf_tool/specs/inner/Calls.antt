@@ -3,7 +3,7 @@ use Rattle.std.specs.Prelude.{map}
 use Rattle.std.specs.Option.{option_copied}
 use Rattle.pf_tool.specs.declared.call.Call.{Call}
 use Rattle.pf_tool.specs.declared.call.Call.TheVariants as call
-use Rattle.pf_tool.specs.Words.{CallValue, Test, Check, Ctl, Lab, Explain, CheckFiles, TestFiles}
+use Rattle.pf_tool.specs.Options.{CallValue, Test, Check, Ctl, Lab, Explain, CheckFiles, TestFiles}
 
 abbrev pub asked : Call → CallValue
 asked (call.Test packets) = Test (map (λ p. p.now) packets.now)

@@ -8,7 +8,7 @@ returns-in-Ok-Ok g c =
       c.turns_in-turns.result,
       (
         c.turns_in-turns.ensures,
-        to_places (g.C.Control.exchanged c.args.control.now) (g.C.Control.exchanged c.follow_to.new.control)
+        to_places (g.C.Control.exchanged c.args.control.now) (g.C.Control.exchanged c.follow_to.new.control) (g.RT.Sources.has c.args.rt.now)
             (rows_of (found_of c.args.matches.now)) c.in-Ok-Ok.places c.turns_in-turns.result c.follow_to.result (g.W.Write.contents c.args.writer.now) (g.W.Write.contents c.follow_to.new.writer)
             wanted c.follow_to.ensures,
       ),
@@ -20,7 +20,7 @@ returns-in-Ok-Err g c =
       c.turns_in-turns.result,
       (
         c.turns_in-turns.ensures,
-        refused_first (g.C.Control.exchanged c.args.control.now)
+        refused_first (g.C.Control.exchanged c.args.control.now) (g.RT.Sources.has c.args.rt.now)
             (rows_of (found_of c.args.matches.now)) c.turns_in-turns.result c.in-Ok-Err.code c.refused.result (g.W.Write.contents c.args.writer.now) why c.refused.ensures,
       ),
     )
@@ -30,7 +30,7 @@ returns-in-Err g c = (
   c.turns_in-turns.result,
   (
     c.turns_in-turns.ensures,
-    no_memory (g.C.Control.exchanged c.args.control.now)
+    no_memory (g.C.Control.exchanged c.args.control.now) (g.RT.Sources.has c.args.rt.now)
         (rows_of (found_of c.args.matches.now)) c.turns_in-turns.result c.memory.result (g.W.Write.contents c.args.writer.now) c.memory.ensures,
   ),
 )

@@ -2,7 +2,7 @@ use Rattle.std.proofs.Common.{◌≡◌, ℕ, Option, List, sym, subst, codes, u
 use Rattle.std.specs.Str.Parse.{ParsesUnsigned, ExplainsUnsignedError, HasUnsignedDigitsIfOk}
 use Rattle.clap.specs.Words.{Text, found_of, rows_of, one_of, one_text}
 use Rattle.clap.proofs.WalkLemmas.{one_text-rows}
-use Rattle.cli_nft.specs.Words.{IsPosition}
+use Rattle.cli_nft.specs.Options.{IsPosition}
 use Rattle.cli_nft.proofs.Positions.{is_read}
 use Rattle.cli_nft.proofs.running.position_in.Goals as goal
 

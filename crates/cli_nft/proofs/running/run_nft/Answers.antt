@@ -10,20 +10,20 @@ returns-in_default-members_of g c = memory _ _ _ _ _ c.out_of_memory-in_default-
 
 pub returns-in-Ok-Some : goal.returns-in-Ok-Some
 returns-in-Ok-Some g c =
-    let words = map g.S.AsStr.text c.args.words.now in
+    let arguments = map g.S.AsStr.text c.args.arguments.now in
     let matches = c.in-Ok-try_get_matches_from.matches in
-    let e = named _ words matches _ c.in-Ok.ensures c.in-Ok-try_get_matches_from.ensures.matches
+    let e = named _ arguments matches _ c.in-Ok.ensures c.in-Ok-try_get_matches_from.ensures.matches
     (c.lent-named.ensures ∙ c.in-Ok-members_of.ensures) in
-    let p = placed _ words matches _ c.in-Ok.ensures c.in-Ok-try_get_matches_from.ensures.matches c.in-Some.ensures in
+    let p = placed _ arguments matches _ c.in-Ok.ensures c.in-Ok-try_get_matches_from.ensures.matches c.in-Some.ensures in
     ran_by _ _ _ _ _ _ _ _ e p c.answer.ensures
 
 pub returns-in-Ok-None : goal.returns-in-Ok-None
 returns-in-Ok-None g c =
-    let words = map g.S.AsStr.text c.args.words.now in
+    let arguments = map g.S.AsStr.text c.args.arguments.now in
     let matches = c.in-Ok-try_get_matches_from.matches in
-    let e = named _ words matches _ c.in-Ok.ensures c.in-Ok-try_get_matches_from.ensures.matches
+    let e = named _ arguments matches _ c.in-Ok.ensures c.in-Ok-try_get_matches_from.ensures.matches
     (c.lent-named.ensures ∙ c.in-Ok-members_of.ensures) in
-    let p = placed _ words matches _ c.in-Ok.ensures c.in-Ok-try_get_matches_from.ensures.matches c.in-Some.ensures in
+    let p = placed _ arguments matches _ c.in-Ok.ensures c.in-Ok-try_get_matches_from.ensures.matches c.in-Some.ensures in
     ran_by _ _ _ _ _ _ _ _ e p c.answer-in-Ok-None.ensures
 
 pub returns : goal.returns

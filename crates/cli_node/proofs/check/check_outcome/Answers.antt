@@ -12,9 +12,9 @@ returns-clause-place g c = λ e. c.checked.ensures ∙ place_first c.of_place-pl
 
 pub returns-clause-store : goal.returns-clause-store
 returns-clause-store g c =
-    subst (λ (o : Outcome). IsStoreless c.args.words.is_from_file c.args.words.is_new o)
+    subst (λ (o : Outcome). IsStoreless c.args.arguments.is_from_file c.args.arguments.is_new o)
     (sym (c.checked.ensures ∙ ap (λ (o : Outcome). checked c.of_place-place.result o c.of_store-store.result c.starts_of-starts.result c.of_addresses-addresses.result c.of_control-control.result) c.first_of.ensures))
-    (of_check c.args.words.is_from_file c.args.words.is_new c.of_place-place.result c.of_key-key.result c.of_key-other.result c.of_store-store.result c.starts_of-starts.result
+    (of_check c.args.arguments.is_from_file c.args.arguments.is_new c.of_place-place.result c.of_key-key.result c.of_key-other.result c.of_store-store.result c.starts_of-starts.result
     c.of_addresses-addresses.result c.of_control-control.result c.of_place-place.ensures.some c.of_key-key.ensures.why c.of_key-other.ensures.why c.of_store-store.ensures.store c.starts_of-starts.ensures c.of_addresses-addresses.ensures c.of_control-control.ensures)
 
 pub returns-clause-key : goal.returns-clause-key

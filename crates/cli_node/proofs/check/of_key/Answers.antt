@@ -8,6 +8,6 @@ pub returns-in-Ok-clause-sound : goal.returns-in-Ok-clause-sound
 returns-in-Ok-clause-sound g c = λ sound. (
   Some c.in-Ok._key,
   subst (λ (p : _). IsNamed
-      (g.F.NodeFiles.makes c.args.files.now c.args.words.cluster (map (λ t. t.now) c.args.words.members.now))
+      (g.F.NodeFiles.makes c.args.files.now c.args.arguments.cluster (map (λ t. t.now) c.args.arguments.members.now))
       (option_map (λ t. t.now) p) (Some c.in-Ok._key)) (sym c.in-Some.is) c.in-Ok.ensures.made,
 )

@@ -5,7 +5,7 @@ use Rattle.cli_node.proofs.Stores.{not_lost}
 use Rattle.cli_node.proofs.node.run_new.Goals as goal
 
 pub returns-in-Ok-record_at-clause-store : goal.returns-in-Ok-record_at-clause-store
-returns-in-Ok-record_at-clause-store g c = c.run_on.ensures.store c.args.words.is_from_file c.args.words.is_new
+returns-in-Ok-record_at-clause-store g c = c.run_on.ensures.store c.args.arguments.is_from_file c.args.arguments.is_new
 
 pub returns-in-Err-clause-ran : goal.returns-in-Err-clause-ran
 returns-in-Err-clause-ran g c =

@@ -33,7 +33,7 @@ returns-in-Ok-record_at-clause-ran g c = inr (
 )
 
 pub returns-in-Ok-record_at-clause-store : goal.returns-in-Ok-record_at-clause-store
-returns-in-Ok-record_at-clause-store g c = c.run_sealed.ensures.store c.args.words.is_from_file c.args.words.is_new
+returns-in-Ok-record_at-clause-store g c = c.run_sealed.ensures.store c.args.arguments.is_from_file c.args.arguments.is_new
 
 pub returns-in-Err-clause-ran : goal.returns-in-Err-clause-ran
 returns-in-Err-clause-ran g c =

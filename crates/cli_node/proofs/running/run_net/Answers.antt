@@ -1,4 +1,4 @@
--- there is no outcome of words that aren't understood
+-- arguments that aren't understood have no outcome
 use Rattle.std.proofs.Common.{None}
 use Rattle.cli_node.proofs.Writing.{misused}
 use Rattle.cli_node.proofs.running.run_net.Goals as goal

@@ -7,7 +7,7 @@ use Rattle.cli_node.proofs.settings.outcome_for.Goals as goal
 
 pub returns-then-is_given : goal.returns-then-is_given
 returns-then-is_given g c = inr (
-  c.in-Some.words,
+  c.in-Some.arguments,
   true,
   c.in-Some.ensures,
   sym c.is_whole.ensures ∙ c.if-not-is_whole.false,
@@ -17,7 +17,7 @@ returns-then-is_given g c = inr (
 
 pub returns-else-is_given : goal.returns-else-is_given
 returns-else-is_given g c = inr (
-  c.in-Some.words,
+  c.in-Some.arguments,
   false,
   c.in-Some.ensures,
   sym c.is_whole.ensures ∙ c.if-not-is_whole.false,

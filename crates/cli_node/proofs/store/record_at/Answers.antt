@@ -1,4 +1,4 @@
--- what a store that isn't taken comes to, and what one that is taken held
+-- the outcome of a store that is refused, and the contents of one that isn't
 use Rattle.std.proofs.Common.{◌∙◌, Err, ap, sym, subst}
 use Rattle.cli_node.specs.declared.outcome.Outcome.{Outcome}
 use Rattle.cli_node.specs.declared.outcome.Outcome.TheVariants.{Refused}
@@ -17,8 +17,8 @@ returns-in-Ok-record_in-clause-rows g c = (
 
 pub returns-in-Err-record_in-clause-refused : goal.returns-in-Err-record_in-clause-refused
 returns-in-Err-record_in-clause-refused g c =
-    subst (λ (o : Outcome). IsStoreless c.args.words.is_from_file c.args.words.is_new o) (sym c.untaken.ensures.is)
-    (by_fault c.args.words.is_from_file c.args.words.is_new c.in-Err-record_in.fault)
+    subst (λ (o : Outcome). IsStoreless c.args.arguments.is_from_file c.args.arguments.is_new o) (sym c.untaken.ensures.is)
+    (by_fault c.args.arguments.is_from_file c.args.arguments.is_new c.in-Err-record_in.fault)
 
 pub returns-in-Err-record_in-clause-kind : goal.returns-in-Err-record_in-clause-kind
 returns-in-Err-record_in-clause-kind g c =

@@ -4,7 +4,7 @@ use Rattle.node_control.proofs.at_socket.run_at_socket.Goals as goal
 
 pub returns-clause-ran : goal.returns-clause-ran
 returns-clause-ran g c new honest fresh =
-    let r = runs_at g.R.Records g.S.Socket g.met.R.Records.settled c.hosted_runs_are_lived.ensures c.args.m c.args.hears_asks
+    let r = runs_at g.R.Records g.S.Socket g.met.R.Records.settled c.hosted_runs_are_traces.ensures c.args.m c.args.hears_asks
     c.args.records c.run_over.result.1 c.run_over.result.0 c.run_over.result.2 honest fresh (c.run_over.ensures.hosted new) in (
       r.0,
       r.1,

@@ -9,7 +9,7 @@ returns-clause-same g c = sealing_is _ _ _ _ c.run_over.ensures.same
 pub returns-clause-ran : goal.returns-clause-ran
 returns-clause-ran g c new honest fresh =
     let same = sealing_is _ _ _ _ c.run_over.ensures.same in
-    let r = runs_sealed g.R.Records g.S.Socket g.met.R.Records.settled c.calls_are_steps.ensures c.hosted_runs_are_lived.ensures c.args.m
+    let r = runs_sealed g.R.Records g.S.Socket g.met.R.Records.settled c.calls_are_steps.ensures c.hosted_runs_are_traces.ensures c.args.m
     c.args.hears_asks c.args.records c.run_over.result.1 c.run_over.result.0 c.run_over.result.2 honest fresh (c.run_over.ensures.hosted new) in (
       r.0,
       r.1,

@@ -24,7 +24,7 @@ returns-clause-hosted g c es t =
     let r = c.pass_on-is_stopped.ensures.hosted es t in (
       r.0,
       r.1,
-      hosts _ _ _ _ es r.0 c.in-Ok-new.room c.pass_on-is_stopped.new.room c.args.hears_asks (fault_of c.pass_on-is_stopped.result) _
+      hosts _ _ _ _ es r.0 c.in-Ok-new.buffers c.pass_on-is_stopped.new.buffers c.args.hears_asks (fault_of c.pass_on-is_stopped.result) _
           c.new-service.ensures c.close-node.ensures c.in-Ok-new.ensures.kept c.in-Ok-new.ensures.requests c.in-Ok-new.ensures.hears
           r.2 (host_tells _ _ c.pass_on-is_stopped.result _ c.ended_of.ensures),
     )
@@ -34,7 +34,7 @@ returns-clause-turns g c none es t =
     let r = c.pass_on-is_stopped.ensures.turns none es t in (
       r.0,
       r.1,
-      serves _ _ _ _ es r.0 c.in-Ok-new.room c.pass_on-is_stopped.new.room c.args.hears_asks (fault_of c.pass_on-is_stopped.result) _
+      serves _ _ _ _ es r.0 c.in-Ok-new.buffers c.pass_on-is_stopped.new.buffers c.args.hears_asks (fault_of c.pass_on-is_stopped.result) _
           c.new-service.ensures c.close-node.ensures c.in-Ok-new.ensures.kept c.in-Ok-new.ensures.requests c.in-Ok-new.ensures.hears
           r.2 (tells _ _ c.pass_on-is_stopped.result _ c.ended_of.ensures (c.pass_on-is_stopped.ensures.none none)),
     )

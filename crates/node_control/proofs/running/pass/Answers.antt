@@ -9,7 +9,7 @@ use Rattle.node_control.proofs.running.pass.Goals as goal
 
 pub returns-in-Err-clause-hosted : goal.returns-in-Err-clause-hosted
 returns-in-Err-clause-hosted g c = served_over (g.W.Wire.traffic c.args.wire.now) (g.W.Wire.traffic c.round.new.wire)
-    (λ es. standing c.args.service.now.handler.node es c.args.room.now) (λ es. standing c.round.new.node es c.round.new.room) _
+    (λ es. standing c.args.service.now.handler.node es c.args.buffers.now) (λ es. standing c.round.new.node es c.round.new.buffers) _
     c.in-Err.ensures.served
 
 pub returns-else-not-serve-clause-hosted : goal.returns-else-not-serve-clause-hosted
@@ -34,14 +34,14 @@ returns-in-Err-clause-turns g c none = (c.in-Err.ensures.served, none)
 pub returns-else-not-serve-clause-turns : goal.returns-else-not-serve-clause-turns
 returns-else-not-serve-clause-turns g c none = (
   λ es t. (let r = c.in-Ok.ensures.served es t in
-      (r.0, r.1, served_then _ _ _ None r.2 (still _ _ r.0 c.round.new.room (c.serve.ensures.none none).0))),
+      (r.0, r.1, served_then _ _ _ None r.2 (still _ _ r.0 c.round.new.buffers (c.serve.ensures.none none).0))),
   (c.serve.ensures.none none).1,
 )
 
 pub returns-then-not-serve-clause-turns : goal.returns-then-not-serve-clause-turns
 returns-then-not-serve-clause-turns g c none = (
   λ es t. (let r = c.in-Ok.ensures.served es t in
-      (r.0, c.wait.ensures.quiet r.0 r.1, served_then _ _ _ None r.2 (still _ _ r.0 c.round.new.room (c.serve.ensures.none none).0))),
+      (r.0, c.wait.ensures.quiet r.0 r.1, served_then _ _ _ None r.2 (still _ _ r.0 c.round.new.buffers (c.serve.ensures.none none).0))),
   c.wait.ensures.none (c.serve.ensures.none none).1,
 )
 
@@ -49,13 +49,13 @@ pub returns-else-not-serve-clause-asked : goal.returns-else-not-serve-clause-ask
 returns-else-not-serve-clause-asked g c es t =
     let r = c.in-Ok.ensures.served es t in
     let a = c.serve.ensures.asks in
-    (r.0, r.1, (standing c.round.new.node r.0 c.round.new.room, r.2, a.0, a.1, a.2))
+    (r.0, r.1, (standing c.round.new.node r.0 c.round.new.buffers, r.2, a.0, a.1, a.2))
 
 pub returns-then-not-serve-clause-asked : goal.returns-then-not-serve-clause-asked
 returns-then-not-serve-clause-asked g c es t =
     let r = c.in-Ok.ensures.served es t in
     let a = c.serve.ensures.asks in
-    (r.0, c.wait.ensures.quiet r.0 r.1, (standing c.round.new.node r.0 c.round.new.room, r.2, a.0, a.1, a.2))
+    (r.0, c.wait.ensures.quiet r.0 r.1, (standing c.round.new.node r.0 c.round.new.buffers, r.2, a.0, a.1, a.2))
 
 pub returns-else-not-serve-clause-shown : goal.returns-else-not-serve-clause-shown
 returns-else-not-serve-clause-shown g c = (

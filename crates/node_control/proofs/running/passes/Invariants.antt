@@ -10,9 +10,9 @@ use Rattle.node_control.proofs.running.passes.Given as goal
 abbrev pub invariant-loop-round : goal.invariant-loop-round
 invariant-loop-round g l = record {
   hosted : Moves (g.W.Wire.traffic l.fn.wire) (g.W.Wire.traffic l.wire)
-      (λ es es'. Hosted (standing l.fn.service.handler.node es l.fn.room) (standing l.service.handler.node es' l.room) None);
+      (λ es es'. Hosted (standing l.fn.service.handler.node es l.fn.buffers) (standing l.service.handler.node es' l.buffers) None);
   turns : l.fn.control ≡ None → Moves (g.W.Wire.traffic l.fn.wire) (g.W.Wire.traffic l.wire)
-      (λ es es'. Served (standing l.fn.service.handler.node es l.fn.room) (standing l.service.handler.node es' l.room) None)
+      (λ es es'. Served (standing l.fn.service.handler.node es l.fn.buffers) (standing l.service.handler.node es' l.buffers) None)
       × (l.control ≡ None);
   left : l.turns ≤ l.left + 65 * l._round;
   looks : LooksTimes l._round (g.T.Timer.timer_events l.fn.timer) (g.T.Timer.timer_events l.timer);

@@ -12,10 +12,10 @@ use Rattle.node_loop.proofs.running.round.Goals as goal
 pub returns-in-Err-clause-served : goal.returns-in-Err-clause-served
 returns-in-Err-clause-served g c =
     over_then (g.W.Wire.traffic c.args.wire.now) (g.W.Wire.traffic c.args.wire.now) (g.W.Wire.traffic c.drain.new.wire)
-    (λ es. standing c.args.node.now es c.args.room.now) (λ es. standing c.args.node.now es c.begin.new.room)
-    (λ es. standing c.drain.new.node es c.drain.new.room) _
+    (λ es. standing c.args.node.now es c.args.buffers.now) (λ es. standing c.args.node.now es c.begin.new.buffers)
+    (λ es. standing c.drain.new.node es c.drain.new.buffers) _
     (over_same (g.W.Wire.traffic c.args.wire.now) (g.W.Wire.traffic c.args.wire.now)
-    (λ es. standing c.args.node.now es c.args.room.now) (λ es. standing c.args.node.now es c.begin.new.room) (λ es t. t) (λ es. record {
+    (λ es. standing c.args.node.now es c.args.buffers.now) (λ es. standing c.args.node.now es c.begin.new.buffers) (λ es t. t) (λ es. record {
       replica = refl;
       traffic = refl;
       kept = c.begin.ensures.kept;
@@ -26,10 +26,10 @@ returns-in-Err-clause-served g c =
 pub returns-clause-served : goal.returns-clause-served
 returns-clause-served g c =
     over_then (g.W.Wire.traffic c.args.wire.now) (g.W.Wire.traffic c.args.wire.now) (g.W.Wire.traffic c.tick_if.new.wire)
-    (λ es. standing c.args.node.now es c.args.room.now) (λ es. standing c.args.node.now es c.begin.new.room)
-    (λ es. standing c.tick_if.new.node es c.tick_if.new.room) _
+    (λ es. standing c.args.node.now es c.args.buffers.now) (λ es. standing c.args.node.now es c.begin.new.buffers)
+    (λ es. standing c.tick_if.new.node es c.tick_if.new.buffers) _
     (over_same (g.W.Wire.traffic c.args.wire.now) (g.W.Wire.traffic c.args.wire.now)
-    (λ es. standing c.args.node.now es c.args.room.now) (λ es. standing c.args.node.now es c.begin.new.room) (λ es t. t) (λ es. record {
+    (λ es. standing c.args.node.now es c.args.buffers.now) (λ es. standing c.args.node.now es c.begin.new.buffers) (λ es t. t) (λ es. record {
       replica = refl;
       traffic = refl;
       kept = c.begin.ensures.kept;
@@ -37,19 +37,19 @@ returns-clause-served g c =
       hears = c.begin.ensures.hears;
     }))
     (over_then (g.W.Wire.traffic c.args.wire.now) (g.W.Wire.traffic c.drain.new.wire) (g.W.Wire.traffic c.tick_if.new.wire)
-    (λ es. standing c.args.node.now es c.begin.new.room) (λ es. standing c.drain.new.node es c.drain.new.room)
-    (λ es. standing c.tick_if.new.node es c.tick_if.new.room) _ c.in-Ok.ensures.served
+    (λ es. standing c.args.node.now es c.begin.new.buffers) (λ es. standing c.drain.new.node es c.drain.new.buffers)
+    (λ es. standing c.tick_if.new.node es c.tick_if.new.buffers) _ c.in-Ok.ensures.served
     (over_then (g.W.Wire.traffic c.drain.new.wire) (g.W.Wire.traffic c.resend-has_own.new.wire) (g.W.Wire.traffic c.tick_if.new.wire)
-    (λ es. standing c.drain.new.node es c.drain.new.room)
-    (λ es. record (standing c.drain.new.node es c.drain.new.room) { kept = kept_of c.resend-has_own.new.resender; requests = requests_of c.resend-has_own.new.resender })
-    (λ es. standing c.tick_if.new.node es c.tick_if.new.room) _
+    (λ es. standing c.drain.new.node es c.drain.new.buffers)
+    (λ es. record (standing c.drain.new.node es c.drain.new.buffers) { kept = kept_of c.resend-has_own.new.resender; requests = requests_of c.resend-has_own.new.resender })
+    (λ es. standing c.tick_if.new.node es c.tick_if.new.buffers) _
     (over_between (g.W.Wire.traffic c.drain.new.wire) (g.W.Wire.traffic c.resend-has_own.new.wire)
-    (λ es. standing c.drain.new.node es c.drain.new.room)
-    (λ es. record (standing c.drain.new.node es c.drain.new.room) { kept = kept_of c.resend-has_own.new.resender; requests = requests_of c.resend-has_own.new.resender })
+    (λ es. standing c.drain.new.node es c.drain.new.buffers)
+    (λ es. record (standing c.drain.new.node es c.drain.new.buffers) { kept = kept_of c.resend-has_own.new.resender; requests = requests_of c.resend-has_own.new.resender })
     (over_resent (g.W.Wire.traffic c.drain.new.wire) (g.W.Wire.traffic c.resend-has_own.new.wire)
-    (λ es. standing c.drain.new.node es c.drain.new.room)
-    (λ es. record (standing c.drain.new.node es c.drain.new.room) { kept = kept_of c.resend-has_own.new.resender; requests = requests_of c.resend-has_own.new.resender })
-    (kept_of c.drain.new.room.resender) c.resend-has_own.ensures.again (λ es again among. record {
+    (λ es. standing c.drain.new.node es c.drain.new.buffers)
+    (λ es. record (standing c.drain.new.node es c.drain.new.buffers) { kept = kept_of c.resend-has_own.new.resender; requests = requests_of c.resend-has_own.new.resender })
+    (kept_of c.drain.new.buffers.resender) c.resend-has_own.ensures.again (λ es again among. record {
       replica = refl;
       again = again;
       among = among;
@@ -103,12 +103,12 @@ returns-clause-saw g c =
 pub returns-clause-looks : goal.returns-clause-looks
 returns-clause-looks g c =
     on_ok c.tick_if.result (λ _. looks_once (g.T.Timer.timer_events c.args.timer.now) (g.T.Timer.timer_events c.action-action.new.timer)
-    (g.T.Timer.timer_events c.repeats-is_due.new.self) c.args.now c.view_of-view.result c.drain.new.room.peer_progress c.action-action.ensures.timer_events c.repeats-is_due.ensures.timer_events) c.tick_if.ensures.ticked
+    (g.T.Timer.timer_events c.repeats-is_due.new.self) c.args.now c.view_of-view.result c.drain.new.buffers.peer_progress c.action-action.ensures.timer_events c.repeats-is_due.ensures.timer_events) c.tick_if.ensures.ticked
 
 pub returns-clause-at : goal.returns-clause-at
 returns-clause-at g c =
     on_ok c.tick_if.result (λ _. looks_at_once (g.T.Timer.timer_events c.args.timer.now) (g.T.Timer.timer_events c.action-action.new.timer)
-    (g.T.Timer.timer_events c.repeats-is_due.new.self) c.args.now c.view_of-view.result c.drain.new.room.peer_progress c.action-action.ensures.timer_events c.repeats-is_due.ensures.timer_events) c.tick_if.ensures.ticked
+    (g.T.Timer.timer_events c.repeats-is_due.new.self) c.args.now c.view_of-view.result c.drain.new.buffers.peer_progress c.action-action.ensures.timer_events c.repeats-is_due.ensures.timer_events) c.tick_if.ensures.ticked
 
 pub returns-clause-counts : goal.returns-clause-counts
 returns-clause-counts g c =

@@ -8,7 +8,7 @@ use Rattle.node_loop.proofs.running.tick_if.Goals as goal
 pub returns-in-Ok-clause-served : goal.returns-in-Ok-clause-served
 returns-in-Ok-clause-served g c =
     over_turn (g.W.Wire.traffic c.args.wire.now) (g.W.Wire.traffic c.tick_now.new.wire)
-    (λ es. standing c.args.node.now es c.args.room.now) (λ es. standing c.tick_now.new.node es c.tick_now.new.room) _
+    (λ es. standing c.args.node.now es c.args.buffers.now) (λ es. standing c.tick_now.new.node es c.tick_now.new.buffers) _
     (λ es t. let r = c.in-Ok.ensures.ticked es t in (r.0, r.1, turned_by_clock _ _ _ r.2))
 
 pub returns-in-Ok-clause-ticked : goal.returns-in-Ok-clause-ticked
@@ -17,7 +17,7 @@ returns-in-Ok-clause-ticked g c es t = let r = c.in-Ok.ensures.ticked es t in (r
 pub returns-in-Err-clause-served : goal.returns-in-Err-clause-served
 returns-in-Err-clause-served g c =
     over_turn (g.W.Wire.traffic c.args.wire.now) (g.W.Wire.traffic c.tick_now.new.wire)
-    (λ es. standing c.args.node.now es c.args.room.now) (λ es. standing c.tick_now.new.node es c.tick_now.new.room) _
+    (λ es. standing c.args.node.now es c.args.buffers.now) (λ es. standing c.tick_now.new.node es c.tick_now.new.buffers) _
     (λ es t. let r = c.in-Err.ensures.ticked es t in (r.0, r.1, turned_by_clock _ _ _ r.2))
 
 pub returns-then-not-has_own-clause-served : goal.returns-then-not-has_own-clause-served

@@ -10,12 +10,12 @@ use Rattle.node_loop.proofs.serving.drain.Given as goal
 abbrev pub invariant-loop-handled : goal.invariant-loop-handled
 invariant-loop-handled g l = record {
   served : Moves (g.W.Wire.traffic l.fn.wire) (g.W.Wire.traffic l.wire)
-      (λ es es'. Served (standing l.fn.node es l.fn.room) (standing l.node es' l.room) None);
+      (λ es es'. Served (standing l.fn.node es l.fn.buffers) (standing l.node es' l.buffers) None);
   saw : Moves (g.W.Wire.traffic l.fn.wire) (g.W.Wire.traffic l.wire) (λ es es'. SawAll l.handled
-      (standing l.fn.node es l.fn.room) (standing l.node es' l.room) (seen_in l.fn.room) (seen_in l.room));
+      (standing l.fn.node es l.fn.buffers) (standing l.node es' l.buffers) (seen_in l.fn.buffers) (seen_in l.buffers));
   counts : Moves (g.W.Wire.traffic l.fn.wire) (g.W.Wire.traffic l.wire)
-      (λ es es'. CountsAll l.handled (standing l.fn.node es l.fn.room) (standing l.node es' l.room)
-      (counts_in l.fn.room) (counts_in l.room));
+      (λ es es'. CountsAll l.handled (standing l.fn.node es l.fn.buffers) (standing l.node es' l.buffers)
+      (counts_in l.fn.buffers) (counts_in l.buffers));
   grows : applied_of l.fn.node ≤ applied_of l.node;
   same : g.W.Wire.identity l.wire ≡ g.W.Wire.identity l.fn.wire;
 }

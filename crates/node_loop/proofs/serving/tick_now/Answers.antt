@@ -15,9 +15,9 @@ returns-clause-counts g c =
     let old = g.W.Wire.traffic c.args.wire.now in
     let new = g.W.Wire.traffic c.send_all.new.wire in
     moves_by old new (hands (handed_over c.act-result.new.out.items))
-    (λ es es'. CountsTicked (standing c.args.node.now es c.args.room.now)
-    (record (standing c.act-result.new.node es' c.args.room.now) { kept = kept_of c.send_all.new.resender; requests = requests_of c.send_all.new.resender })
-    (fault_of c.act-result.result) c.args.room.now.counts c.send_all.new.counts)
+    (λ es es'. CountsTicked (standing c.args.node.now es c.args.buffers.now)
+    (record (standing c.act-result.new.node es' c.args.buffers.now) { kept = kept_of c.send_all.new.resender; requests = requests_of c.send_all.new.resender })
+    (fault_of c.act-result.result) c.args.buffers.now.counts c.send_all.new.counts)
     (handed_on old new c.act-result.new.out.items c.as_slice.result.now c.as_slice.ensures.value c.send_all.ensures.handed)
     (λ es. record {
       ticked = record {
@@ -28,7 +28,7 @@ returns-clause-counts g c =
         requests = c.send_all.ensures.requests;
         hears = refl;
       };
-      counts = out_on c.act-result.new.out.items c.as_slice.result.now c.args.room.now.counts c.send_all.new.counts c.as_slice.ensures.value c.send_all.ensures.counts;
+      counts = out_on c.act-result.new.out.items c.as_slice.result.now c.args.buffers.now.counts c.send_all.new.counts c.as_slice.ensures.value c.send_all.ensures.counts;
     })
 
 pub returns-clause-ticked : goal.returns-clause-ticked

@@ -17,8 +17,8 @@ returns-clause-turned g c =
     let gave = gives (option_map (λ b. b.now) c.came.result) in
     let went = hands (handed_over c.act-result.new.out.items) in
     moves_by old new (gave ++ went)
-    (λ es es'. Turned (standing c.args.node.now es c.args.room.now)
-    (record (standing c.act-result.new.node es' c.args.room.now) { kept = kept_of c.send_all.new.resender; requests = requests_of c.send_all.new.resender })
+    (λ es es'. Turned (standing c.args.node.now es c.args.buffers.now)
+    (record (standing c.act-result.new.node es' c.args.buffers.now) { kept = kept_of c.send_all.new.resender; requests = requests_of c.send_all.new.resender })
     (fault_of c.act-result.result))
     (adds_then old mid new gave went
     (gave_on old mid c.hear-len.new.bytes.items c.deref.result.now c.hear-len.result (option_map (λ b. b.now) c.came.result)

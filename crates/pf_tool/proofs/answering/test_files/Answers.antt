@@ -3,13 +3,13 @@ use Rattle.std.specs.Option.{option_copied}
 use Rattle.pf_tool.proofs.Files.{both_lines, no_lines, under_input}
 use Rattle.pf_tool.proofs.answering.test_files.Goals as goal
 
--- neither a file nor words have packets
+-- neither a file nor arguments have packets
 pub returns-in-empty : goal.returns-in-empty
 returns-in-empty g c =
     let bytes = c.in_ok-input.input.items in
     under_input (option_copied c.args.more) c.args.quiet (map (λ p. p.now) c.args.packets.now) bytes (Some bytes) _ _ c.in_ok-input.ensures (λ input same. both_lines c.args.more c.args.packets.now bytes input c.in-None.is (omega (arith, c.in-empty.len_below)) same) c.in_ok-test_sources-in-empty.ensures
 
--- words have some
+-- arguments have some
 pub returns : goal.returns
 returns g c =
     let bytes = c.in_ok-input.input.items in
