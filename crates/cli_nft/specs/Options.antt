@@ -5,6 +5,8 @@ use Rattle.std.specs.Prelude.{unwrap_or, if◌then◌else◌, pos}
 use Rattle.std.specs.Str.Parse.{IsNumeral, digits_value, without_leading_plus}
 use Rattle.clap.specs.Words.{App, Row, Rule, Text, new_app, new_rule, with_rule, with_subcommand, subcommand_of}
 use Rattle.clap.specs.Words.{all_of, one_of}
+use Rattle.clap.specs.Faults.{fault_of}
+use Rattle.clap.specs.Kinds.{Kinds}
 use Rattle.clap.specs.declared.builder.action.ArgAction.TheVariants.{Append}
 use Rattle.clap.specs.declared.builder.value_parser.ValueParser.TheVariants.{Signed}
 use Rattle.clap.specs.Lexer.{usize_max}
@@ -62,22 +64,26 @@ nft_app =
     let app = with_subcommand (new_app (codes "pfx")) check_app.top in
     record app { top = record app.top { subcommand_required = true } }
 
--- the members that the arguments of a subcommand name; without --members there are none
-abbrev pub named_in : Option (Text × List Row) → Option (List Member)
-named_in None = None
-named_in (Some (argument, rows)) =
-    if bytes_eq argument (codes "check") then members_in (unwrap_or (all_of (codes "members") rows) []) else None
+-- what is given with the subcommand `check`
+abbrev pub given_in : Option (Text × List Row) → Option (List Row)
+given_in None = None
+given_in (Some (name, rows)) = if bytes_eq name (codes "check") then Some rows else None
 
--- the members that the arguments name, the program's name first; none where they are no members of a cluster
-unfoldable pub members_named : List Text → Option (List Member)
-members_named arguments = named_in (subcommand_of nft_app arguments)
+-- the same, none where the arguments have a fault
+abbrev pub unless_faulty : Kinds → Option (List Row) → Option (List Row)
+unless_faulty [] rows = rows
+unless_faulty (k ∷ ks) rows = None
+
+-- what is given with `check --nft`, the program's name first; none where the arguments aren't understood
+-- Example: of `pfx check --nft` none, since `--interfaces` is missing.
+unfoldable pub given_of : (arguments : List Text) → Option (List Row)
+given_of arguments = unless_faulty (fault_of nft_app arguments) (given_in (subcommand_of nft_app arguments))
+
+-- the members that are given; without --members there are none; none where they are no members of a cluster
+abbrev pub members_named : List Row → Option (List Member)
+members_named rows = members_in (unwrap_or (all_of (codes "members") rows) [])
 
 -- ---- the position
-
--- what the arguments of a subcommand give as position
-abbrev pub position_text : Option (Text × List Row) → Option Text
-position_text None = None
-position_text (Some (argument, rows)) = one_of (codes "position") rows
 
 -- a number of 32 bits that a string spells, where a plus may be first
 abbrev pub IsSpelled : Text → ℕ → Type 0
@@ -90,6 +96,6 @@ abbrev pub IsPosition : Option Text → ℕ → Type 0
 IsPosition None n = n ≡ 0
 IsPosition (Some text) n = IsSpelled text n
 
--- the position that the arguments name, the program's name first
-abbrev pub IsPositionOf : List Text → ℕ → Type 0
-IsPositionOf arguments n = IsPosition (position_text (subcommand_of nft_app arguments)) n
+-- the position that is given
+abbrev pub IsPositionOf : List Row → ℕ → Type 0
+IsPositionOf rows n = IsPosition (one_of (codes "position") rows) n

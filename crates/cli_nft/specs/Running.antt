@@ -1,8 +1,8 @@
 -- Which arguments ask for what nft(8) loads, and what a run has done.
-use Rattle.std.specs.Prelude.{◌≡◌, ◌⊎◌, ℕ, Bool, true, false, ◌&&◌, List, [], ◌∷◌, Option, IfSome, bytes_eq, codes}
+use Rattle.std.specs.Prelude.{◌≡◌, ◌⊎◌, ℕ, Bool, true, false, ◌&&◌, List, [], ◌∷◌, Option, None, Some, IfSome, bytes_eq, codes}
 use Rattle.std.specs.List.{list_any}
 use Rattle.std.specs.Io.KnownBytes.{Appends}
-use Rattle.clap.specs.Words.{Text}
+use Rattle.clap.specs.Words.{Row}
 use Rattle.cli_io.specs.Written.{line, AppendsFront, IsMisused}
 use Rattle.cli_nft.specs.Options.{members_named, IsPositionOf}
 use Rattle.cli_nft.specs.Outputs.{output}
@@ -30,13 +30,21 @@ Wrote file ms position status.Memory input old new = Appends old new (line (code
 Wrote file ms position status.Failed input old new = AppendsFront old new (line (codes "memory"))
     ⊎ IfSome input (λ bytes. AppendsFront old new (output file ms position bytes).text)
 
--- a run of arguments that are understood: of the members and the position that they name, for some file of interfaces
-pub record Answered (arguments : List Text) (ending : Status) (input old new : Option (List ℕ)) : Type 0 where
+-- a run that ended so was out of memory, and wrote that or a front of it
+abbrev pub RanOut : Status → (old new : Option (List ℕ)) → Type 0
+RanOut status.Memory old new = Appends old new (line (codes "memory"))
+RanOut status.Failed old new = AppendsFront old new (line (codes "memory"))
+RanOut ending old new = ⊥
+
+-- a run for the members and the position that are given, and for some file of interfaces
+pub record Answered (rows : List Row) (ending : Status) (input old new : Option (List ℕ)) : Type 0 where
   pub file : Option (List ℕ)
   pub position : ℕ
-  pub at : IsPositionOf arguments position
-  pub wrote : Wrote file (members_named arguments) position ending input old new
+  pub at : IsPositionOf rows position
+  pub wrote : Wrote file (members_named rows) position ending input old new
 
--- a run of these arguments, the program's name first, which are understood, or it was out of memory, or they aren't
-abbrev pub Ran : List Text → Status → (input old new : Option (List ℕ)) → Type 0
-Ran arguments ending input old new = Answered arguments ending input old new ⊎ IsMisused ending old new
+-- What a run did that ended so, by what is given with `check --nft`. It is misused only where that is none: arguments
+-- that aren't understood. Else it answered, or was out of memory.
+abbrev pub Ran : (given : Option (List Row)) → Status → (input old new : Option (List ℕ)) → Type 0
+Ran None ending input old new = IsMisused ending old new
+Ran (Some rows) ending input old new = RanOut ending old new ⊎ Answered rows ending input old new

@@ -3,7 +3,7 @@
 ghost use Rattle.std.specs.Prelude.{◌≡◌, IfOk, IfSome, map, option_map, bytes_eq, codes};
 ghost use Rattle.std.specs.List.{list_any};
 ghost use Rattle.clap.specs.Words.{found_of, rows_of, one_of, subcommand_rows_of};
-ghost use Rattle.cli_nft.specs.Options.{named_in, position_text, IsPosition};
+ghost use Rattle.cli_nft.specs.Options.{IsPosition, given_in, given_of, members_named};
 ghost use Rattle.cli_nft.specs.Running.{asks_nft, Wrote, Ran};
 
 use crate::members::members_in;
@@ -47,32 +47,33 @@ fn position_in(inner: &ArgMatches<'_>) -> u32
     inner.get_one::<u32>("position").unwrap_or(0)
 }
 
-/// The file of interfaces and the position that the arguments name. `clap` has refused arguments that lack the file.
-fn options_of<'a>(matches: &ArgMatches<'a>) -> Option<(&'a str, u32)>
-    ensures { IfSome result (λ said. IsPosition (position_text (subcommand_rows_of matches.now)) said.1) }
+/// What is given with the subcommand `check`.
+fn given_in<'m, 'a>(matches: &'m ArgMatches<'a>) -> Option<&'m ArgMatches<'a>>
+    ensures { option_map (λ m. rows_of (found_of m.now)) result ≡ given_in (subcommand_rows_of matches.now) }
 {
     match matches.subcommand() {
-        Some((_word, inner)) => match inner.get_str("interfaces") {
-            Some(interfaces) => Some((interfaces, position_in(inner))),
-            None => None,
-        },
+        Some((name, inner)) => if name == "check" { Some(inner) } else { None },
         None => None,
     }
 }
 
-/// The members that the arguments name, none where they are no members of a cluster.
-fn members_of(alloc: Global, matches: &ArgMatches<'_>) -> Result<Option<Vec<Member>>, AllocError>
-    ensures { IfOk result (λ o. option_map (λ v. v.items) o ≡ named_in (subcommand_rows_of matches.now)) }
-{
-    match matches.subcommand() {
-        Some((argument, inner)) => {
-            if argument == "check" {
-                return members_in(alloc, values_in(inner, "members"));
-            }
-            Ok(None)
-        }
+/// The text of the file of interfaces, none where it can't be read.
+fn interfaces_in(
+    rt: &HostRuntime,
+    alloc: Global,
+    inner: &ArgMatches<'_>,
+) -> Result<Option<Vec<u8>>, AllocError> {
+    match inner.get_str("interfaces") {
+        Some(path) => read_file(rt, alloc, path),
         None => Ok(None),
     }
+}
+
+/// The members that are given, none where they are no members of a cluster.
+fn members_of(alloc: Global, inner: &ArgMatches<'_>) -> Result<Option<Vec<Member>>, AllocError>
+    ensures { IfOk result (λ o. option_map (λ v. v.items) o ≡ members_named (rows_of (found_of inner.now))) }
+{
+    members_in(alloc, values_in(inner, "members"))
 }
 
 /// The members, as they are lent.
@@ -140,7 +141,7 @@ pub fn run_nft<S: AsStr, R: Read, W: Write>(
     reader: &mut R,
     writer: &mut W,
 ) -> Status
-    ensures { Ran (map S.text arguments.now) result (R.remaining reader.old) (W.contents writer.old)
+    ensures { Ran (given_of (map S.text arguments.now)) result (R.remaining reader.old) (W.contents writer.old)
         (W.contents writer.new) }
 {
     let Ok(command) = command(alloc) else {
@@ -150,14 +151,14 @@ pub fn run_nft<S: AsStr, R: Read, W: Write>(
         Ok(matches) => matches,
         Err(error) => return misused(alloc, &error, writer),
     };
-    let Some((interfaces, position)) = options_of(&matches) else {
+    let Some(inner) = given_in(&matches) else {
         return Status::Usage;
     };
-    let Ok(members) = members_of(alloc, &matches) else {
+    let Ok(members) = members_of(alloc, inner) else {
         return out_of_memory(writer);
     };
-    let named = lent(&members);
-    match read_file(rt, alloc, interfaces) {
+    let (named, position) = (lent(&members), position_in(inner));
+    match interfaces_in(rt, alloc, inner) {
         Ok(Some(text)) => answer(alloc, Some(&text), named, position, reader, writer),
         Ok(None) => answer(alloc, None, named, position, reader, writer),
         Err(_) => out_of_memory(writer),
