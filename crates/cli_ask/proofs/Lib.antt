@@ -1,10 +1,8 @@
 pub mod Lines
-pub mod Numbers
 pub mod Names
 pub mod Series
 pub mod Parts
 pub mod Scripts
 pub mod Fronts
-pub mod Reading
+pub mod Exchanges
 pub mod Misuse
-pub mod Rules

@@ -1,10 +1,10 @@
 -- The changes of a script, one after the other.
 use Rattle.std.proofs.Common.{◌≡◌, ◌∙◌, ℕ, ◌<◌, ◌≤◌, Bool, true, false, List, [], ◌∷◌, ◌++◌, Option, Some, None, Result, Ok, Err, nat_lt, refl, sym, ap, subst, append_assoc, append-nil, inl, inr, arith}
-use Rattle.std.specs.Prelude.{◌⊎◌, codes}
+use Rattle.std.specs.Prelude.{codes}
 use Rattle.std.specs.Io.KnownBytes.{Appends}
 use Rattle.std.proofs.KnownBytes.{Appends-trans}
 use Rattle.std.proofs.lemmas.Bool.{lt-ltb, ltb-true, false_from_ne_true}
-use Rattle.cli_io.specs.Written.{line, AppendsFront}
+use Rattle.cli_io.specs.Written.{AppendsFront, RanOut}
 use Rattle.cli_io.specs.declared.status.Status.{Status}
 use Rattle.cli_io.specs.declared.status.Status.TheVariants as status
 use Rattle.cli_ask.specs.Asking.{Event, Adds}
@@ -13,7 +13,7 @@ use Rattle.cli_ask.specs.Calls.{Request}
 use Rattle.cli_ask.specs.declared.exchange.AskFault.{AskFault}
 use Rattle.cli_ask.specs.declared.exchange.AskFault.TheVariants as fault
 use Rattle.cli_ask.specs.Scripting.{Printed, GoesAs, unsent, Makes, call_for, Shows}
-use Rattle.cli_ask.specs.Scripting.{RanOut, Ended, end_text, AsksFirst, AsksFrom, AsksAll, AskedOne, AskedAll}
+use Rattle.cli_ask.specs.Scripting.{Ended, end_text, AsksFirst, AsksFrom, AsksAll, AskedOne, AskedAll}
 use Rattle.cli_ask.proofs.Series.{adds_more, adds_nothing}
 
 -- ---- what is written
@@ -25,18 +25,6 @@ front_more old new text more (front, rest, e, h) =
 pub front_behind : (old mid new : Option (List ℕ)) (text more : List ℕ) → Appends old mid text → AppendsFront mid new more → AppendsFront old new (text ++ more)
 front_behind old mid new text more h (front, rest, e, k) =
     (text ++ front, rest, ap (λ (l : List ℕ). text ++ l) e ∙ sym (append_assoc text front rest), Appends-trans _ _ _ _ _ h k)
-
-pub ran_out : (ending : Status) (old new : Option (List ℕ)) → (ending ≡ status.Failed) ⊎ ((ending ≡ status.Memory) × Appends old new (line (codes "memory"))) →
-    (ending ≡ status.Failed → AppendsFront old new (line (codes "memory"))) → RanOut ending old new
-ran_out status.Done old new (inl e) f = cc
-ran_out status.Done old new (inr e) f = let no = e.0 in cc
-ran_out status.Refused old new (inl e) f = cc
-ran_out status.Refused old new (inr e) f = let no = e.0 in cc
-ran_out status.Usage old new (inl e) f = cc
-ran_out status.Usage old new (inr e) f = let no = e.0 in cc
-ran_out status.Memory old new (inl e) f = cc
-ran_out status.Memory old new (inr e) f = e.1
-ran_out status.Failed old new e f = f refl
 
 ended_out : (text : List ℕ) (ending : Status) (old new : Option (List ℕ)) → RanOut ending old new → Ended text ending old new
 ended_out text status.Done old new h = h

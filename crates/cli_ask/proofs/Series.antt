@@ -1,12 +1,12 @@
 -- Requests one after the other.
-use Rattle.std.proofs.Common.{◌≡◌, ◌∙◌, ℕ, ◌+◌, ◌≤◌, Bool, true, false, List, [], ◌∷◌, ◌++◌, length, not, Option, Some, None, Result, Ok, Err, refl, sym, ap, subst, append_assoc, append-nil, inl, inr, arith}
-use Rattle.std.specs.Prelude.{◌⊎◌, is_ok}
+use Rattle.std.proofs.Common.{◌≡◌, ◌∙◌, ℕ, ◌+◌, Bool, true, false, List, [], ◌∷◌, ◌++◌, length, not, Option, Some, None, Result, Ok, Err, refl, sym, ap, subst, append_assoc, append-nil, inl, inr}
+use Rattle.std.specs.Prelude.{is_ok}
 use Rattle.std.specs.List.{list_all, flat_map}
 use Rattle.std.proofs.lemmas.Bool.{and_from, and_parts, or_parts}
 use Rattle.std.proofs.lemmas.List.{length_push}
 use Rattle.cli_ask.specs.Calls.{Request}
 use Rattle.cli_ask.specs.Replies.{Answer}
-use Rattle.cli_ask.specs.Asking.{Answered, Event, Asked, Looked, asked_count, Adds, asked_again, answer_value, is_open, is_last, ends_answered, in_time, OrMemory, SeriesEnds, IsSeries, IsAsked, IsFollowedBy}
+use Rattle.cli_ask.specs.Asking.{Answered, Event, Asked, Looked, Adds, asked_again, answer_value, is_open, is_last, ends_answered, in_time, OrMemory, SeriesEnds, IsSeries, IsAsked, IsFollowedBy}
 use Rattle.cli_ask.specs.Asking.{IsAskedAs, AskedOn, FollowedUp, AskedVerdicts, outcome_call, outcome_of}
 use Rattle.cli_ask.specs.declared.call.Kind.{Kind}
 use Rattle.cli_ask.specs.declared.call.Kind.TheVariants as kind
@@ -47,37 +47,6 @@ ok_value (Err f) = refl
 true_not : (b : Bool) → not b ≡ false → b ≡ true
 true_not true e = refl
 true_not false e = cc
-
--- ---- connections
-
-count_more : (es : List Event) (limit : ℕ) (r : Request) (a : Answered) → asked_count (es ++ Asked limit r a ∷ []) ≡ asked_count es + 1
-count_more [] limit r a = refl
-count_more (Asked l q b ∷ es) limit r a = ap (λ (n : ℕ). n + 1) (count_more es limit r a)
-count_more (Looked l b ∷ es) limit r a = count_more es limit r a
-
-count_same : (es : List Event) (limit : ℕ) (over : Bool) → asked_count (es ++ Looked limit over ∷ []) ≡ asked_count es
-count_same [] limit over = refl
-count_same (Asked l q b ∷ es) limit over = ap (λ (n : ℕ). n + 1) (count_same es limit over)
-count_same (Looked l b ∷ es) limit over = count_same es limit over
-
--- at most that number of connections was asked for
-abbrev pub Dialed : (ℕ → Type 0) → List Event → Type 0
-Dialed dialed es = (n : ℕ) × (dialed n × (n ≤ asked_count es))
-
-pub dialed_once : (old new : ℕ → Type 0) (limit : ℕ) (r : Request) (a : Answered) → ((n : ℕ) → old n → new n ⊎ new (n + 1)) → Adds (Dialed old) (Dialed new) (Asked limit r a ∷ [])
-dialed_once old new limit r a h = λ es so.
-    let e : asked_count (es ++ Asked limit r a ∷ []) ≡ asked_count es + 1 = count_more es limit r a in
-    let l : so.0 ≤ asked_count es = so.1.1 in
-    elim (h so.0 so.1.0) [
-      | inl k ↦ (so.0, (k, omega (arith, e, l)))
-      | inr k ↦ (so.0 + 1, (k, omega (arith, e, l)))
-    ]
-
-pub dialed_never : (old : ℕ → Type 0) (limit : ℕ) (over : Bool) → Adds (Dialed old) (Dialed old) (Looked limit over ∷ [])
-dialed_never old limit over = λ es so.
-    let e : asked_count (es ++ Looked limit over ∷ []) ≡ asked_count es = count_same es limit over in
-    let l : so.0 ≤ asked_count es = so.1.1 in
-    (so.0, (so.1.0, omega (arith, e, l)))
 
 -- ---- one request
 

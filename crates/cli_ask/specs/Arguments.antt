@@ -1,9 +1,8 @@
 -- The arguments of `ask` with `--control`, as `clap` has them.
-use Rattle.std.specs.Prelude.{ℕ, true, List, [], ◌∷◌, Option, Some, None, bytes_eq, codes, if◌then◌else◌}
-use Rattle.clap.specs.Words.{App, Row, Rule, Text, new_app, with_rule, with_subcommand, subcommand_of}
-use Rattle.clap.specs.Faults.{fault_of}
-use Rattle.clap.specs.Kinds.{Kinds}
+use Rattle.std.specs.Prelude.{List, Option, codes}
+use Rattle.clap.specs.Words.{App, Row, Text, new_app, with_rule}
 use Rattle.pf_arguments.specs.Options.{with_pfctl}
+use Rattle.cli_io.specs.Given.{program_of, given_with}
 use Rattle.cli_io.specs.Options.{flag_rule, needed_rule, number_rule, value_rule}
 use Rattle.cli_ask.specs.declared.options.TheConstants.{WAIT_MAX, POSITIONS, LINES}
 
@@ -27,21 +26,9 @@ ask_app = with_pfctl (with_script (with_socket (new_app (codes "ask"))))
 
 -- the program with this subcommand, which has to be given
 abbrev pub pfx_app : App
-pfx_app =
-    let app = with_subcommand (new_app (codes "pfx")) ask_app.top in
-    record app { top = record app.top { subcommand_required = true } }
-
--- what is given with the subcommand `ask`
-abbrev pub given_in : Option (Text × List Row) → Option (List Row)
-given_in None = None
-given_in (Some (name, rows)) = if bytes_eq name (codes "ask") then Some rows else None
-
--- the same, none where the arguments have a fault
-abbrev pub unless_faulty : Kinds → Option (List Row) → Option (List Row)
-unless_faulty [] rows = rows
-unless_faulty (k ∷ ks) rows = None
+pfx_app = program_of ask_app
 
 -- what is given with `ask`, the program's name first; none where the arguments aren't understood
 -- Example: of `pfx ask --control` none, since the option has no value.
-unfoldable pub given_of : (arguments : List Text) → Option (List Row)
-given_of arguments = unless_faulty (fault_of pfx_app arguments) (given_in (subcommand_of pfx_app arguments))
+abbrev pub given_of : (arguments : List Text) → Option (List Row)
+given_of arguments = given_with pfx_app (codes "ask") arguments

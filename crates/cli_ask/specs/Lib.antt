@@ -5,6 +5,7 @@ pub mod Replies
 pub mod Showing
 pub mod Reporting
 pub mod Asking
+pub mod Exchanges
 pub mod Reading
 pub mod Checking
 pub mod Scripts

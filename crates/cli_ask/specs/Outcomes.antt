@@ -1,20 +1,21 @@
 -- What a run of `ask` asks and writes, and how it ends.
 use Rattle.std.specs.Prelude.{◌≡◌, ◌⊎◌, ℕ, Bool, true, false, ◌||◌, List, [], ◌∷◌, Option, Some, None, Ok, Err}
 use Rattle.std.specs.Prelude.{codes, bytes_eq}
-use Rattle.std.specs.Prelude.{nat_lt, is_some, option_and_then, unwrap_or, if◌then◌else◌}
+use Rattle.std.specs.Prelude.{nat_lt, is_some, unwrap_or, if◌then◌else◌}
 use Rattle.std.specs.Io.KnownBytes.{Appends}
 use Rattle.cli_io.specs.declared.status.Status.{Status}
 use Rattle.cli_io.specs.declared.status.Status.TheVariants as status
 use Rattle.cli_io.specs.Sources.{IsNamed}
 use Rattle.cli_io.specs.Written.{line, AppendsFront}
 use Rattle.pf_scripts.specs.Lines.{refused_line}
-use Rattle.pf_arguments.specs.Asked.{is_given}
-use Rattle.clap.specs.Words.{Row, Text, all_of, first_of, one_of}
+use Rattle.cli_io.specs.Given.{is_given}
+use Rattle.cli_io.specs.Numbers.{number_at}
+use Rattle.clap.specs.Words.{Row, Text, all_of, first_of}
 use Rattle.cli_ask.specs.Answers.{is_done}
 use Rattle.cli_ask.specs.Asking.{Answered as Answer, Event, Adds, AskedAt}
 use Rattle.cli_ask.specs.Calls.{Request, call_of, has_option}
 use Rattle.cli_ask.specs.Checking.{by_code, refusal_of}
-use Rattle.cli_ask.specs.Replies.{number_of, reply_value}
+use Rattle.cli_ask.specs.Replies.{reply_value}
 use Rattle.cli_ask.specs.Scripts.{items_in, script_refusal}
 use Rattle.cli_ask.specs.Scripting.{AskedAll}
 use Rattle.cli_ask.specs.declared.checking.Refused as checking
@@ -58,10 +59,6 @@ Wrote status.Failed outcome old new =
 Wrote ending outcome old new = (ending ≡ status_of outcome) × Appends old new (text_of outcome)
 
 -- ---- what is asked
-
--- the number that an option has, none where it isn't given
-abbrev pub number_at : List Row → (id : Text) → Option ℕ
-number_at rows id = option_and_then number_of (one_of id rows)
 
 -- what can't be read gives: of a file 90
 abbrev pub IsUnread : Text → Outcome → Type 0

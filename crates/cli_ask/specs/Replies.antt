@@ -1,13 +1,12 @@
 -- What is sent to a node, and what it answers, as HTTP has them.
-use Rattle.std.specs.Prelude.{◌≡◌, ℕ, ◌^◌, ◌≤◌, Bool, true, false, ◌&&◌, ◌==◌, List, [], ◌∷◌, ◌++◌, length, map, nat_lt}
+use Rattle.std.specs.Prelude.{◌≡◌, ◌⊎◌, ℕ, ◌≤◌, Bool, true, false, ◌==◌, List, [], ◌∷◌, ◌++◌, length, map}
 use Rattle.std.specs.Prelude.{Option, Some, None, IfSome}
 use Rattle.std.specs.Prelude.{codes, decimal, option_and_then, if◌then◌else◌}
-use Rattle.std.specs.Char.{digit_value}
-use Rattle.std.specs.List.{list_all}
+use Rattle.std.specs.Io.KnownBytes.{Appends}
 use Rattle.std.specs.Str.{is_utf8, str_eq_ignore_ascii_case}
-use Rattle.std.specs.Str.Parse.{digits_value, without_leading_plus}
 use Rattle.httparse.specs.Grammar.{ReadsResponse, ResponseHead, status_code}
 use Rattle.httparse.specs.Spans.{name_and_value}
+use Rattle.cli_io.specs.Numbers.{number_of}
 use Rattle.cli_io.specs.Written.{AppendsFront}
 use Rattle.cli_ask.specs.Calls.{Request}
 use Rattle.cli_ask.specs.declared.exchange.AskFault.{AskFault}
@@ -24,17 +23,6 @@ abbrev pub request_bytes : Request → List ℕ
 request_bytes r = request_head r.method r.target (length r.body) ++ r.body
 
 -- ---- fields
-
--- decimal digits
-abbrev pub is_numeral : List ℕ → Bool
-is_numeral ds = nat_lt 0 (length ds) && list_all (λ c. nat_lt (digit_value c) 10) ds
-
-abbrev pub number_if : List ℕ → Option ℕ
-number_if ds = if is_numeral ds && nat_lt (digits_value 10 ds) (2 ^ 32) then Some (digits_value 10 ds) else None
-
--- the number that digits write, perhaps behind a plus, none from 2^32 on
-abbrev pub number_of : (text : List ℕ) → Option ℕ
-number_of text = number_if (without_leading_plus text)
 
 -- bytes as text, none where they aren't UTF-8
 abbrev pub text_of : List ℕ → Option (List ℕ)
@@ -102,16 +90,22 @@ pub record IsAnswer (bytes : List ℕ) (a : Answer) : Type 0 where
   pub whole : has_length (length a.body) (fields_of head) ≡ true
   pub is : a ≡ answer_of (status_code head) (fields_of head) a.body
 
--- This is answered to a request: to a new connection its bytes were written, or a front of them, and all that was left
--- to read of it then is the answer.
+-- the bytes of a request were written by the time of its answer; of one that is refused perhaps a front of them
+-- Example: where nothing was written, status 200 is no answer.
+abbrev pub IsSent : (old new : Option (List ℕ)) → Request → (code : ℕ) → Type 0
+IsSent old new r code =
+    Appends old new (request_bytes r) ⊎ ((300 ≤ code) × AppendsFront old new (request_bytes r))
+
+-- This is answered to a request: that was sent over a new connection, and all that was left to read of it then is the
+-- answer.
 abbrev pub IsAnswerTo : {S : Type 0} → (is_new : S → Type 0) → (contents remaining : S → Option (List ℕ)) → Request →
     Answer → Type 0
 IsAnswerTo {S} is_new contents remaining r a =
-    (new : S) × (sent : S) × is_new new × AppendsFront (contents new) (contents sent) (request_bytes r)
+    (new : S) × (sent : S) × is_new new × IsSent (contents new) (contents sent) r a.code
     × IfSome (remaining sent) (λ bytes. IsAnswer bytes a)
 
--- Why a request has no answer: the connection for it wasn't made; or one was, over which none came; or it was out of
--- memory.
+-- Why a request has no answer: the connection for it wasn't made; or one was, and nothing came over it that answers the
+-- request; or it was out of memory.
 abbrev pub IsUnanswered : {S : Type 0} → (is_new : S → Type 0) → (is_refused : Type 0) → AskFault → Type 0
 IsUnanswered is_new is_refused fault.Memory = Unit {0}
 IsUnanswered is_new is_refused fault.NoAnswer = is_refused

@@ -2,10 +2,9 @@
 use Rattle.std.specs.Prelude.{◌⊎◌, ℕ, List, Option, Some, None, codes}
 use Rattle.clap.specs.Words.{Row, Text, first_of}
 use Rattle.cli_io.specs.declared.status.Status.{Status}
-use Rattle.cli_io.specs.Written.{IsMisused}
+use Rattle.cli_io.specs.Written.{IsMisused, RanOut}
 use Rattle.cli_ask.specs.Asking.{Event}
 use Rattle.cli_ask.specs.Outcomes.{Runs, Wrote, refusal}
-use Rattle.cli_ask.specs.Scripting.{RanOut}
 
 -- The peer at the control socket at a path was asked, before which it was in one state and after which in another, and
 -- the run ended so and wrote this.

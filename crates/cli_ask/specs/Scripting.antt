@@ -4,7 +4,7 @@ use Rattle.std.specs.Prelude.{codes, decimal, nat_lt, if◌then◌else◌}
 use Rattle.std.specs.Io.KnownBytes.{Appends}
 use Rattle.cli_io.specs.declared.status.Status.{Status}
 use Rattle.cli_io.specs.declared.status.Status.TheVariants as status
-use Rattle.cli_io.specs.Written.{line, AppendsFront}
+use Rattle.cli_io.specs.Written.{line, AppendsFront, RanOut}
 use Rattle.cli_ask.specs.Answers.{begins, outcome_behind}
 use Rattle.cli_ask.specs.Asking.{Answered, Event, Adds, IsAskedAt}
 use Rattle.cli_ask.specs.Calls.{Request, change_call}
@@ -61,14 +61,6 @@ abbrev pub Makes : (given now : List Event → Type 0) → Option Request → (s
 Makes given now call seconds went = (es : List Event) × (Adds given now es × IsMade call seconds es went)
 
 -- ---- what is written
-
--- out of memory, and that is written, or a front of it where a write failed
-abbrev pub RanOut : Status → (old new : Option (List ℕ)) → Type 0
-RanOut status.Done old new = ⊥
-RanOut status.Refused old new = ⊥
-RanOut status.Usage old new = ⊥
-RanOut status.Memory old new = Appends old new (line (codes "memory"))
-RanOut status.Failed old new = AppendsFront old new (line (codes "memory"))
 
 -- a script ends with this; out of memory that is written in its place; where a write failed a front of either
 abbrev pub Ended : (text : List ℕ) → Status → (old new : Option (List ℕ)) → Type 0

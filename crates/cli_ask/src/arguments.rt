@@ -2,8 +2,7 @@
 
 ghost use Rattle.std.specs.Prelude.{◌≡◌, ◌++◌, IfOk, OnOk, false, map, option_map, string_bytes};
 ghost use Rattle.std.specs.List.{list_any};
-ghost use Rattle.clap.specs.Words.{found_of, rows_of, first_of};
-ghost use Rattle.pf_arguments.specs.Asked.{is_given};
+ghost use Rattle.clap.specs.Words.{found_of, rows_of};
 ghost use Rattle.cli_ask.specs.Sending.{has_control};
 ghost use Rattle.cli_ask.specs.Calls.{call_value, given, text_args, change_args, shown_path, list_call, lines_call};
 ghost use Rattle.cli_ask.specs.Calls.{table_call};
@@ -15,25 +14,8 @@ use crate::call::{Call, Kind};
 use crate::sending::{has_control, have_control, lines_of};
 use crate::target::{path_with, target_in};
 use clap::ArgMatches;
-use cli_io::values_in;
+use cli_io::{has_flag, value_in, values_in};
 use std::alloc::{AllocError, Global};
-
-/// The value of an option.
-pub(crate) fn value_of<'a>(matches: &ArgMatches<'a>, id: &str) -> Option<&'a str>
-    ensures { option_map (λ v. v.now) result ≡ first_of id.now (rows_of (found_of matches.now)) }
-{
-    matches.get_str(id)
-}
-
-/// Whether an option without a value is there.
-pub(crate) fn is_given(value: Option<&str>) -> bool
-    ensures { result ≡ is_given (option_map (λ v. v.now) value.entry) }
-{
-    match value {
-        Some(value) => value == "true",
-        None => false,
-    }
-}
 
 /// Adds an option and its value, if it has one.
 fn push_given<'m>(
@@ -79,12 +61,12 @@ fn change_args<'m>(
         ≡ change_args (rows_of (found_of matches.now)) (map (λ r. r.now) rest.now)) }
 {
     let mut args = Vec::new(alloc);
-    push_given(&mut args, "-a", value_of(matches, "path"))?;
-    push_given(&mut args, "-F", value_of(matches, "flush"))?;
-    push_given(&mut args, "-t", value_of(matches, "table"))?;
-    push_given(&mut args, "-T", value_of(matches, "change"))?;
+    push_given(&mut args, "-a", value_in(matches, "path"))?;
+    push_given(&mut args, "-F", value_in(matches, "flush"))?;
+    push_given(&mut args, "-t", value_in(matches, "table"))?;
+    push_given(&mut args, "-T", value_in(matches, "change"))?;
     args.extend_from_slice(rest)?;
-    push_text(&mut args, value_of(matches, "file"))?;
+    push_text(&mut args, value_in(matches, "file"))?;
     Ok(args)
 }
 
@@ -167,13 +149,13 @@ fn listing(
     ensures { IfOk result (λ c. option_map call_value c
         ≡ listing (rows_of (found_of matches.now)) (map (λ r. r.now) rest.now) at) }
 {
-    if let Some(show) = value_of(matches, "show") {
+    if let Some(show) = value_in(matches, "show") {
         return match shown_path(show) {
             Some(path) => Ok(Some(list_call(alloc, path, matches, at)?)),
             None => Ok(None),
         };
     }
-    match value_of(matches, "change") {
+    match value_in(matches, "change") {
         Some(change) => table_call(alloc, matches, rest, at, change),
         None => Ok(None),
     }
@@ -295,29 +277,29 @@ fn has_control_in(value: Option<&str>) -> bool
 fn options_have_control(matches: &ArgMatches<'_>) -> bool
     ensures { result ≡ options_have_control (rows_of (found_of matches.now)) }
 {
-    has_control_in(value_of(matches, "path"))
-        || has_control_in(value_of(matches, "flush"))
-        || has_control_in(value_of(matches, "table"))
-        || has_control_in(value_of(matches, "change"))
+    has_control_in(value_in(matches, "path"))
+        || has_control_in(value_in(matches, "flush"))
+        || has_control_in(value_in(matches, "table"))
+        || has_control_in(value_in(matches, "change"))
 }
 
 /// Whether the arguments have an option of pfctl's for a table.
 fn has_table_option(matches: &ArgMatches<'_>) -> bool
     ensures { result ≡ has_table_option (rows_of (found_of matches.now)) }
 {
-    value_of(matches, "table").is_some()
-        || value_of(matches, "change").is_some()
-        || value_of(matches, "flush").is_some()
+    value_in(matches, "table").is_some()
+        || value_in(matches, "change").is_some()
+        || value_in(matches, "flush").is_some()
 }
 
 /// Whether they have one for a ruleset.
 fn has_ruleset_option(matches: &ArgMatches<'_>) -> bool
     ensures { result ≡ has_ruleset_option (rows_of (found_of matches.now)) }
 {
-    value_of(matches, "file").is_some()
-        || value_of(matches, "path").is_some()
-        || value_of(matches, "show").is_some()
-        || is_given(value_of(matches, "check"))
+    value_in(matches, "file").is_some()
+        || value_in(matches, "path").is_some()
+        || value_in(matches, "show").is_some()
+        || has_flag(matches, "check")
 }
 
 /// Whether the arguments have an option of pfctl's.

@@ -6,9 +6,9 @@ ghost use Rattle.pf_entry.specs.Owned.{command_value};
 ghost use Rattle.pf_grammar.specs.Reading.{reading};
 ghost use Rattle.cli_ask.specs.Checking.{text_refusal, command_refusal, args_refusal, is_checked, refusal_of};
 
-use crate::arguments::{is_given, value_of};
 use crate::call::Kind;
 use clap::ArgMatches;
+use cli_io::has_flag;
 use pf_arguments::{Action, Command, from_matches};
 use pf_grammar::{ParseFault, Place, Profile, parse};
 use std::alloc::{AllocError, Global};
@@ -105,7 +105,7 @@ pub(crate) fn refusal_of(
 ) -> Result<Option<Refused>, AllocError>
     ensures { IfOk result (λ r. r ≡ refusal_of kind (rows_of (found_of matches.now)) text.now) }
 {
-    if is_checked(kind, is_given(value_of(matches, "unchecked"))) {
+    if is_checked(kind, has_flag(matches, "unchecked")) {
         return refused_args(alloc, matches, text);
     }
     Ok(None)

@@ -1,9 +1,10 @@
 //! Whoever answers at a control socket.
 
-ghost use Rattle.std.specs.Prelude.{◌≡◌, ◌≤◌, ℕ, List, [], ◌∷◌, Some, Err, IfOk, string_bytes};
+ghost use Rattle.std.specs.Prelude.{◌≡◌, ◌⊎◌, ℕ, ◌+◌, List, [], ◌∷◌, Some, Err, IfOk, string_bytes};
 ghost use Rattle.cli_ask.specs.Calls.{call_value};
 ghost use Rattle.cli_ask.specs.Replies.{reply_value};
-ghost use Rattle.cli_ask.specs.Asking.{Event, Asked, Looked, Adds, answer_value, asked_count};
+ghost use Rattle.cli_ask.specs.Asking.{Event, Asked, Looked, Adds, answer_value};
+ghost use Rattle.cli_ask.specs.Exchanges.{AreExchanged, HasExchange};
 ghost use Rattle.cli_ask.specs.Reading.{ReadAt};
 ghost use Rattle.cli_ask.specs.Showing.{printable};
 ghost use Rattle.cli_ask.specs.declared.exchange.AskFault.TheVariants as fault;
@@ -47,6 +48,23 @@ fn printable(alloc: Global, reply: Reply) -> Result<Reply, AskFault>
     }
 }
 
+/// Asks once, over one connection: the answer as it is printed.
+fn ask_over<D: Dial>(
+    alloc: Global,
+    dial: &mut D,
+    call: &Call,
+    deadline: Deadline,
+) -> Result<Reply, AskFault>
+    ensures dialed { (n : ℕ) → D.dialed dial.old n → D.dialed dial.new n ⊎ D.dialed dial.new (n + 1) }
+    ensures exchanged { HasExchange D.is_refused D.is_new D.Stream.contents D.Stream.remaining (call_value call.now)
+        (answer_value result) }
+{
+    match exchange(alloc, dial, call, deadline) {
+        Ok(reply) => printable(alloc, reply),
+        Err(fault) => Err(fault),
+    }
+}
+
 /// A peer that is reached over connections, by a clock.
 #[derive(Drop)]
 pub struct Reached<'a, D, RT> {
@@ -55,14 +73,13 @@ pub struct Reached<'a, D, RT> {
 }
 
 impl<D: Dial, RT: Clock> Control for Reached<'_, D, RT> {
-    // no more connections were asked for than requests were made
-    ghost exchanged = { λ r es. (n : ℕ) × (D.dialed r.dial n × (n ≤ asked_count es)) };
+    // each request was sent over a connection and its answer is what was read of it, as it is printed; no more
+    // connections were asked for than requests were made
+    ghost exchanged = { λ r es. AreExchanged D.dialed D.is_refused D.is_new D.Stream.contents D.Stream.remaining
+        r.dial es };
 
     fn ask(&mut self, alloc: Global, call: &Call, deadline: Deadline) -> Result<Reply, AskFault> {
-        match exchange(alloc, &mut self.dial, call, deadline) {
-            Ok(reply) => printable(alloc, reply),
-            Err(fault) => Err(fault),
-        }
+        ask_over(alloc, &mut self.dial, call, deadline)
     }
 
     fn is_over(&mut self, deadline: Deadline) -> bool {

@@ -25,7 +25,7 @@ pub enum AskFault {
     Memory,
     /// 85: nobody answers at the control socket.
     NoAnswer,
-    /// 86: an answer that is cut short, or is none of HTTP's.
+    /// 86: an answer that is cut short, or is none of HTTP's, or is no refusal though not all was sent.
     BadAnswer,
 }
 
@@ -173,10 +173,17 @@ pub(crate) fn exchange<D: Dial>(
     let Ok(mut stream) = control.dial(deadline) else {
         return Err(AskFault::NoAnswer);
     };
-    // an answer may come before all is sent
-    let _sent = write_bytes(&mut stream, bytes.as_slice());
+    // a refusal may come before all is sent
+    let sent = write_bytes(&mut stream, bytes.as_slice());
     match read_all(alloc, &mut stream) {
-        Ok(answer) => reply_in(alloc, answer.as_slice()),
+        Ok(answer) => match reply_in(alloc, answer.as_slice()) {
+            Ok(reply) => if sent.is_ok() || reply.code >= 300 {
+                Ok(reply)
+            } else {
+                Err(AskFault::BadAnswer)
+            },
+            Err(fault) => Err(fault),
+        },
         Err(InputFault::Memory) => Err(AskFault::Memory),
         Err(InputFault::Failed | InputFault::TooLong) => Err(AskFault::BadAnswer),
     }

@@ -21,7 +21,8 @@
 //! - **The client reads a ruleset before it asks** (by `from_matches` and `parse`), not the node: the node accepts what
 //!   is asked, so the model's Ask stays what a change is, and `--unchecked` is the client's alone.
 //! - What is asked, and how often, is stated over a trait (`Control`), whose ghost has the requests and their answers,
-//!   since no contract can state what a socket gives.
+//!   since no contract can state what a socket gives. For a peer that is reached over connections (`Reached`) it has
+//!   what was written to each and read of it.
 #![tactic(auto)]
 
 mod answers;

@@ -1,14 +1,12 @@
 //! The subcommand `ask` with `--control`, as `clap` reads it.
 
-ghost use Rattle.std.specs.Prelude.{◌≡◌, IfOk, false, codes};
-ghost use Rattle.clap.specs.Words.{app_of, rule_of};
+ghost use Rattle.std.specs.Prelude.{◌≡◌, IfOk, false};
+ghost use Rattle.clap.specs.Words.{app_of};
 ghost use Rattle.clap.specs.declared.builder.command.Command.TheViews.{out-Command};
-ghost use Rattle.cli_io.specs.Options.{needed_rule, number_rule};
 ghost use Rattle.cli_ask.specs.Arguments.{with_socket, with_script, ask_app, pfx_app};
 
-use clap::builder::ValueParser;
-use clap::{Arg, Command};
-use cli_io::{flag, valued, with_option};
+use clap::Command;
+use cli_io::{flag, needed, numbered, program_with, valued, with_option};
 use pf_arguments::pfctl_args;
 use std::alloc::{AllocError, Global};
 
@@ -43,55 +41,15 @@ const BELOW: &str = "A change or a listing by pfctl's options; or, without these
   sync             a change without effect         stop              ends the node
 A refusal is refused CODE; 85 nobody answers at the control socket, 86 the answer isn't HTTP, or is cut short.";
 
-/// `--control PATH`
-fn control<'a>(alloc: Global) -> Arg<'a>
-    ensures rule { rule_of result ≡ needed_rule (codes "control") }
-    ensures local { result.global ≡ false }
-{
-    valued(alloc, "control", CONTROL).required(true)
-}
-
-/// `--NAME N`, from one number up to another.
-fn numbered<'a>(alloc: Global, name: &'a str, help: &'a str, least: u64, most: u64) -> Arg<'a>
-    ensures rule { rule_of result ≡ number_rule name.entry.now least most }
-    ensures local { result.global ≡ false }
-{
-    valued(alloc, name, help).value_parser(ValueParser::Unsigned(least, most))
-}
-
-/// `--wait S`
-fn wait<'a>(alloc: Global) -> Arg<'a>
-    ensures rule { rule_of result ≡ number_rule (codes "wait") 0 WAIT_MAX }
-    ensures local { result.global ≡ false }
-{
-    numbered(alloc, "wait", WAIT, 0, WAIT_MAX)
-}
-
-/// `--at A`
-fn at<'a>(alloc: Global) -> Arg<'a>
-    ensures rule { rule_of result ≡ number_rule (codes "at") 0 POSITIONS }
-    ensures local { result.global ≡ false }
-{
-    numbered(alloc, "at", AT, 0, POSITIONS)
-}
-
-/// `--from LINE`
-fn from<'a>(alloc: Global) -> Arg<'a>
-    ensures rule { rule_of result ≡ number_rule (codes "from") 1 LINES }
-    ensures local { result.global ≡ false }
-{
-    numbered(alloc, "from", FROM, 1, LINES)
-}
-
 /// `--control PATH [--wait S] [--at A] [--unchecked]`
 fn with_socket<'a>(alloc: Global, command: Command<'a>) -> Result<Command<'a>, AllocError>
     requires command { (out-Command command).has_globals ≡ false }
     ensures app { IfOk result (λ c. app_of c ≡ with_socket (app_of command.entry)) }
     ensures local { IfOk result (λ c. (out-Command c).has_globals ≡ false) }
 {
-    let command = with_option(command, control(alloc))?;
-    let command = with_option(command, wait(alloc))?;
-    let command = with_option(command, at(alloc))?;
+    let command = with_option(command, needed(alloc, "control", CONTROL))?;
+    let command = with_option(command, numbered(alloc, "wait", WAIT, 0, WAIT_MAX))?;
+    let command = with_option(command, numbered(alloc, "at", AT, 0, POSITIONS))?;
     with_option(command, flag(alloc, "unchecked", UNCHECKED))
 }
 
@@ -102,7 +60,7 @@ fn with_script<'a>(alloc: Global, command: Command<'a>) -> Result<Command<'a>, A
     ensures local { IfOk result (λ c. (out-Command c).has_globals ≡ false) }
 {
     let command = with_option(command, valued(alloc, "script", SCRIPT))?;
-    with_option(command, from(alloc))
+    with_option(command, numbered(alloc, "from", FROM, 1, LINES))
 }
 
 /// `ask --control PATH [--wait S] [--at A] [--unchecked] ARGUMENTS`, or with `--script FILE [--from LINE]` in their
@@ -123,7 +81,5 @@ fn ask_command<'a>(alloc: Global) -> Result<Command<'a>, AllocError>
 pub(crate) fn command<'a>(alloc: Global) -> Result<Command<'a>, AllocError>
     ensures { IfOk result (λ c. app_of c ≡ pfx_app) }
 {
-    let ask = ask_command(alloc)?;
-    let command = Command::new(alloc, "pfx").subcommand(ask)?;
-    Ok(command.subcommand_required(true))
+    program_with(alloc, ask_command(alloc)?)
 }

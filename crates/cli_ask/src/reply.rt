@@ -4,7 +4,8 @@ ghost use Rattle.std.specs.Prelude.{◌≡◌, Err, IfOk, All, length, map, opti
 ghost use Rattle.std.specs.Str.{str_eq_ignore_ascii_case};
 ghost use Rattle.httparse.specs.Spans.{IsHeaderWithin, header_bytes};
 ghost use Rattle.cli_ask.specs.Calls.{call_value};
-ghost use Rattle.cli_ask.specs.Replies.{request_head, request_bytes, number_of, number, text_of, field_in, number_in};
+ghost use Rattle.cli_io.specs.Numbers.{number_of};
+ghost use Rattle.cli_ask.specs.Replies.{request_head, request_bytes, number, text_of, field_in, number_in};
 ghost use Rattle.cli_ask.specs.Replies.{is_number, has_length};
 ghost use Rattle.cli_ask.specs.Replies.{answer_of, reply_value, IsAnswer, IsNoAnswer};
 

@@ -1,17 +1,17 @@
 //! A run of `ask` with `--control`.
 
 ghost use Rattle.std.specs.Prelude.{◌≡◌, IfOk, IfErr, map, option_map};
-ghost use Rattle.clap.specs.Words.{found_of, rows_of, subcommand_rows_of};
-ghost use Rattle.cli_ask.specs.Arguments.{given_in, given_of};
+ghost use Rattle.clap.specs.Words.{found_of, rows_of};
+ghost use Rattle.cli_ask.specs.Arguments.{given_of};
 ghost use Rattle.cli_ask.specs.Asking.{answer_value};
 ghost use Rattle.cli_io.specs.Sources.{IsText, IsNamed};
-ghost use Rattle.cli_ask.specs.Outcomes.{number_at, IsUnread, HasNoText};
+ghost use Rattle.cli_ask.specs.Outcomes.{IsUnread, HasNoText};
 ghost use Rattle.cli_ask.specs.Outcomes.{Replied, AsksWith, Asks};
 ghost use Rattle.cli_ask.specs.Outcomes.{are_there, has_others, seconds_by, refusal_in, IsScript, IsNoScript};
 ghost use Rattle.cli_ask.specs.Outcomes.{RunsScript, Runs};
 ghost use Rattle.cli_ask.specs.Running.{Ran};
 
-use crate::arguments::{call_in, has_option, is_given, value_of};
+use crate::arguments::{call_in, has_option};
 use crate::asking::ask_at;
 use crate::call::Kind;
 use crate::checking::{Refused, refusal_of};
@@ -25,20 +25,14 @@ use crate::script::refused_script;
 use crate::scripting::{ScriptRequest, ask_script};
 use clap::ArgMatches;
 use cli_io::{
-    InputFault, Sources, Status, UNREADABLE, misused, out_of_memory, source_named, values_in,
+    InputFault, Sources, Status, UNREADABLE, given_in, has_flag, misused, number_in, out_of_memory,
+    source_named, value_in, values_in,
 };
 use std::alloc::{AllocError, Global};
 use std::convert::AsStr;
 use std::io::{Read, Write};
 use std::net::Net;
 use std::time::Clock;
-
-/// The number that an option has.
-fn number_at(matches: &ArgMatches<'_>, id: &str) -> Option<u32>
-    ensures { result ≡ number_at (rows_of (found_of matches.now)) id.now }
-{
-    matches.get_one::<u32>(id)
-}
 
 /// What a source that can't be read gives: of a file 90.
 fn unread(name: &str, fault: InputFault) -> Outcome
@@ -103,7 +97,7 @@ fn ask_with<RT: Net + Clock, C: Control, E: Write>(
     ensures { AsksWith (C.exchanged control.old) (C.exchanged control.new) (rows_of (found_of matches.now)) text.now
         result }
 {
-    let at = number_at(matches, "at").unwrap_or(0);
+    let at = number_in(matches, "at").unwrap_or(0);
     let call = match call_in(alloc, matches, text, at) {
         Ok(Some(call)) => call,
         Ok(None) => return refused(40),
@@ -114,7 +108,7 @@ fn ask_with<RT: Net + Clock, C: Control, E: Write>(
         Ok(Some(refused)) => return Outcome::Refused(refused),
         Err(_) => return Outcome::Memory,
     }
-    let seconds = number_at(matches, "wait").unwrap_or(0);
+    let seconds = number_in(matches, "wait").unwrap_or(0);
     let answer = ask_at(rt, alloc, control, &call, seconds);
     replied(call.kind, answer, errors)
 }
@@ -131,10 +125,10 @@ fn outcome_of<RT: Net + Clock + Sources, C: Control, R: Read, E: Write>(
     ensures { Asks (C.exchanged control.old) (C.exchanged control.new) (rows_of (found_of matches.now))
         (IsText (RT.has rt.now) (R.remaining reader.old)) result }
 {
-    if number_at(matches, "from").is_some() {
+    if number_in(matches, "from").is_some() {
         return refused(40);
     }
-    match text_for(rt, alloc, value_of(matches, "file"), reader) {
+    match text_for(rt, alloc, value_in(matches, "file"), reader) {
         Ok(text) => ask_with(rt, alloc, matches, control, text.as_slice(), errors),
         Err(outcome) => outcome,
     }
@@ -156,7 +150,7 @@ fn has_others(matches: &ArgMatches<'_>) -> bool
 {
     has_option(matches)
         || are_there(values_in(matches, "address"))
-        || number_at(matches, "at").is_some()
+        || number_in(matches, "at").is_some()
 }
 
 /// For how many seconds it is waited for what comes of a script's change.
@@ -177,13 +171,13 @@ fn refusal_in(
 ) -> Result<Option<Refused>, AllocError>
     ensures { IfOk result (λ r. r ≡ refusal_in (rows_of (found_of matches.now)) script.now) }
 {
-    if is_given(value_of(matches, "unchecked")) {
+    if has_flag(matches, "unchecked") {
         return Ok(None);
     }
     refused_script(
         alloc,
         script,
-        u64::from(number_at(matches, "from").unwrap_or(1)),
+        u64::from(number_in(matches, "from").unwrap_or(1)),
     )
 }
 
@@ -233,8 +227,8 @@ fn run_script<RT: Net + Clock + Sources, C: Control, R: Read, W: Write, E: Write
         Ok(script) => {
             let request = ScriptRequest {
                 script: script.as_slice(),
-                from: u64::from(number_at(matches, "from").unwrap_or(1)),
-                seconds: seconds_by(number_at(matches, "wait")),
+                from: u64::from(number_in(matches, "from").unwrap_or(1)),
+                seconds: seconds_by(number_in(matches, "wait")),
                 is_terminal,
             };
             ask_script(rt, alloc, control, &request, writer, errors)
@@ -257,7 +251,7 @@ fn run_at<RT: Net + Clock + Sources, C: Control, R: Read, W: Write, E: Write>(
     ensures { Runs (C.exchanged control.old) (C.exchanged control.new) (rows_of (found_of matches.now))
         (IsText (RT.has rt.now) (R.remaining reader.old)) result (W.contents writer.old) (W.contents writer.new) }
 {
-    match value_of(matches, "script") {
+    match value_in(matches, "script") {
         Some(file) => run_script(
             rt,
             alloc,
@@ -273,16 +267,6 @@ fn run_at<RT: Net + Clock + Sources, C: Control, R: Read, W: Write, E: Write>(
             let outcome = outcome_of(rt, alloc, matches, control, reader, errors);
             write_outcome(alloc, outcome, writer)
         }
-    }
-}
-
-/// What is given with the subcommand `ask`.
-fn given_in<'m, 'a>(matches: &'m ArgMatches<'a>) -> Option<&'m ArgMatches<'a>>
-    ensures { option_map (λ m. rows_of (found_of m.now)) result ≡ given_in (subcommand_rows_of matches.now) }
-{
-    match matches.subcommand() {
-        Some((name, inner)) => if name == "ask" { Some(inner) } else { None },
-        None => None,
     }
 }
 
@@ -324,10 +308,10 @@ pub fn run_control_ask<
         Ok(matches) => matches,
         Err(error) => return misused(alloc, &error, writer),
     };
-    let Some(inner) = given_in(&matches) else {
+    let Some(inner) = given_in(&matches, "ask") else {
         return Status::Usage;
     };
-    let Some(path) = value_of(inner, "control") else {
+    let Some(path) = value_in(inner, "control") else {
         return write_outcome(alloc, refused(40), writer);
     };
     let mut peer = sockets.peer_at(path);

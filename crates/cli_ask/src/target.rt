@@ -1,12 +1,12 @@
 //! The targets of requests: a path, and the parameters behind it.
 
-ghost use Rattle.std.specs.Prelude.{◌≡◌, ◌==◌, ◌++◌, OnOk, IfOk, option_map, string_bytes};
+ghost use Rattle.std.specs.Prelude.{◌≡◌, ◌==◌, OnOk, IfOk, option_map, string_bytes};
 ghost use Rattle.std.specs.List.{list_any};
 ghost use Rattle.clap.specs.Words.{found_of, rows_of};
 ghost use Rattle.cli_ask.specs.Calls.{mark, with_parameter, with_given, with_position, target_in, path_with};
 
-use crate::arguments::value_of;
 use clap::ArgMatches;
+use cli_io::value_in;
 use percent_encoding::{AsciiSet, NON_ALPHANUMERIC, ascii_set, utf8_percent_encode};
 use std::alloc::{AllocError, Global};
 
@@ -74,8 +74,8 @@ pub(crate) fn target_in(
     ensures { IfOk result (λ t. string_bytes t ≡ target_in path.now (rows_of (found_of matches.now)) at) }
 {
     let mut target = String::from_str(alloc, path)?;
-    add_given(&mut target, "a", value_of(matches, "path"))?;
-    add_given(&mut target, "t", value_of(matches, "table"))?;
+    add_given(&mut target, "a", value_in(matches, "path"))?;
+    add_given(&mut target, "t", value_in(matches, "table"))?;
     add_position(alloc, &mut target, at)?;
     Ok(target)
 }

@@ -1,12 +1,12 @@
 -- What is recorded as written was put into its place.
 use Rattle.std.proofs.Common.{◌≡◌, ◌++◌, ◌∙◌, ℕ, true, List, [], ◌∷◌, map, refl, sym, ap, append_assoc, subst, inl, inr}
-use Rattle.std.specs.Prelude.{◌&&◌, ◌||◌, Bool, bytes_eq, string_bytes}
+use Rattle.std.specs.Prelude.{◌&&◌, ◌||◌, Bool, Result, Ok, Err, IfOk, bytes_eq, string_bytes}
 use Rattle.std.specs.List.{list_any}
 use Rattle.std.proofs.lemmas.Bool.{and_parts, or_cases}
 use Rattle.std.proofs.lemmas.List.{map-append}
 use Rattle.std.proofs.lemmas.Slice.Eq.{bytes_eq-Decides}
 use Rattle.cli_follow.specs.declared.files.TextFile.{TextFile}
-use Rattle.cli_follow.specs.inner.Files.{AreWritten, is_put, is_there, FileValue, file_value, is_named}
+use Rattle.cli_follow.specs.Files.{AreWritten, IsPut, WasPut, is_put, is_there, FileValue, file_value, is_named}
 
 this_written : (put : List ℕ → List ℕ → Type 0) (name text : List ℕ) (f : TextFile) →
     (is_put f ≡ true → put (string_bytes f.name) (string_bytes f.text)) → is_there name text f ≡ true → put name text
@@ -34,6 +34,12 @@ pub written_after : (put : List ℕ → List ℕ → Type 0) (fs after : List Te
     (is_put f ≡ true → put (string_bytes f.name) (string_bytes f.text)) → after ≡ fs ++ f ∷ [] → AreWritten put after
 written_after put fs after f before this pushed =
     subst (λ (all : List TextFile). AreWritten put all) (sym pushed) (written_with put fs f before this)
+
+-- what is put then was put at some time
+pub was_put : {D E : Type 0} (has : D → List ℕ → List ℕ → Type 0) (is_renamed : D → D → List ℕ → List ℕ → Type 0) (folder name text : List ℕ) (r : Result Bool E) (now : D)
+    (P : Type 0) → IfOk r (λ is_put. is_put ≡ true → IsPut has is_renamed folder name text now) → IfOk r (λ is_put. P → is_put ≡ true → WasPut has is_renamed folder name text)
+was_put has is_renamed folder name text (Ok b) now P h = λ before put. (now, h put)
+was_put has is_renamed folder name text (Err e) now P h = tt
 
 -- a name is asked for of the files as of their values
 pub any_named : (name : List ℕ) (fs : List TextFile) →

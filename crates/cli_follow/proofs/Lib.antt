@@ -5,8 +5,9 @@ pub mod Same
 pub mod MembersRead
 pub mod Loads
 pub mod Runs
+pub mod Filing
 pub mod Writes
 pub mod Endings
-pub mod Rules
 pub mod Misuse
 pub mod Kept
+pub mod Asked

@@ -1,5 +1,5 @@
 -- Runs one after the other.
-use Rattle.std.proofs.Common.{◌≡◌, ◌∙◌, ℕ, ◌==◌, Bool, true, false, List, [], ◌∷◌, ◌++◌, Option, Some, None, Result, Ok, Err, refl, sym, ap, subst, append_assoc, append-nil, arith}
+use Rattle.std.proofs.Common.{◌≡◌, ◌∙◌, ℕ, ◌==◌, ◌||◌, Bool, true, false, List, [], ◌∷◌, ◌++◌, Option, Some, None, Result, Ok, Err, refl, sym, ap, ap₂, subst, append_assoc, append-nil, arith}
 use Rattle.std.specs.Prelude.{option_map, option_and_then, if◌then◌else◌, IfOk, IfErr}
 use Rattle.std.specs.Io.KnownBytes.{Appends}
 use Rattle.std.proofs.KnownBytes.{Appends-nil, Appends-trans}
@@ -8,64 +8,73 @@ use Rattle.cli_ask.specs.declared.exchange.AskFault.{AskFault}
 use Rattle.cli_ask.specs.declared.exchange.Reply.{Reply}
 use Rattle.cli_io.specs.Written.{AppendsFront}
 use Rattle.cli_io.proofs.Fronts.{nothing_written}
+use Rattle.cli_follow.specs.declared.files.TextFiles.{TextFiles}
 use Rattle.cli_follow.specs.declared.follower.Due.{Due}
 use Rattle.cli_follow.specs.declared.follower.WriteFault.{WriteFault}
 use Rattle.cli_follow.specs.declared.follower.WriteFault.TheVariants as fault
 use Rattle.cli_follow.specs.Exchanges.{Exchange, Entries, Status, Adds, asked}
-use Rattle.cli_follow.specs.Output.{Wanted, Follower, Stage, AsksEntries, AsksStatus, Reached, after, after_one, behind, start, Went, Stopped, Ends}
+use Rattle.cli_follow.specs.Output.{Wanted, Follower, Stage, AsksEntries, AsksStatus, Reached, after, after_one, behind, stays, start, Went, Stopped, Ends}
 use Rattle.cli_follow.specs.Output.{after_entries, after_status}
 use Rattle.cli_follow.specs.inner.Seen.{due_in, Leads, Fails}
 
-abbrev reached : Stage → List ℕ → Reached
-reached s out = record { stage = s; out = out }
-
 -- ---- answers one after the other
 
+or_assoc : (a b c : Bool) → (a || (b || c)) ≡ ((a || b) || c)
+or_assoc true b c = refl
+or_assoc false b c = refl
+
+or_false : (a : Bool) → (a || false) ≡ a
+or_false true = refl
+or_false false = refl
+
+behind_assoc : (a b c : Reached) → behind a (behind b c) ≡ behind (behind a b) c
+behind_assoc a b c =
+    ap₂ (λ (o : List ℕ) (d : Bool). record { stage = c.stage; out = o; is_due = d }) (sym (append_assoc a.out b.out c.out)) (or_assoc a.is_due b.is_due c.is_due)
+
+behind_nothing : (r : Reached) → behind r (stays r.stage) ≡ r
+behind_nothing r = ap₂ (λ (o : List ℕ) (d : Bool). record { stage = r.stage; out = o; is_due = d }) (append-nil r.out) (or_false r.is_due)
+
 abbrev On : Wanted → List Exchange → List Exchange → Type 0
-On w xs ys = (s t : Stage) (a : List ℕ) (r : Reached) → after w s xs ≡ Some (reached t a) → after w t ys ≡ Some r →
-    after w s (xs ++ ys) ≡ Some (behind a r)
+On w xs ys = (s : Stage) (u r : Reached) → after w s xs ≡ Some u → after w u.stage ys ≡ Some r → after w s (xs ++ ys) ≡ Some (behind u r)
 
 abbrev via : Wanted → List Exchange → Option Reached → Option Reached
-via w es o = option_and_then (λ u. option_map (behind u.out) (after w u.stage es)) o
-
-on_more : (w : Wanted) (xs ys : List Exchange) → On w xs ys → (u : Reached) (m : Option Reached) (t : Stage) (a : List ℕ) (r : Reached) →
-    after w u.stage xs ≡ m → option_map (behind u.out) m ≡ Some (reached t a) → after w t ys ≡ Some r →
-    option_map (behind u.out) (after w u.stage (xs ++ ys)) ≡ Some (behind a r)
-on_more w xs ys ih u None t a r e p q = absurd cc
-on_more w xs ys ih u (Some v) t a r e p q =
-    let same : behind u.out v ≡ reached t a = cc in
-    let stage : v.stage ≡ t = ap (λ (x : Reached). x.stage) same in
-    let out : u.out ++ v.out ≡ a = ap (λ (x : Reached). x.out) same in
-    let next : after w v.stage ys ≡ Some r = ap (λ (s : Stage). after w s ys) stage ∙ q in
-    ap (λ (o : Option Reached). option_map (behind u.out) o) (ih u.stage v.stage v.out r e next)
-    ∙ ap (λ (l : List ℕ). Some (reached r.stage l)) (sym (append_assoc u.out v.out r.out) ∙ ap (λ (l : List ℕ). l ++ r.out) out)
-
-on_one : (w : Wanted) (xs ys : List Exchange) → On w xs ys → (o : Option Reached) (t : Stage) (a : List ℕ) (r : Reached) →
-    via w xs o ≡ Some (reached t a) → after w t ys ≡ Some r → via w (xs ++ ys) o ≡ Some (behind a r)
-on_one w xs ys ih None t a r p q = absurd cc
-on_one w xs ys ih (Some u) t a r p q = on_more w xs ys ih u (after w u.stage xs) t a r refl p q
-
-on_nothing : (w : Wanted) (ys : List Exchange) (s t : Stage) (a : List ℕ) (r : Reached) → reached s [] ≡ reached t a → after w t ys ≡ Some r → after w s ys ≡ Some (behind a r)
-on_nothing w ys s t a r same q =
-    let stage : s ≡ t = ap (λ (x : Reached). x.stage) same in
-    let out : [] ≡ a = ap (λ (x : Reached). x.out) same in
-    ap (λ (u : Stage). after w u ys) stage ∙ q ∙ ap (λ (l : List ℕ). Some (behind l r)) out
+via w es o = option_and_then (λ u. option_map (behind u) (after w u.stage es)) o
 
 some_is : (x y : Reached) → Some x ≡ Some y → x ≡ y
 some_is x y e = cc
 
+on_more : (w : Wanted) (xs ys : List Exchange) → On w xs ys → (v : Reached) (m : Option Reached) (u r : Reached) →
+    after w v.stage xs ≡ m → option_map (behind v) m ≡ Some u → after w u.stage ys ≡ Some r →
+    option_map (behind v) (after w v.stage (xs ++ ys)) ≡ Some (behind u r)
+on_more w xs ys ih v None u r e p q = absurd cc
+on_more w xs ys ih v (Some x) u r e p q =
+    let same : behind v x ≡ u = some_is _ _ p in
+    let next : after w x.stage ys ≡ Some r = ap (λ (y : Reached). after w y.stage ys) same ∙ q in
+    ap (λ (o : Option Reached). option_map (behind v) o) (ih v.stage x r e next)
+    ∙ ap Some (behind_assoc v x r)
+    ∙ ap (λ (y : Reached). Some (behind y r)) same
+
+on_one : (w : Wanted) (xs ys : List Exchange) → On w xs ys → (o : Option Reached) (u r : Reached) →
+    via w xs o ≡ Some u → after w u.stage ys ≡ Some r → via w (xs ++ ys) o ≡ Some (behind u r)
+on_one w xs ys ih None u r p q = absurd cc
+on_one w xs ys ih (Some v) u r p q = on_more w xs ys ih v (after w v.stage xs) u r refl p q
+
+on_nothing : (w : Wanted) (ys : List Exchange) (s : Stage) (u r : Reached) → stays s ≡ u → after w u.stage ys ≡ Some r → after w s ys ≡ Some (behind u r)
+on_nothing w ys s u r same q =
+    ap (λ (y : Reached). after w y.stage ys) same ∙ q ∙ ap (λ (y : Reached). Some (behind y r)) same
+
 pub run_on : (w : Wanted) (xs ys : List Exchange) → On w xs ys
 unfolding after
-run_on w [] ys s t a r p q = on_nothing w ys s t a r (some_is _ _ p) q
-run_on w (e ∷ xs) ys s t a r p q = on_one w xs ys (run_on w xs ys) (after_one w s e) t a r p q
+run_on w [] ys s u r p q = on_nothing w ys s u r (some_is _ _ p) q
+run_on w (e ∷ xs) ys s u r p q = on_one w xs ys (run_on w xs ys) (after_one w s e) u r p q
 
 pub run_one : (w : Wanted) (s : Stage) (e : Exchange) (r : Reached) → after_one w s e ≡ Some r → after w s (e ∷ []) ≡ Some r
 unfolding after
-run_one w s e r h = ap (λ (o : Option Reached). via w [] o) h ∙ ap (λ (l : List ℕ). Some (reached r.stage l)) (append-nil r.out)
+run_one w s e r h = ap (λ (o : Option Reached). via w [] o) h ∙ ap Some (behind_nothing r)
 
-pub run_two : (w : Wanted) (s t : Stage) (d e : Exchange) (r : Reached) → after_one w s d ≡ Some (reached t []) → after_one w t e ≡ Some r →
+pub run_two : (w : Wanted) (s t : Stage) (d e : Exchange) (r : Reached) → after_one w s d ≡ Some (stays t) → after_one w t e ≡ Some r →
     after w s (d ∷ e ∷ []) ≡ Some r
-run_two w s t d e r p q = run_on w (d ∷ []) (e ∷ []) s t [] r (run_one w s d (reached t []) p) (run_one w t e r q)
+run_two w s t d e r p q = run_on w (d ∷ []) (e ∷ []) s (stays t) r (run_one w s d (stays t) p) (run_one w t e r q)
 
 -- ---- what was asked and written
 
@@ -77,30 +86,30 @@ adds_nothing x = λ ds h. subst x (sym (append-nil ds)) h
 
 pub went_nowhere : (x : List Exchange → Type 0) (w : Wanted) (s : Stage) (b : Option (List ℕ)) → Went x x w s s b b
 unfolding after
-went_nowhere x w s b = ([], [], adds_nothing x, refl, Appends-nil b)
+went_nowhere x w s b = ([], stays s, adds_nothing x, refl, refl, Appends-nil b)
 
 pub went_on : (x y z : List Exchange → Type 0) (w : Wanted) (s t u : Stage) (a b c : Option (List ℕ)) → Went x y w s t a b → Went y z w t u b c → Went x z w s u a c
 went_on x y z w s t u a b c p q =
-    let (es, out, given, led, wrote) = p in
-    let (fs, more, given2, led2, wrote2) = q in
-    (es ++ fs, out ++ more, adds_more x y z es fs given given2, run_on w es fs s t out (reached u more) led led2, Appends-trans a b c out more wrote wrote2)
+    let (es, r, given, led, at, wrote) = p in
+    let (fs, v, given2, led2, at2, wrote2) = q in
+    (es ++ fs, behind r v, adds_more x y z es fs given given2, run_on w es fs s r v led (ap (λ (k : Stage). after w k fs) at ∙ led2), at2, Appends-trans a b c r.out v.out wrote wrote2)
 
 pub stopped_on : (x y z : List Exchange → Type 0) (w : Wanted) (s t : Stage) (a b c : Option (List ℕ)) → Went x y w s t a b → Stopped y z w t b c → Stopped x z w s a c
 stopped_on x y z w s t a b c p q =
-    let (es, out, given, led, wrote) = p in
+    let (es, u, given, led, at, wrote) = p in
     let (fs, r, given2, led2, wrote2) = q in
     let (front, rest, split, wrote3) = wrote2 in (
       es ++ fs,
-      behind out r,
+      behind u r,
       adds_more x y z es fs given given2,
-      run_on w es fs s t out r led led2,
-      (out ++ front, rest, ap (λ (l : List ℕ). out ++ l) split ∙ sym (append_assoc out front rest), Appends-trans a b c out front wrote wrote3),
+      run_on w es fs s u r led (ap (λ (k : Stage). after w k fs) at ∙ led2),
+      (u.out ++ front, rest, ap (λ (l : List ℕ). u.out ++ l) split ∙ sym (append_assoc u.out front rest), Appends-trans a b c u.out front wrote wrote3),
     )
 
 pub stopped_here : (x y : List Exchange → Type 0) (w : Wanted) (s t : Stage) (a b : Option (List ℕ)) → Went x y w s t a b → Stopped x y w s a b
 stopped_here x y w s t a b p =
-    let (es, out, given, led, wrote) = p in
-    (es, reached t out, given, led, (out, [], sym (append-nil out), wrote))
+    let (es, r, given, led, at, wrote) = p in
+    (es, r, given, led, (r.out, [], sym (append-nil r.out), wrote))
 
 -- ---- one turn
 
@@ -113,7 +122,7 @@ entries_one w f a = ap (λ (b : Bool). if b then Some (after_entries w f a) else
 pub entries_led : (w : Wanted) (f : Follower) (a : Result Reply AskFault) → after w (AsksEntries f) (asked (Entries f.followed.position) a ∷ []) ≡ Some (after_entries w f a)
 entries_led w f a = run_one w (AsksEntries f) (asked (Entries f.followed.position) a) (after_entries w f a) (entries_one w f a)
 
-pub status_led : (w : Wanted) (f g : Follower) (a b : Result Reply AskFault) → after_entries w f a ≡ reached (AsksStatus g) [] →
+pub status_led : (w : Wanted) (f g : Follower) (a b : Result Reply AskFault) → after_entries w f a ≡ stays (AsksStatus g) →
     after w (AsksEntries f) (asked (Entries f.followed.position) a ∷ asked Status b ∷ []) ≡ Some (after_status w g b)
 status_led w f g a b h =
     run_two w (AsksEntries f) (AsksStatus g) (asked (Entries f.followed.position) a) (asked Status b) (after_status w g b)
@@ -133,7 +142,7 @@ entries_fail (Err e) x y w f a given = (after_entries w f a, (asked (Entries f.f
 
 -- the status was asked for too
 pub status_leads : {E : Type 0} (r : Result Due E) (x y z : List Exchange → Type 0) (w v u : Wanted) (f : Follower) (n : ℕ) (g h : ℕ → Follower) (a b : Result Reply AskFault) →
-    Adds x y (asked (Entries f.followed.position) a ∷ []) → Adds y z (asked Status b ∷ []) → v ≡ w → u ≡ v → after_entries w f a ≡ reached (AsksStatus (g n)) [] →
+    Adds x y (asked (Entries f.followed.position) a ∷ []) → Adds y z (asked Status b ∷ []) → v ≡ w → u ≡ v → after_entries w f a ≡ stays (AsksStatus (g n)) →
     IfOk r (λ d. (k : ℕ) → after_status v (g k) b ≡ due_in u (h k) d) → IfOk r (λ d. Leads x z w (AsksEntries f) (due_in w (h n) d))
 status_leads (Err e) x y z w v u f n g h a b first second same again leads due = tt
 status_leads (Ok d) x y z w v u f n g h a b first second same again leads due = (
@@ -143,7 +152,7 @@ status_leads (Ok d) x y z w v u f n g h a b first second same again leads due = 
 )
 
 pub status_fails : {T E : Type 0} (r : Result T E) (x y z : List Exchange → Type 0) (w : Wanted) (f g : Follower) (a b : Result Reply AskFault) →
-    Adds x y (asked (Entries f.followed.position) a ∷ []) → Adds y z (asked Status b ∷ []) → after_entries w f a ≡ reached (AsksStatus g) [] →
+    Adds x y (asked (Entries f.followed.position) a ∷ []) → Adds y z (asked Status b ∷ []) → after_entries w f a ≡ stays (AsksStatus g) →
     IfErr r (λ e. Fails x z w (AsksEntries f))
 status_fails (Ok v) x y z w f g a b first second leads = tt
 status_fails (Err e) x y z w f g a b first second leads = (
@@ -169,11 +178,11 @@ if_err (Err e) P h = h
 
 -- ---- the loop
 
-pub ends_early : (x y : List Exchange → Type 0) (w : Wanted) (turns : ℕ) (e : WriteFault) (a b : Option (List ℕ)) → (e ≡ fault.Another → ⊥) →
-    Stopped x y w (AsksEntries start) a b → Ends x y w turns (Err e) a b
-ends_early x y w turns fault.Another a b other h = absurd (other refl)
-ends_early x y w turns fault.Memory a b other h = h
-ends_early x y w turns fault.Closed a b other h = h
+pub ends_early : (x y : List Exchange → Type 0) (put : List ℕ → List ℕ → List ℕ → Type 0) (w : Wanted) (files : Option TextFiles) (turns : ℕ) (e : WriteFault) (a b : Option (List ℕ)) →
+    (e ≡ fault.Another → ⊥) → Stopped x y w (AsksEntries start) a b → Ends x y put w files turns (Err e) a b
+ends_early x y put w files turns fault.Another a b other h = absurd (other refl)
+ends_early x y put w files turns fault.Memory a b other h = h
+ends_early x y put w files turns fault.Closed a b other h = h
 
 -- a turn behind those before it
 pub turned : (x y z : List Exchange → Type 0) (w v : Wanted) (s t u k : Stage) (a b c : Option (List ℕ)) → v ≡ w → u ≡ k → Went x y w s t a b → Went y z v t u b c → Went x z w s k a c

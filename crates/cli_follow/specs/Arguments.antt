@@ -1,9 +1,8 @@
 -- The arguments of `follow`, as `clap` has them.
-use Rattle.std.specs.Prelude.{true, List, [], ◌∷◌, Option, Some, None, bytes_eq, codes, if◌then◌else◌}
-use Rattle.clap.specs.Words.{App, Row, Rule, Text, new_app, with_rule, with_subcommand, subcommand_of}
-use Rattle.clap.specs.Faults.{fault_of}
-use Rattle.clap.specs.Kinds.{Kinds}
+use Rattle.std.specs.Prelude.{List, Option, Some, codes}
+use Rattle.clap.specs.Words.{App, Row, Rule, Text, new_app, with_rule}
 use Rattle.clap.specs.declared.builder.value_parser.ValueParser.TheVariants.{Unsigned}
+use Rattle.cli_io.specs.Given.{program_of, given_with}
 use Rattle.cli_io.specs.Options.{flag_rule, needed_rule, value_rule}
 
 -- --turns T, of 64 bits
@@ -24,21 +23,9 @@ follow_app = with_rule (with_places (with_rule (new_app (codes "follow")) (neede
 
 -- the program with this subcommand, which has to be given
 abbrev pub pfx_app : App
-pfx_app =
-    let app = with_subcommand (new_app (codes "pfx")) follow_app.top in
-    record app { top = record app.top { subcommand_required = true } }
-
--- what is given with the subcommand `follow`
-abbrev pub given_in : Option (Text × List Row) → Option (List Row)
-given_in None = None
-given_in (Some (name, rows)) = if bytes_eq name (codes "follow") then Some rows else None
-
--- the same, none where the arguments have a fault
-abbrev pub unless_faulty : Kinds → Option (List Row) → Option (List Row)
-unless_faulty [] rows = rows
-unless_faulty (k ∷ ks) rows = None
+pfx_app = program_of follow_app
 
 -- what is given with `follow`, the program's name first; none where the arguments aren't understood
 -- Example: of `pfx follow --nft` none, since `--control` is missing.
-unfoldable pub given_of : (arguments : List Text) → Option (List Row)
-given_of arguments = unless_faulty (fault_of pfx_app arguments) (given_in (subcommand_of pfx_app arguments))
+abbrev pub given_of : (arguments : List Text) → Option (List Row)
+given_of arguments = given_with pfx_app (codes "follow") arguments

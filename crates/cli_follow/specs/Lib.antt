@@ -2,6 +2,7 @@ pub mod Following
 pub mod Stepping
 pub mod Members
 pub mod Exchanges
+pub mod Files
 pub mod Output
 pub mod Places
 pub mod Arguments

@@ -1,6 +1,6 @@
 -- What `follow` writes for nft(8), of the answers that it is given.
-use Rattle.std.specs.Prelude.{ℕ, ◌+◌, ◌-◌, ◌%◌, ◌==◌, ◌≡◌, ◌&&◌, ◌||◌, Bool, true, false, not, nat_lt, List, [], ◌∷◌}
-use Rattle.std.specs.Prelude.{◌++◌}
+use Rattle.std.specs.Prelude.{ℕ, ◌+◌, ◌-◌, ◌%◌, ◌==◌, ◌≡◌, ◌⊎◌, ◌&&◌, ◌||◌, Bool, true, false, not, nat_lt}
+use Rattle.std.specs.Prelude.{List, [], ◌∷◌, ◌++◌}
 use Rattle.std.specs.Prelude.{Option, Some, None, Result, Ok, Err, length, bytes_eq, option_map, option_and_then}
 use Rattle.std.specs.Prelude.{if◌then◌else◌}
 use Rattle.std.specs.Io.KnownBytes.{Appends}
@@ -14,10 +14,12 @@ use Rattle.cli_ask.specs.declared.exchange.Reply.{Reply}
 use Rattle.cli_nft.specs.Outputs.{Written, config_output}
 use Rattle.cli_io.specs.Written.{AppendsFront}
 use Rattle.node_requests.specs.declared.entries.TheConstants.{ENTRIES_MAX, ENTRIES_BYTES}
+use Rattle.cli_follow.specs.declared.files.TextFiles.{TextFiles}
 use Rattle.cli_follow.specs.declared.follower.TheConstants.{AGAIN}
 use Rattle.cli_follow.specs.declared.follower.WriteFault.{WriteFault}
 use Rattle.cli_follow.specs.declared.follower.WriteFault.TheVariants as fault
 use Rattle.cli_follow.specs.Exchanges.{Question, Entries, Status, Exchange, Adds}
+use Rattle.cli_follow.specs.Files.{FilesWritten, are_behind}
 use Rattle.cli_follow.specs.Following.{Followed, LinesApplied, lines_applied}
 use Rattle.cli_follow.specs.Members.{members_reported}
 use Rattle.cli_follow.specs.Stepping.{two_lines, end_line}
@@ -54,10 +56,15 @@ pub data Stage : Type 0 where
   AsksStatus : (follower : Follower) → Stage
   Ended : Stage
 
--- a stage, and what was written before it
+-- a stage, what was written before it, and whether what was followed was due to be written
 pub record Reached : Type 0 where
   pub stage : Stage
   pub out : List ℕ
+  pub is_due : Bool
+
+-- nothing is written, and this is asked for next
+abbrev pub stays : Stage → Reached
+stays s = record { stage = s; out = []; is_due = false }
 
 -- ---- lines for nft(8)
 
@@ -97,7 +104,7 @@ loads file ms last c position =
 
 -- nothing is written, and entries are asked for next
 abbrev pub silent : Follower → Reached
-silent f = record { stage = AsksEntries f; out = [] }
+silent f = stays (AsksEntries f)
 
 -- what was followed is written from here on where something new comes
 abbrev pub settled : Follower → Follower
@@ -105,11 +112,11 @@ settled f = record f { followed = record f.followed { is_moved = false }; has_be
 
 -- what there is to load is written
 abbrev pub given : Follower → Loads → Reached
-given f l = record { stage = AsksEntries (record (settled f) { last = l.last }); out = l.lines }
+given f l = record { stage = AsksEntries (record (settled f) { last = l.last }); out = l.lines; is_due = true }
 
--- the configuration is written where it is wanted
+-- the configuration is due to be written; for nft(8) where lines are wanted
 abbrev pub written_to : Option (List ℕ) → Follower → Reached
-written_to None f = silent (settled f)
+written_to None f = record { stage = AsksEntries (settled f); out = []; is_due = true }
 written_to (Some file) f =
     given f (loads file f.members f.last f.followed.configuration f.followed.position)
 
@@ -123,7 +130,7 @@ is_again asks = asks % AGAIN == 0
 -- all that is applied is there: it is written where it moved, and behind a guard once the members are known
 abbrev pub caught_up : Wanted → (again : Bool) → Follower → Reached
 caught_up w again f =
-    if w.is_guarded && (f.followed.is_moved || again) then record { stage = AsksStatus f; out = [] }
+    if w.is_guarded && (f.followed.is_moved || again) then stays (AsksStatus f)
     else written_if w f.followed.is_moved f
 
 -- entries that weren't all: 1,000 lines, or 262,144 bytes
@@ -145,7 +152,7 @@ is_behind (Some front) position = nat_lt front position
 -- after an answer to the question for entries
 abbrev pub after_entries : Wanted → Follower → Result Reply AskFault → Reached
 after_entries w f (Err fault) = silent (record f { asks = f.asks + 1 })
-after_entries w f (Ok reply) = if is_behind reply.front f.followed.position then record { stage = Ended; out = [] }
+after_entries w f (Ok reply) = if is_behind reply.front f.followed.position then stays Ended
     else after_reply w f reply.body.items (lines_applied f.followed (lines reply.body.items))
 
 -- two lists name the same members
@@ -188,14 +195,14 @@ after_one w (AsksEntries f) e = answered_entries w f e.question e.answer
 after_one w (AsksStatus f) e = answered_status w f e.question e.answer
 after_one w Ended e = None
 
--- what was written before
-abbrev pub behind : List ℕ → Reached → Reached
-behind out r = record { stage = r.stage; out = out ++ r.out }
+-- behind what was reached before
+abbrev pub behind : Reached → Reached → Reached
+behind b r = record { stage = r.stage; out = b.out ++ r.out; is_due = b.is_due || r.is_due }
 
 -- after these answers, in their order; none where something else is asked than what the answers before lead to
 unfoldable pub after : Wanted → Stage → List Exchange → Option Reached
-after w s [] = Some (record { stage = s; out = [] })
-after w s (e ∷ es) = option_and_then (λ r. option_map (behind r.out) (after w r.stage es)) (after_one w s e)
+after w s [] = Some (stays s)
+after w s (e ∷ es) = option_and_then (λ r. option_map (behind r) (after w r.stage es)) (after_one w s e)
 
 -- nothing was asked yet
 abbrev pub start : Follower
@@ -207,13 +214,46 @@ start = record {
   asks = 0;
 }
 
+-- ---- rulesets for pfctl(8)
+
+-- What a turn does with files that ends so: where what was followed was due, its files are written; else they are as
+-- they were, or where one couldn't be written they are written again.
+abbrev pub FiledIn : (put : (folder name text : List ℕ) → Type 0) → Stage → (is_due : Bool) →
+    (old new : Option TextFiles) → Type 0
+FiledIn put (AsksEntries f) true old new = FilesWritten put f.followed.configuration old new
+FiledIn put (AsksEntries f) false old new = (new ≡ old)
+    ⊎ ((are_behind old ≡ true) × FilesWritten put f.followed.configuration old new)
+FiledIn put (AsksStatus f) is_due old new = new ≡ old
+FiledIn put Ended is_due old new = new ≡ old
+
+-- The turns of a run, one after the other: each turn's answers lead from what was followed to where it ends, and its
+-- files are written for that. Given are the answers of all turns, and the stage and the files after the last.
+-- Example: a command is done in the first of two turns: in it the files of its configuration are written.
+pub data Filed (put : (folder name text : List ℕ) → Type 0) (w : Wanted) (first : Option TextFiles) :
+    List Exchange → Stage → Option TextFiles → Type 0 where
+  NoTurn : Filed put w first [] (AsksEntries start) first
+  Turn : {before : List Exchange} {f : Follower} {old new : Option TextFiles} (es : List Exchange) (r : Reached) →
+      Filed put w first before (AsksEntries f) old → after w (AsksEntries f) es ≡ Some r →
+      FiledIn put r.stage r.is_due old new → Filed put w first (before ++ es) r.stage new
+
+-- these answers were given meanwhile
+abbrev pub FiledTo : (given now : List Exchange → Type 0) → (put : (folder name text : List ℕ) → Type 0) → Wanted →
+    (first : Option TextFiles) → Stage → (last : Option TextFiles) → Type 0
+FiledTo given now put w first s last = (es : List Exchange) × (Adds given now es × Filed put w first es s last)
+
+-- one turn: these answers were given, and files were written for what they lead to
+abbrev pub TurnFiled : (given now : List Exchange → Type 0) → (put : (folder name text : List ℕ) → Type 0) → Wanted →
+    Follower → Stage → (old new : Option TextFiles) → Type 0
+TurnFiled given now put w f t old new = (es : List Exchange) × (r : Reached) × Adds given now es
+    × (after w (AsksEntries f) es ≡ Some r) × (r.stage ≡ t) × FiledIn put r.stage r.is_due old new
+
 -- ---- a run
 
 -- From one stage to another: these answers were given meanwhile, and what they lead to was written.
 abbrev pub Went : (given now : List Exchange → Type 0) → Wanted → Stage → Stage → (before written : Option (List ℕ)) →
     Type 0
-Went given now w s t before written = (es : List Exchange) × (out : List ℕ) × Adds given now es
-    × (after w s es ≡ Some (record { stage = t; out = out })) × Appends before written out
+Went given now w s t before written = (es : List Exchange) × (r : Reached) × Adds given now es
+    × (after w s es ≡ Some r) × (r.stage ≡ t) × Appends before written r.out
 
 -- It ended early: of what the answers lead to, a front was written.
 abbrev pub Stopped : (given now : List Exchange → Type 0) → Wanted → Stage → (before written : Option (List ℕ)) → Type 0
@@ -221,11 +261,16 @@ Stopped given now w s before written = (es : List Exchange) × (r : Reached) × 
     × (after w s es ≡ Some r) × AppendsFront before written r.out
 
 -- How a run ends that is to ask for entries so often: after that many asks, or at another log, all is written that the
--- answers lead to; when out of memory, or the output is closed, a front of it.
-abbrev pub Ends : (given now : List Exchange → Type 0) → Wanted → (turns : ℕ) → Result Unit WriteFault →
-    (before written : Option (List ℕ)) → Type 0
-Ends given now w turns (Ok done) before written = (f : Follower) × (f.asks ≡ turns)
+-- answers lead to, and in each turn the files; when out of memory, or the output is closed, a front of the lines.
+abbrev pub Ends : (given now : List Exchange → Type 0) → (put : (folder name text : List ℕ) → Type 0) → Wanted →
+    (files : Option TextFiles) → (turns : ℕ) → Result Unit WriteFault → (before written : Option (List ℕ)) → Type 0
+Ends given now put w files turns (Ok done) before written = (f : Follower) × (f.asks ≡ turns)
     × Went given now w (AsksEntries start) (AsksEntries f) before written
-Ends given now w turns (Err fault.Another) before written = Went given now w (AsksEntries start) Ended before written
-Ends given now w turns (Err fault.Memory) before written = Stopped given now w (AsksEntries start) before written
-Ends given now w turns (Err fault.Closed) before written = Stopped given now w (AsksEntries start) before written
+    × ((last : Option TextFiles) × FiledTo given now put w files (AsksEntries f) last)
+Ends given now put w files turns (Err fault.Another) before written =
+    Went given now w (AsksEntries start) Ended before written
+    × ((last : Option TextFiles) × FiledTo given now put w files Ended last)
+Ends given now put w files turns (Err fault.Memory) before written =
+    Stopped given now w (AsksEntries start) before written
+Ends given now put w files turns (Err fault.Closed) before written =
+    Stopped given now w (AsksEntries start) before written

@@ -1,29 +1,23 @@
 -- What is to be written where, and how a run ends.
-use Rattle.std.specs.Prelude.{◌≡◌, ◌⊎◌, ◌&&◌, ℕ, ◌^◌, ◌<◌, Bool, true, false, List, [], ◌++◌, Option, Some, None}
-use Rattle.std.specs.Prelude.{Result, Ok, Err, not, codes, decimal}
-use Rattle.std.specs.Prelude.{bytes_eq, is_some, option_map, string_bytes, if◌then◌else◌}
+use Rattle.std.specs.Prelude.{◌≡◌, ◌⊎◌, ◌&&◌, ℕ, ◌^◌, ◌<◌, Bool, true, false, List, [], Option, Some, None}
+use Rattle.std.specs.Prelude.{Result, Ok, Err, not, codes}
+use Rattle.std.specs.Prelude.{is_some, option_map, string_bytes}
 use Rattle.std.specs.Io.KnownBytes.{Appends}
 use Rattle.std.specs.Str.Parse.{IsNumeral, digits_value, without_leading_plus}
 use Rattle.clap.specs.Words.{Row, Text, first_of}
+use Rattle.cli_io.specs.Given.{is_given}
+use Rattle.cli_io.specs.Sources.{IsAt}
 use Rattle.cli_io.specs.declared.status.Status.{Status}
 use Rattle.cli_io.specs.declared.status.Status.TheVariants as status
 use Rattle.cli_follow.specs.Exchanges.{Exchange, Adds}
 use Rattle.cli_follow.specs.Output.{Wanted, Ends, wanted}
+use Rattle.cli_follow.specs.declared.files.TextFile.{TextFile}
 use Rattle.cli_follow.specs.declared.files.TextFiles.{TextFiles}
 use Rattle.cli_follow.specs.declared.follower.WriteFault.{WriteFault}
 use Rattle.cli_follow.specs.declared.follower.WriteFault.TheVariants as fault
 use Rattle.cli_follow.specs.declared.places.Places.{Places}
 
--- the target under which a node answers its entries from a position on
-abbrev pub entries_target : (from : ℕ) → List ℕ
-entries_target from = codes "/v1/entries?from=" ++ decimal from
-
 -- ---- arguments
-
--- whether an option without a value was given
-abbrev pub is_given : Option Text → Bool
-is_given None = false
-is_given (Some text) = bytes_eq text (codes "true")
 
 -- lines for nft(8) take --nft and --interfaces, and perhaps --no-member-guard; without them rulesets for pfctl(8) are
 -- written, or nothing would be
@@ -51,21 +45,20 @@ are_good rows = go_together (has_nft rows) (first_of (codes "interfaces") rows) 
 abbrev pub folder_of : Option TextFiles → Option (List ℕ)
 folder_of files = option_map (λ f. string_bytes f.folder) files
 
--- what there is, if there is something, is what the file at the path that is named has
--- Example: without a path there is nothing.
-abbrev pub IsAt : (has : (path text : List ℕ) → Type 0) → (path text : Option (List ℕ)) → Type 0
-IsAt has path None = Unit {0}
-IsAt has None (Some text) = ⊥
-IsAt has (Some path) (Some text) = has path text
+-- what is recorded of it
+abbrev pub recorded : Option TextFiles → List TextFile
+recorded None = []
+recorded (Some files) = files.written.items
 
 -- lines for nft(8) are written where these are asked for, for the interfaces of the file that is named, and with the
--- guard unless it is declined; rulesets for pfctl(8) go into the folder that is named
+-- guard unless it is declined; rulesets for pfctl(8) go into the folder that is named, of which nothing is recorded yet
 pub record IsWantedBy (has : (path text : List ℕ) → Type 0) (rows : List Row) (p : Places) : Type 0 where
   pub good : are_good rows ≡ true
   pub lines : is_some p.interfaces ≡ has_nft rows
   pub file : IsAt has (first_of (codes "interfaces") rows) (option_map (λ v. v.items) p.interfaces)
   pub guard : p.is_guarded ≡ (has_nft rows && not (has_no_guard rows))
   pub folder : folder_of p.files ≡ first_of (codes "pf") rows
+  pub none : recorded p.files ≡ []
 
 -- 40 comes where the arguments don't go together, 89 where a file of interfaces lists none
 abbrev pub IsRefusedIf : (good nft : Bool) → (code : ℕ) → Type 0
@@ -104,10 +97,10 @@ abbrev pub wanted_at : Places → Wanted
 wanted_at p = wanted (option_map (λ v. v.items) p.interfaces) p.is_guarded
 
 -- the log is followed to these places, and the run ends as that does
-abbrev pub FollowedTo : (given now : List Exchange → Type 0) → Places → (turns : ℕ) → Status →
-    (before written : Option (List ℕ)) → Type 0
-FollowedTo given now p turns s before written =
-    (r : Result Unit WriteFault) × (Ends given now (wanted_at p) turns r before written × IsEnding r s)
+abbrev pub FollowedTo : (given now : List Exchange → Type 0) → (put : (folder name text : List ℕ) → Type 0) → Places →
+    (turns : ℕ) → Status → (before written : Option (List ℕ)) → Type 0
+FollowedTo given now put p turns s before written = (r : Result Unit WriteFault)
+    × (Ends given now put (wanted_at p) p.files turns r before written × IsEnding r s)
 
 -- nothing is asked and nothing is written: the arguments or the file of interfaces are refused, or it was out of memory
 abbrev pub NotFollowed : (given now : List Exchange → Type 0) → List Row → Status →
@@ -116,8 +109,9 @@ NotFollowed given now rows s before written = Adds given now []
     × (Appends before written [] × (IsNoEnding s × ((s ≡ status.Refused) → (code : ℕ) × IsRefusedWith rows code)))
 
 -- the log is followed to the places that the arguments name, or it isn't
-abbrev pub FollowedBy : (given now : List Exchange → Type 0) → (has : (path text : List ℕ) → Type 0) → List Row →
-    (turns : ℕ) → Status → (before written : Option (List ℕ)) → Type 0
-FollowedBy given now has rows turns s before written =
-    ((p : Places) × (IsWantedBy has rows p × FollowedTo given now p turns s before written))
+abbrev pub FollowedBy : (given now : List Exchange → Type 0) → (put : (folder name text : List ℕ) → Type 0) →
+    (has : (path text : List ℕ) → Type 0) → List Row → (turns : ℕ) → Status → (before written : Option (List ℕ)) →
+    Type 0
+FollowedBy given now put has rows turns s before written =
+    ((p : Places) × (IsWantedBy has rows p × FollowedTo given now put p turns s before written))
     ⊎ NotFollowed given now rows s before written

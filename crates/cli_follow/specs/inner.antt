@@ -1,3 +1,2 @@
 -- What only code and proofs use, and what a value of the code stands for.
 pub mod Seen
-pub mod Files

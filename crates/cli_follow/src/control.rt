@@ -1,8 +1,9 @@
 //! What a node answers at its control socket.
 
-ghost use Rattle.std.specs.Prelude.{◌≡◌, ℕ, List, [], ◌∷◌, ⊤, IfOk, string_bytes};
-ghost use Rattle.cli_follow.specs.Exchanges.{Exchange, Entries, Status, Adds, asked};
-ghost use Rattle.cli_follow.specs.Places.{entries_target};
+ghost use Rattle.std.specs.Prelude.{◌≡◌, ℕ, List, [], ◌∷◌, IfOk, string_bytes};
+ghost use Rattle.std.specs.List.{AllByRecursion};
+ghost use Rattle.cli_ask.specs.Reading.{ReadAt};
+ghost use Rattle.cli_follow.specs.Exchanges.{Exchange, Entries, Status, Adds, IsAnswered, asked, target_of};
 
 use cli_ask::{AskFault, Reply, read_at};
 use cli_io::{Shown, knock};
@@ -28,42 +29,42 @@ pub trait Control {
     fn tell<E: Write>(&self, errors: &mut E);
 }
 
-/// A control socket.
+/// The control socket at a path, of those that `sockets` has: for the system's they are `rt`.
 #[derive(Clone, Copy)]
-pub struct ControlSocket<'a, RT> {
+pub struct ControlSocket<'a, RT, S> {
     pub(crate) rt: &'a RT,
+    pub(crate) sockets: &'a S,
     pub(crate) path: &'a str,
 }
 
 /// The target of the entries from a position on.
 fn entries_target(alloc: Global, from: u32) -> Result<String, AllocError>
-    ensures { IfOk result (λ t. string_bytes t ≡ entries_target from) }
+    ensures { IfOk result (λ t. string_bytes t ≡ target_of (Entries from)) }
 {
     format!(in alloc; "/v1/entries?from={from}")
 }
 
-/// An answer to a target.
-fn read<RT: Net + Clock>(
-    socket: &ControlSocket<'_, RT>,
-    alloc: Global,
-    target: Result<String, AllocError>,
-) -> Result<Reply, AskFault> {
-    match target {
-        Ok(target) => read_at(socket.rt, socket.rt, alloc, socket.path, target),
-        Err(AllocError) => Err(AskFault::Memory),
-    }
+/// The target of the node's status.
+fn status_target(alloc: Global) -> Result<String, AllocError>
+    ensures { IfOk result (λ t. string_bytes t ≡ target_of Status) }
+{
+    String::from_str(alloc, "/v1/status")
 }
 
-impl<RT: Net + Clock> Control for ControlSocket<'_, RT> {
-    // no contract can say what a socket gives
-    ghost exchanged = { λ _ _. ⊤ };
+impl<'a, RT: Net + Clock, S: cli_ask::ControlSockets<'a>> Control for ControlSocket<'a, RT, S> {
+    // each answer was read at this path, under the target of its question
+    ghost exchanged = { λ peer es. AllByRecursion (IsAnswered (λ target answer.
+        ReadAt (S.is_at peer.sockets.now) S.Socket.dialed S.Socket.is_refused S.Socket.is_new
+        S.Socket.Stream.contents S.Socket.Stream.remaining peer.path.now target answer)) es };
 
     fn entries(&mut self, alloc: Global, from: u32) -> Result<Reply, AskFault> {
-        read(self, alloc, entries_target(alloc, from))
+        let target = entries_target(alloc, from)?;
+        read_at(self.rt, self.sockets, alloc, self.path, target)
     }
 
     fn status(&mut self, alloc: Global) -> Result<Reply, AskFault> {
-        read(self, alloc, String::from_str(alloc, "/v1/status"))
+        let target = status_target(alloc)?;
+        read_at(self.rt, self.sockets, alloc, self.path, target)
     }
 
     fn tell<E: Write>(&self, errors: &mut E) {
@@ -87,11 +88,15 @@ pub trait ControlSockets<'a> {
 }
 
 impl<'a, RT: Net + Clock + 'a> ControlSockets<'a> for RT {
-    type Peer = ControlSocket<'a, RT>;
+    type Peer = ControlSocket<'a, RT, RT>;
 
     ghost answers_at = { λ _ path peer. peer.path.now ≡ path };
 
-    fn peer_at(&'a self, path: &'a str) -> ControlSocket<'a, RT> {
-        ControlSocket { rt: self, path }
+    fn peer_at(&'a self, path: &'a str) -> ControlSocket<'a, RT, RT> {
+        ControlSocket {
+            rt: self,
+            sockets: self,
+            path,
+        }
     }
 }

@@ -1,13 +1,13 @@
 //! Rulesets for pfctl(8) in files, one for each path.
 
-ghost use Rattle.std.specs.Prelude.{◌≡◌, ◌⊎◌, ⊤, ℕ, List, [], true, not, IfOk, IfSome, IfNone, OnOk, map, string_bytes};
+ghost use Rattle.std.specs.Prelude.{◌≡◌, ⊤, ℕ, List, [], true, IfOk, IfSome, IfNone, OnOk, map, string_bytes};
 ghost use Rattle.std.specs.List.{list_all, list_any};
 ghost use Rattle.pf_dump.specs.Done.{AreDoneTo};
 ghost use Rattle.pf_dump.specs.Seen.{text_of};
 ghost use Rattle.pf_dump.specs.Written.{texts_of};
-ghost use Rattle.cli_follow.specs.inner.Files.{AreWritten, IsWritten, IsPut, is_put, is_there};
-ghost use Rattle.cli_follow.specs.inner.Files.{file_value, file_name, file_at, files_of, is_named};
-ghost use Rattle.cli_follow.specs.inner.Files.{is_gone, with_gone};
+ghost use Rattle.cli_follow.specs.Files.{AreWritten, IsWritten, IsPut, WasPut, is_put, is_there};
+ghost use Rattle.cli_follow.specs.Files.{file_value, file_name, file_at, files_of, is_named};
+ghost use Rattle.cli_follow.specs.Files.{is_gone, with_gone, are_behind, AreFilesOf};
 
 use crate::followed_configuration::FollowedConfiguration;
 use crate::follower::log_change;
@@ -34,6 +34,16 @@ pub struct TextFiles {
     written: Vec<TextFile>,
     /// Whether a file couldn't be written, so that what is there is of an earlier configuration.
     pub(crate) is_behind: bool,
+}
+
+/// Whether a file couldn't be written.
+pub(crate) fn are_behind(files: &Option<TextFiles>) -> bool
+    ensures { result ≡ are_behind files.now }
+{
+    match files {
+        Some(files) => files.is_behind,
+        None => false,
+    }
 }
 
 /// The name of a path's file: `main.conf`, or `anchor` and the names behind a `+` each, which no name has, and `.conf`.
@@ -131,33 +141,39 @@ fn write_new<F: Files>(rt: &F, path: &str, text: &str) -> io::Result<()>
 
 /// Where files are written and renamed.
 pub(crate) trait Folders {
-    // these bytes were written into a new file at this path
-    ghost is_written: { Self → (path bytes : List ℕ) → Type 0 };
+    // the file at this path has this text
+    ghost has: { Self → (path text : List ℕ) → Type 0 };
 
-    // a file was renamed from one path to another
-    ghost is_renamed: { Self → (from to : List ℕ) → Type 0 };
+    // by renaming a file from one path to another the first became the second
+    ghost is_renamed: { (old new : Self) → (from to : List ℕ) → Type 0 };
 
     /// Writes a new file, as [`write_new`] does.
-    fn write_file(&self, path: &str, text: &str) -> io::Result<()>
-        ensures { OnOk result (is_written self.now path.now text.now) };
+    fn write_file(&mut self, path: &str, text: &str) -> io::Result<()>
+        ensures { OnOk result (has self.new path.now text.now) };
 
     /// Renames a file.
-    fn rename(&self, from: &str, to: &str) -> io::Result<()>
-        ensures { OnOk result (is_renamed self.now from.now to.now) };
+    fn rename(&mut self, from: &str, to: &str) -> io::Result<()>
+        ensures { OnOk result (is_renamed self.old self.new from.now to.now) };
 }
 
-impl<R: Files> Folders for R {
+/// The system's files.
+#[derive(Clone, Copy)]
+pub(crate) struct SystemFiles<'a, R> {
+    pub(crate) rt: &'a R,
+}
+
+impl<R: Files> Folders for SystemFiles<'_, R> {
     // no contract states which file is at a path
-    ghost is_written = { λ _ _ bytes. IsWritten R.File.contents bytes };
+    ghost has = { λ _ _ text. IsWritten R.File.contents text };
 
-    ghost is_renamed = { λ _ _ _. ⊤ };
+    ghost is_renamed = { λ _ _ _ _. ⊤ };
 
-    fn write_file(&self, path: &str, text: &str) -> io::Result<()> {
-        write_new(self, path, text)
+    fn write_file(&mut self, path: &str, text: &str) -> io::Result<()> {
+        write_new(self.rt, path, text)
     }
 
-    fn rename(&self, from: &str, to: &str) -> io::Result<()> {
-        fs::rename(self, from, to)
+    fn rename(&mut self, from: &str, to: &str) -> io::Result<()> {
+        fs::rename(self.rt, from, to)
     }
 }
 
@@ -177,40 +193,40 @@ impl TextFiles {
     /// Writes a file beside its place and renames it, and answers whether that was possible.
     fn put<F: Folders>(
         &self,
-        rt: &F,
+        folders: &mut F,
         alloc: Global,
         name: &str,
         text: &str,
     ) -> Result<bool, AllocError>
         ensures { IfOk result (λ is_put. is_put ≡ true →
-            IsPut (F.is_written rt.now) (F.is_renamed rt.now) (string_bytes self.now.folder) name.now text.now) }
+            IsPut F.has F.is_renamed (string_bytes self.now.folder) name.now text.now folders.new) }
     {
         let folder = self.folder.as_str();
         let place = format!(in alloc; "{folder}/{name}")?;
         let beside = format!(in alloc; "{folder}/.{name}.new")?;
         Ok(
-            rt.write_file(beside.as_str(), text).is_ok()
-                && rt.rename(beside.as_str(), place.as_str()).is_ok(),
+            folders.write_file(beside.as_str(), text).is_ok()
+                && folders.rename(beside.as_str(), place.as_str()).is_ok(),
         )
     }
 
     /// Writes a file unless it is there, and answers whether it does now.
     fn stands<F: Folders>(
         &self,
-        rt: &F,
+        folders: &mut F,
         alloc: Global,
         name: &str,
         text: &str,
     ) -> Result<bool, AllocError>
         ensures { IfOk result (λ is_put.
-            AreWritten (IsPut (F.is_written rt.now) (F.is_renamed rt.now) (string_bytes self.now.folder))
+            AreWritten (WasPut F.has F.is_renamed (string_bytes self.now.folder))
             self.now.written.items → is_put ≡ true →
-            IsPut (F.is_written rt.now) (F.is_renamed rt.now) (string_bytes self.now.folder) name.now text.now) }
+            WasPut F.has F.is_renamed (string_bytes self.now.folder) name.now text.now) }
     {
         if is_written(self.written.as_slice(), name, text) {
             return Ok(true);
         }
-        self.put(rt, alloc, name, text)
+        self.put(folders, alloc, name, text)
     }
 
     /// The files, and empty ones for paths that are gone.
@@ -238,14 +254,14 @@ impl TextFiles {
     /// Writes those files that aren't written so yet, and answers which are there.
     fn put_each<F: Folders>(
         &self,
-        rt: &F,
+        folders: &mut F,
         alloc: Global,
         files: Vec<TextFile>,
     ) -> Result<Vec<TextFile>, AllocError>
         ensures written { IfOk result (λ put.
-            AreWritten (IsPut (F.is_written rt.now) (F.is_renamed rt.now) (string_bytes self.now.folder))
+            AreWritten (WasPut F.has F.is_renamed (string_bytes self.now.folder))
             self.now.written.items →
-            AreWritten (IsPut (F.is_written rt.now) (F.is_renamed rt.now) (string_bytes self.now.folder)) put.items) }
+            AreWritten (WasPut F.has F.is_renamed (string_bytes self.now.folder)) put.items) }
         ensures files { IfOk result (λ put. map file_value put.items ≡ map file_value files.items) }
     {
         let mut put = Vec::new(alloc);
@@ -255,7 +271,7 @@ impl TextFiles {
                 text,
                 is_put: _,
             } = file;
-            let is_put = self.stands(rt, alloc, name.as_str(), text.as_str())?;
+            let is_put = self.stands(folders, alloc, name.as_str(), text.as_str())?;
             put.push(TextFile { name, text, is_put })?;
         }
         Ok(put)
@@ -265,21 +281,21 @@ impl TextFiles {
     /// be.
     fn put_all<F: Folders>(
         &mut self,
-        rt: &F,
+        folders: &mut F,
         alloc: Global,
         files: Vec<TextFile>,
     ) -> Result<bool, AllocError>
         ensures place { self.new.folder ≡ self.old.folder }
-        ensures written { AreWritten (IsPut (F.is_written rt.now) (F.is_renamed rt.now) (string_bytes self.old.folder))
+        ensures written { AreWritten (WasPut F.has F.is_renamed (string_bytes self.old.folder))
             self.old.written.items →
-            AreWritten (IsPut (F.is_written rt.now) (F.is_renamed rt.now) (string_bytes self.old.folder))
+            AreWritten (WasPut F.has F.is_renamed (string_bytes self.old.folder))
             self.new.written.items }
         ensures files { OnOk result (map file_value self.new.written.items
             ≡ with_gone (map file_value files.items) self.old.written.items) }
         ensures whole { IfOk result (λ is_whole. is_whole ≡ list_all is_put self.new.written.items) }
     {
         let files = self.with_gone(alloc, files)?;
-        self.written = self.put_each(rt, alloc, files)?;
+        self.written = self.put_each(folders, alloc, files)?;
         Ok(are_put(self.written.as_slice()))
     }
 
@@ -287,26 +303,22 @@ impl TextFiles {
     /// rulesets don't give the configuration that is said, and the files stay as they are.
     pub(crate) fn write<F: Folders, E: Write>(
         &mut self,
-        rt: &F,
+        folders: &mut F,
         alloc: Global,
         followed: &FollowedConfiguration,
         errors: &mut E,
     ) -> Result<(), AllocError>
         ensures place { self.new.folder ≡ self.old.folder }
-        ensures written { AreWritten (IsPut (F.is_written rt.now) (F.is_renamed rt.now) (string_bytes self.old.folder))
+        ensures written { AreWritten (WasPut F.has F.is_renamed (string_bytes self.old.folder))
             self.old.written.items →
-            AreWritten (IsPut (F.is_written rt.now) (F.is_renamed rt.now) (string_bytes self.old.folder))
+            AreWritten (WasPut F.has F.is_renamed (string_bytes self.old.folder))
             self.new.written.items }
-        ensures behind { OnOk result (
-            ((self.new ≡ self.old) × (AreDoneTo (texts_of followed.now.config) followed.now.config → ⊥))
-            ⊎ ((self.new.is_behind ≡ not (list_all is_put self.new.written.items))
-            × (map file_value self.new.written.items
-            ≡ with_gone (files_of followed.now.config) self.old.written.items))) }
+        ensures files { OnOk result (AreFilesOf followed.now.config self.old self.new) }
     {
         let Some(files) = files_of(alloc, &followed.config)? else {
             return log_change(errors, alloc, followed.position, "refused 91\n");
         };
-        let is_behind = !self.put_all(rt, alloc, files)?;
+        let is_behind = !self.put_all(folders, alloc, files)?;
         if is_behind && !self.is_behind {
             log_change(
                 errors,

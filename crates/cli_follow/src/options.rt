@@ -1,13 +1,12 @@
 //! The subcommand `follow`, as `clap` reads it.
 
-ghost use Rattle.std.specs.Prelude.{◌≡◌, IfOk, false, codes};
+ghost use Rattle.std.specs.Prelude.{◌≡◌, IfOk, false};
 ghost use Rattle.clap.specs.Words.{app_of, rule_of};
 ghost use Rattle.clap.specs.declared.builder.command.Command.TheViews.{out-Command};
-ghost use Rattle.cli_io.specs.Options.{needed_rule};
 ghost use Rattle.cli_follow.specs.Arguments.{turns_rule, with_places, follow_app, pfx_app};
 
 use clap::{Arg, Command, value_parser};
-use cli_io::{flag, valued, with_option};
+use cli_io::{flag, needed, program_with, valued, with_option};
 use std::alloc::{AllocError, Global};
 
 const CONTROL: &str = "The Unix socket at which the node answers operators";
@@ -32,14 +31,6 @@ position written before. First comes the members' guard: what members send each 
 ports passes whatever the rules are, with later fragments, and for IPv6 neighbour discovery and packet too big. A
 control socket that doesn't answer is asked again. Refusals are reported on standard error: after 87 and 88, as for
 check --nft, what was written before remains in force; 89 the file of interfaces and 40 invalid arguments end it.";
-
-/// `--control PATH`
-fn control<'a>(alloc: Global) -> Arg<'a>
-    ensures rule { rule_of result ≡ needed_rule (codes "control") }
-    ensures local { result.global ≡ false }
-{
-    valued(alloc, "control", CONTROL).required(true)
-}
 
 /// `--turns T`
 fn turns<'a>(alloc: Global) -> Arg<'a>
@@ -69,7 +60,7 @@ fn follow_command<'a>(alloc: Global) -> Result<Command<'a>, AllocError>
     let follow = Command::new(alloc, "follow")
         .about("Follows what a node applies, as rules for a kernel")
         .after_help(BELOW);
-    let command = with_option(follow, control(alloc))?;
+    let command = with_option(follow, needed(alloc, "control", CONTROL))?;
     let command = with_places(alloc, command)?;
     with_option(command, turns(alloc))
 }
@@ -78,7 +69,5 @@ fn follow_command<'a>(alloc: Global) -> Result<Command<'a>, AllocError>
 pub(crate) fn command<'a>(alloc: Global) -> Result<Command<'a>, AllocError>
     ensures { IfOk result (λ c. app_of c ≡ pfx_app) }
 {
-    let follow = follow_command(alloc)?;
-    let command = Command::new(alloc, "pfx").subcommand(follow)?;
-    Ok(command.subcommand_required(true))
+    program_with(alloc, follow_command(alloc)?)
 }

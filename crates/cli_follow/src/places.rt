@@ -1,12 +1,12 @@
 //! What is to be written where, by the arguments.
 
-ghost use Rattle.std.specs.Prelude.{◌≡◌, IfOk, IfSome, option_map};
-ghost use Rattle.clap.specs.Words.{found_of, rows_of, first_of};
-ghost use Rattle.cli_follow.specs.Places.{is_given, folder_of, ArePlaces};
+ghost use Rattle.std.specs.Prelude.{◌≡◌, [], IfOk, IfSome, option_map};
+ghost use Rattle.clap.specs.Words.{found_of, rows_of};
+ghost use Rattle.cli_follow.specs.Places.{folder_of, recorded, ArePlaces};
 
 use crate::files::TextFiles;
 use clap::ArgMatches;
-use cli_io::{Shown, Sources};
+use cli_io::{Shown, Sources, has_flag, value_in};
 use cli_nft::{machine_in, read_file};
 use std::alloc::{AllocError, Global};
 use std::fs::{self, Files};
@@ -21,23 +21,6 @@ pub(crate) struct Places {
     pub(crate) is_guarded: bool,
     /// Rulesets for pfctl(8).
     pub(crate) files: Option<TextFiles>,
-}
-
-/// The value of an option.
-pub(crate) fn value_of<'a>(matches: &ArgMatches<'a>, id: &str) -> Option<&'a str>
-    ensures { option_map (λ v. v.now) result ≡ first_of id.now (rows_of (found_of matches.now)) }
-{
-    matches.get_str(id)
-}
-
-/// Whether an option without a value was given.
-fn is_given(matches: &ArgMatches<'_>, id: &str) -> bool
-    ensures { result ≡ is_given (first_of id.now (rows_of (found_of matches.now))) }
-{
-    match value_of(matches, id) {
-        Some(value) => value == "true",
-        None => false,
-    }
 }
 
 /// The text of a file of interfaces; none where it lists none.
@@ -84,7 +67,8 @@ fn log_interfaces<RT: Files, E: Write>(rt: &RT, file: &str, errors: &mut E) {
 
 /// The files in a folder, if one is named.
 fn files_in(alloc: Global, folder: Option<&str>) -> Result<Option<TextFiles>, AllocError>
-    ensures { IfOk result (λ files. folder_of files ≡ option_map (λ f. f.now) folder.entry) }
+    ensures folder { IfOk result (λ files. folder_of files ≡ option_map (λ f. f.now) folder.entry) }
+    ensures none { IfOk result (λ files. recorded files ≡ []) }
 {
     match folder {
         Some(folder) => Ok(Some(TextFiles::new(alloc, folder)?)),
@@ -102,10 +86,10 @@ pub(crate) fn places_for<RT: Files + Sources, E: Write>(
 ) -> Result<Result<Places, u8>, AllocError>
     ensures { IfOk result (λ places. ArePlaces (RT.has rt.now) (rows_of (found_of matches.now)) places) }
 {
-    let files = files_in(alloc, value_of(matches, "pf"))?;
-    let is_guarded = !is_given(matches, "no-member-guard");
-    let Some(file) = value_of(matches, "interfaces") else {
-        if is_given(matches, "nft") || files.is_none() || !is_guarded {
+    let files = files_in(alloc, value_in(matches, "pf"))?;
+    let is_guarded = !has_flag(matches, "no-member-guard");
+    let Some(file) = value_in(matches, "interfaces") else {
+        if has_flag(matches, "nft") || files.is_none() || !is_guarded {
             return Ok(Err(40));
         }
         return Ok(Ok(Places {
@@ -114,7 +98,7 @@ pub(crate) fn places_for<RT: Files + Sources, E: Write>(
             files,
         }));
     };
-    if !is_given(matches, "nft") {
+    if !has_flag(matches, "nft") {
         return Ok(Err(40));
     }
     match interfaces_in(rt, alloc, file)? {

@@ -1,25 +1,26 @@
 //! A run of `follow`.
 
-ghost use Rattle.std.specs.Prelude.{◌≡◌, ◌+◌, ◌⊎◌, ℕ, Err, IfOk, IfErr, codes, map, option_map};
-ghost use Rattle.clap.specs.Words.{found_of, rows_of, one_of, kind_of, subcommand_rows_of};
+ghost use Rattle.std.specs.Prelude.{◌≡◌, ◌+◌, ◌⊎◌, ◌&&◌, ℕ, Err, IfOk, IfErr, OnOk, codes, map, option_map};
+ghost use Rattle.clap.specs.Words.{found_of, rows_of, one_of, kind_of};
 ghost use Rattle.clap.specs.declared.error.kind.ErrorKind.TheVariants.{OutOfMemory};
 ghost use Rattle.cli_io.specs.Written.{IsMisused};
-ghost use Rattle.cli_follow.specs.Arguments.{given_in, given_of};
-ghost use Rattle.cli_follow.specs.Output.{AsksEntries, wanted, Went, Stopped, Ends};
+ghost use Rattle.cli_follow.specs.Arguments.{given_of};
+ghost use Rattle.cli_follow.specs.Files.{WasPut, FilesWritten, FilesWrittenIf, are_behind};
+ghost use Rattle.cli_follow.specs.Output.{AsksEntries, wanted, is_again, Went, Stopped, TurnFiled, Ends};
 ghost use Rattle.cli_follow.specs.inner.Seen.{follower_of, wanted_of, due_in, stage_in, stage_if, Leads, Fails};
 ghost use Rattle.cli_follow.specs.Output as code;
 ghost use Rattle.cli_follow.specs.Places.{AreTurns, IsEnding, IsNoEnding, FollowedTo, FollowedBy};
 ghost use Rattle.cli_follow.specs.Running.{RanOut, Ran};
 
 use crate::control::{Control, ControlSockets};
-use crate::files::TextFiles;
+use crate::files::{Folders, SystemFiles, TextFiles, are_behind};
 use crate::follower::{Due, Follower, WriteFault, is_again};
 use crate::options::command;
-use crate::places::{Places, places_for, value_of};
+use crate::places::{Places, places_for};
 use clap::error::ErrorKind;
 use clap::{ArgMatches, Error};
 use cli_ask::{AskFault, pause};
-use cli_io::{Sources, Status, misused};
+use cli_io::{Sources, Status, given_in, misused, value_in};
 use std::alloc::{AllocError, Global};
 use std::convert::AsStr;
 use std::fs::Files;
@@ -79,29 +80,44 @@ fn ask<C: Control>(
     }
 }
 
-/// Writes rulesets for pfctl(8), where they are wanted; with `is_late` those alone that couldn't be written.
-fn write_texts<RT: Files, E: Write>(
-    rt: &RT,
+/// Writes rulesets for pfctl(8), where they are wanted.
+fn write_texts<F: Folders, E: Write>(
+    folders: &mut F,
     alloc: Global,
-    is_late: bool,
     follower: &Follower,
     files: &mut Option<TextFiles>,
     errors: &mut E,
-) -> Result<(), AllocError> {
+) -> Result<(), AllocError>
+    ensures { OnOk result (FilesWritten (WasPut F.has F.is_renamed)
+        follower.now.followed.config files.old files.new) }
+{
     match files {
-        Some(files) => {
-            if is_late && !files.is_behind {
-                return Ok(());
-            }
-            files.write(rt, alloc, &follower.followed, errors)
-        }
+        Some(files) => files.write(folders, alloc, &follower.followed, errors),
         None => Ok(()),
     }
 }
 
+/// Writes them again where one couldn't be written, in the first of some asks.
+fn write_again<F: Folders, E: Write>(
+    folders: &mut F,
+    alloc: Global,
+    asks: u64,
+    follower: &Follower,
+    files: &mut Option<TextFiles>,
+    errors: &mut E,
+) -> Result<(), AllocError>
+    ensures { OnOk result (FilesWrittenIf (WasPut F.has F.is_renamed)
+        (is_again asks && are_behind files.old) follower.now.followed.config files.old files.new) }
+{
+    if is_again(asks) && are_behind(files) {
+        return write_texts(folders, alloc, follower, files, errors);
+    }
+    Ok(())
+}
+
 /// Asks once, after the given number of asks, and writes what is to be written.
-fn turn<RT: Files, C: Control, W: Write, E: Write>(
-    rt: &RT,
+fn turn<F: Folders, C: Control, W: Write, E: Write>(
+    folders: &mut F,
     alloc: Global,
     control: &mut C,
     asks: u64,
@@ -116,6 +132,12 @@ fn turn<RT: Files, C: Control, W: Write, E: Write>(
     ensures stopped { IfErr result (λ e. Stopped (C.exchanged control.old) (C.exchanged control.new)
         (wanted_of follower.old) (AsksEntries (follower_of asks follower.old))
         (W.contents writer.old) (W.contents writer.new)) }
+    ensures filed { IfOk result (λ d. TurnFiled (C.exchanged control.old) (C.exchanged control.new)
+        (WasPut F.has F.is_renamed) (wanted_of follower.old) (follower_of asks follower.old)
+        (stage_in (follower_of (asks + 1) follower.new) d) files.old files.new) }
+    ensures again { IfOk result (λ d. d ≡ Due.Rest →
+        FilesWrittenIf (WasPut F.has F.is_renamed) (is_again asks && are_behind files.old)
+        follower.new.followed.config files.old files.new) }
     ensures fault { IfErr result (λ e. e ≡ WriteFault.Another → ⊥) }
     ensures status { IfOk result (λ d. d ≡ Due.Status → ⊥) }
     ensures wanted { wanted_of follower.new ≡ wanted_of follower.old }
@@ -125,16 +147,12 @@ fn turn<RT: Files, C: Control, W: Write, E: Write>(
     };
     match due {
         Due::Write => {
-            if write_texts(rt, alloc, false, follower, files, errors).is_err() {
-                return Err(WriteFault::Memory);
-            }
+            write_texts(folders, alloc, follower, files, errors)?;
             follower.write(alloc, writer, errors)?;
             Ok(due)
         }
         Due::Rest => {
-            if is_again(asks) && write_texts(rt, alloc, true, follower, files, errors).is_err() {
-                return Err(WriteFault::Memory);
-            }
+            write_again(folders, alloc, asks, follower, files, errors)?;
             Ok(due)
         }
         _ => Ok(due),
@@ -173,32 +191,32 @@ fn rest<RT: Net, C: Control, E: Write>(
     }
 }
 
-/// Follows a node's log until the output is closed, or entries were asked for so often, or another log is there: what
-/// nft(8) is to load goes to the writer, for the interfaces that a file lists, if there is one, with the members' guard
-/// or without; rulesets for pfctl(8) go into files, where they are wanted. Refusals go to `errors`.
-pub fn follow<RT: Files + Net, C: Control, W: Write, E: Write>(
+/// The loop of [`follow`], wherever files are written.
+pub(crate) fn follow_in<RT: Net, F: Folders, C: Control, W: Write, E: Write>(
     rt: &RT,
+    folders: &mut F,
     alloc: Global,
     control: &mut C,
     turns: u64,
     interfaces: Option<Vec<u8>>,
     is_guarded: bool,
-    files: Option<TextFiles>,
+    first: Option<TextFiles>,
     writer: &mut W,
     errors: &mut E,
 ) -> Result<(), WriteFault>
     ensures { Ends (C.exchanged control.old) (C.exchanged control.new)
-        (wanted (option_map (λ v. v.items) interfaces) is_guarded) turns result
+        (WasPut F.has F.is_renamed)
+        (wanted (option_map (λ v. v.items) interfaces) is_guarded) first turns result
         (W.contents writer.old) (W.contents writer.new) }
 {
     let Ok(mut follower) = Follower::new(alloc, interfaces, is_guarded) else {
         return Err(WriteFault::Memory);
     };
-    let mut files = files;
+    let mut files = first;
     let mut said = None;
     for asks in 0..turns {
         let due = match turn(
-            rt,
+            folders,
             alloc,
             control,
             asks,
@@ -216,6 +234,40 @@ pub fn follow<RT: Files + Net, C: Control, W: Write, E: Write>(
         rest(rt, control, errors, due, &mut said);
     }
     Ok(())
+}
+
+/// Follows a node's log until the output is closed, or entries were asked for so often, or another log is there: what
+/// nft(8) is to load goes to the writer, for the interfaces that a file lists, if there is one, with the members' guard
+/// or without; rulesets for pfctl(8) go into files, where they are wanted. Refusals go to `errors`.
+pub fn follow<RT: Files + Net, C: Control, W: Write, E: Write>(
+    rt: &RT,
+    alloc: Global,
+    control: &mut C,
+    turns: u64,
+    interfaces: Option<Vec<u8>>,
+    is_guarded: bool,
+    files: Option<TextFiles>,
+    writer: &mut W,
+    errors: &mut E,
+) -> Result<(), WriteFault>
+    ensures { Ends (C.exchanged control.old) (C.exchanged control.new)
+        (WasPut ⟦<SystemFiles<'static, RT> as Folders>⟧.has ⟦<SystemFiles<'static, RT> as Folders>⟧.is_renamed)
+        (wanted (option_map (λ v. v.items) interfaces) is_guarded) files turns result
+        (W.contents writer.old) (W.contents writer.new) }
+{
+    let mut folders = SystemFiles { rt };
+    follow_in(
+        rt,
+        &mut folders,
+        alloc,
+        control,
+        turns,
+        interfaces,
+        is_guarded,
+        files,
+        writer,
+        errors,
+    )
 }
 
 /// A refusal by its number, logged on standard error, since what is written goes to nft(8).
@@ -260,8 +312,9 @@ fn closed<E: Write>(errors: &mut E) -> Status
 }
 
 /// Follows the log to these places, and logs on standard error how that ended.
-fn follow_to<RT: Files + Net, C: Control, W: Write, E: Write>(
+fn follow_to<RT: Net, F: Folders, C: Control, W: Write, E: Write>(
     rt: &RT,
+    folders: &mut F,
     alloc: Global,
     control: &mut C,
     turns: u64,
@@ -269,7 +322,8 @@ fn follow_to<RT: Files + Net, C: Control, W: Write, E: Write>(
     writer: &mut W,
     errors: &mut E,
 ) -> Status
-    ensures { FollowedTo (C.exchanged control.old) (C.exchanged control.new) places turns result
+    ensures { FollowedTo (C.exchanged control.old) (C.exchanged control.new)
+        (WasPut F.has F.is_renamed) places turns result
         (W.contents writer.old) (W.contents writer.new) }
 {
     let Places {
@@ -280,8 +334,8 @@ fn follow_to<RT: Files + Net, C: Control, W: Write, E: Write>(
     if interfaces.is_some() && !is_guarded {
         let _logged = errors.write_all(NO_GUARD);
     }
-    let ended = follow(
-        rt, alloc, control, turns, interfaces, is_guarded, files, writer, errors,
+    let ended = follow_in(
+        rt, folders, alloc, control, turns, interfaces, is_guarded, files, writer, errors,
     );
     status_of(ended, errors)
 }
@@ -309,8 +363,9 @@ fn turns_in(matches: &ArgMatches<'_>) -> u64
 }
 
 /// Follows the log at a control socket as the matches ask for.
-fn followed<RT: Files + Net + Sources, C: Control, W: Write, E: Write>(
+fn followed<RT: Files + Net + Sources, F: Folders, C: Control, W: Write, E: Write>(
     rt: &RT,
+    folders: &mut F,
     alloc: Global,
     matches: &ArgMatches<'_>,
     control: &mut C,
@@ -318,12 +373,13 @@ fn followed<RT: Files + Net + Sources, C: Control, W: Write, E: Write>(
     errors: &mut E,
 ) -> Status
     ensures { (turns : ℕ) × (AreTurns (one_of (codes "turns") (rows_of (found_of matches.now))) turns
-        × FollowedBy (C.exchanged control.old) (C.exchanged control.new) (RT.has rt.now)
-        (rows_of (found_of matches.now)) turns result (W.contents writer.old) (W.contents writer.new)) }
+        × FollowedBy (C.exchanged control.old) (C.exchanged control.new)
+        (WasPut F.has F.is_renamed) (RT.has rt.now) (rows_of (found_of matches.now))
+        turns result (W.contents writer.old) (W.contents writer.new)) }
 {
     let turns = turns_in(matches);
     match places_for(rt, alloc, matches, errors) {
-        Ok(Ok(places)) => follow_to(rt, alloc, control, turns, places, writer, errors),
+        Ok(Ok(places)) => follow_to(rt, folders, alloc, control, turns, places, writer, errors),
         Ok(Err(code)) => refused(alloc, code, errors),
         Err(_) => memory(errors),
     }
@@ -347,16 +403,6 @@ fn refuse<W: Write, E: Write>(
     misused(alloc, error, writer)
 }
 
-/// What is given with the subcommand `follow`.
-fn given_in<'m, 'a>(matches: &'m ArgMatches<'a>) -> Option<&'m ArgMatches<'a>>
-    ensures { option_map (λ m. rows_of (found_of m.now)) result ≡ given_in (subcommand_rows_of matches.now) }
-{
-    match matches.subcommand() {
-        Some((name, inner)) => if name == "follow" { Some(inner) } else { None },
-        None => None,
-    }
-}
-
 /// What the subcommand `follow` asks for, the program's name first: the rules of a running node's configuration, whole,
 /// once it has applied a command and each time that what it applies changes them; for nft(8) to the writer, for
 /// pfctl(8) into files. Refusals go to `errors`. The node is the one that `sockets` has at the path of `--control`: for
@@ -376,8 +422,10 @@ pub fn run_follow<
     writer: &mut W,
     errors: &mut E,
 ) -> Status
-    ensures { Ran (C.answers_at sockets.now) C.Peer.exchanged (RT.has rt.now) (given_of (map S.text arguments.now))
-        result (W.contents writer.old) (W.contents writer.new) }
+    ensures { Ran (C.answers_at sockets.now) C.Peer.exchanged
+        (WasPut ⟦<SystemFiles<'static, RT> as Folders>⟧.has ⟦<SystemFiles<'static, RT> as Folders>⟧.is_renamed)
+        (RT.has rt.now)
+        (given_of (map S.text arguments.now)) result (W.contents writer.old) (W.contents writer.new) }
 {
     let Ok(command) = command(alloc) else {
         return memory(errors);
@@ -386,12 +434,13 @@ pub fn run_follow<
         Ok(matches) => matches,
         Err(error) => return refuse(alloc, &error, writer, errors),
     };
-    let Some(inner) = given_in(&matches) else {
+    let Some(inner) = given_in(&matches, "follow") else {
         return Status::Usage;
     };
-    let Some(path) = value_of(inner, "control") else {
+    let Some(path) = value_in(inner, "control") else {
         return refused(alloc, 40, errors);
     };
     let mut peer = sockets.peer_at(path);
-    followed(rt, alloc, inner, &mut peer, writer, errors)
+    let mut folders = SystemFiles { rt };
+    followed(rt, &mut folders, alloc, inner, &mut peer, writer, errors)
 }

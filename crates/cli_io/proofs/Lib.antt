@@ -1,1 +1,4 @@
+pub mod Digits
 pub mod Fronts
+pub mod Given
+pub mod Rules

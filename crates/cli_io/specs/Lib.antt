@@ -1,4 +1,6 @@
 pub mod Options
+pub mod Numbers
+pub mod Given
 pub mod Status
 pub mod Written
 pub mod Shown

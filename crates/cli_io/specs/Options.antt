@@ -1,8 +1,8 @@
 -- The options of subcommands, as `clap` has them.
-use Rattle.std.specs.Prelude.{ℕ, true, Some}
+use Rattle.std.specs.Prelude.{ℕ, true, Some, pos}
 use Rattle.clap.specs.Words.{Rule, Text, new_rule}
 use Rattle.clap.specs.declared.builder.action.ArgAction.TheVariants.{Set, SetTrue}
-use Rattle.clap.specs.declared.builder.value_parser.ValueParser.TheVariants.{Unsigned}
+use Rattle.clap.specs.declared.builder.value_parser.ValueParser.TheVariants.{Signed, Unsigned}
 
 -- --NAME
 abbrev pub flag_rule : Text → Rule
@@ -19,3 +19,10 @@ needed_rule name = record (value_rule name) { required = true }
 -- --NAME N, from one number up to another
 abbrev pub number_rule : Text → (least most : ℕ) → Rule
 number_rule name least most = record (value_rule name) { parser = Some (Unsigned least most) }
+
+-- --NAME N, of 8 and of 32 bits
+abbrev pub u8_rule : Text → Rule
+u8_rule name = record (value_rule name) { parser = Some (Signed (pos 0) (pos 255)) }
+
+abbrev pub u32_rule : Text → Rule
+u32_rule name = record (value_rule name) { parser = Some (Signed (pos 0) (pos 4294967295)) }

@@ -14,3 +14,9 @@ IsText has input name text = (bytes_eq name (codes "-") ≡ true → IfSome inpu
 abbrev pub IsNamed : (named : Option (List ℕ)) → (is_text : (name text : List ℕ) → Type 0) → (text : List ℕ) → Type 0
 IsNamed None is_text text = text ≡ []
 IsNamed (Some name) is_text text = is_text name text
+
+-- bytes, where there are any, are what the file at this path has; without a path there are none
+abbrev pub IsAt : (has : (path text : List ℕ) → Type 0) → (path text : Option (List ℕ)) → Type 0
+IsAt has path None = Unit {0}
+IsAt has None (Some text) = ⊥
+IsAt has (Some path) (Some text) = has path text

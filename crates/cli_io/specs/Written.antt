@@ -22,3 +22,9 @@ IsMisused Refused old new = ⊥
 IsMisused Usage old new = Unit {0}
 IsMisused Memory old new = Appends old new (line (codes "memory"))
 IsMisused Failed old new = Unit {0}
+
+-- a run was out of memory, and wrote that, or a front of it where a write failed
+abbrev pub RanOut : Status → (old new : Option (List ℕ)) → Type 0
+RanOut Memory old new = Appends old new (line (codes "memory"))
+RanOut Failed old new = AppendsFront old new (line (codes "memory"))
+RanOut ending old new = ⊥

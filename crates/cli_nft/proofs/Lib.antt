@@ -1,4 +1,3 @@
 pub mod LinesCut
 pub mod Writing
 pub mod Joining
-mod Positions

@@ -1,19 +1,15 @@
 -- The arguments `check --nft`, and which members they name.
-use Rattle.std.specs.Prelude.{◌≡◌, ◌<◌, ◌^◌, ℕ, true, List, [], ◌∷◌, Option, Some, None, length, nat_lt, codes}
-use Rattle.std.specs.Prelude.{bytes_eq}
-use Rattle.std.specs.Prelude.{unwrap_or, if◌then◌else◌, pos}
-use Rattle.std.specs.Str.Parse.{IsNumeral, digits_value, without_leading_plus}
-use Rattle.clap.specs.Words.{App, Row, Rule, Text, new_app, new_rule, with_rule, with_subcommand, subcommand_of}
-use Rattle.clap.specs.Words.{all_of, one_of}
-use Rattle.clap.specs.Faults.{fault_of}
-use Rattle.clap.specs.Kinds.{Kinds}
+use Rattle.std.specs.Prelude.{ℕ, List, [], ◌∷◌, Option, Some, None, length, nat_lt, codes}
+use Rattle.std.specs.Prelude.{unwrap_or, if◌then◌else◌}
+use Rattle.clap.specs.Words.{App, Row, Rule, Text, new_app, new_rule, with_rule, all_of}
 use Rattle.clap.specs.declared.builder.action.ArgAction.TheVariants.{Append}
-use Rattle.clap.specs.declared.builder.value_parser.ValueParser.TheVariants.{Signed}
 use Rattle.clap.specs.Lexer.{usize_max}
 use Rattle.node_udp.specs.declared.address.Address.{Address}
 use Rattle.node_udp.specs.Addresses.{address_of}
 use Rattle.nft_rules.specs.declared.guard.Member.{Member}
-use Rattle.cli_io.specs.Options.{flag_rule, needed_rule, value_rule}
+use Rattle.cli_io.specs.Given.{program_of, given_with}
+use Rattle.cli_io.specs.Numbers.{number_at}
+use Rattle.cli_io.specs.Options.{flag_rule, needed_rule, u32_rule}
 use Rattle.cli_nft.specs.declared.members.TheConstants.{MEMBERS_MAX}
 
 -- ---- members
@@ -47,10 +43,6 @@ several_rule id = record (new_rule id) {
   range = Some (record { start_inclusive = 1; end_inclusive = usize_max });
 }
 
--- --NAME N, of 32 bits
-abbrev pub u32_rule : Text → Rule
-u32_rule id = record (value_rule id) { parser = Some (Signed (pos 0) (pos 4294967295)) }
-
 -- check --nft --interfaces FILE [--members ADDRESS:PORT..] [--position N]
 abbrev pub check_app : App
 check_app =
@@ -60,42 +52,18 @@ check_app =
 
 -- the program with this subcommand, which has to be given
 abbrev pub nft_app : App
-nft_app =
-    let app = with_subcommand (new_app (codes "pfx")) check_app.top in
-    record app { top = record app.top { subcommand_required = true } }
-
--- what is given with the subcommand `check`
-abbrev pub given_in : Option (Text × List Row) → Option (List Row)
-given_in None = None
-given_in (Some (name, rows)) = if bytes_eq name (codes "check") then Some rows else None
-
--- the same, none where the arguments have a fault
-abbrev pub unless_faulty : Kinds → Option (List Row) → Option (List Row)
-unless_faulty [] rows = rows
-unless_faulty (k ∷ ks) rows = None
+nft_app = program_of check_app
 
 -- what is given with `check --nft`, the program's name first; none where the arguments aren't understood
 -- Example: of `pfx check --nft` none, since `--interfaces` is missing.
-unfoldable pub given_of : (arguments : List Text) → Option (List Row)
-given_of arguments = unless_faulty (fault_of nft_app arguments) (given_in (subcommand_of nft_app arguments))
+abbrev pub given_of : (arguments : List Text) → Option (List Row)
+given_of arguments = given_with nft_app (codes "check") arguments
 
 -- the members that are given; without --members there are none; none where they are no members of a cluster
 abbrev pub members_named : List Row → Option (List Member)
 members_named rows = members_in (unwrap_or (all_of (codes "members") rows) [])
 
--- ---- the position
-
--- a number of 32 bits that a string spells, where a plus may be first
-abbrev pub IsSpelled : Text → ℕ → Type 0
-IsSpelled text n = IsNumeral 10 (without_leading_plus text) → digits_value 10 (without_leading_plus text) < 2 ^ 32
-    → n ≡ digits_value 10 (without_leading_plus text)
-
--- the position that a string spells, 0 without one
+-- the position that is given, 0 without one
 -- Source: pfx(8), check. Example: --position 3 is 3.
-abbrev pub IsPosition : Option Text → ℕ → Type 0
-IsPosition None n = n ≡ 0
-IsPosition (Some text) n = IsSpelled text n
-
--- the position that is given
-abbrev pub IsPositionOf : List Row → ℕ → Type 0
-IsPositionOf rows n = IsPosition (one_of (codes "position") rows) n
+abbrev pub position_named : List Row → ℕ
+position_named rows = unwrap_or (number_at rows (codes "position")) 0

@@ -1,10 +1,12 @@
 -- Which arguments ask for what nft(8) loads, and what a run has done.
-use Rattle.std.specs.Prelude.{◌≡◌, ◌⊎◌, ℕ, Bool, true, false, ◌&&◌, List, [], ◌∷◌, Option, None, Some, IfSome, bytes_eq, codes}
+use Rattle.std.specs.Prelude.{◌≡◌, ◌⊎◌, ℕ, Bool, true, false, ◌&&◌, List, [], ◌∷◌, Option, None, Some, IfSome}
+use Rattle.std.specs.Prelude.{bytes_eq, codes}
 use Rattle.std.specs.List.{list_any}
 use Rattle.std.specs.Io.KnownBytes.{Appends}
-use Rattle.clap.specs.Words.{Row}
-use Rattle.cli_io.specs.Written.{line, AppendsFront, IsMisused}
-use Rattle.cli_nft.specs.Options.{members_named, IsPositionOf}
+use Rattle.clap.specs.Words.{Row, Text, first_of}
+use Rattle.cli_io.specs.Sources.{IsAt}
+use Rattle.cli_io.specs.Written.{line, AppendsFront, IsMisused, RanOut}
+use Rattle.cli_nft.specs.Options.{members_named, position_named}
 use Rattle.cli_nft.specs.Outputs.{output}
 use Rattle.nft_rules.specs.declared.guard.Member.{Member}
 use Rattle.cli_io.specs.declared.status.Status.{Status}
@@ -14,7 +16,8 @@ use Rattle.cli_io.specs.declared.status.Status.TheVariants as status
 abbrev pub asks_nft : List (List ℕ) → Bool
 asks_nft [] = false
 asks_nft (name ∷ []) = false
-asks_nft (name ∷ argument ∷ arguments) = bytes_eq argument (codes "check") && list_any (λ w. bytes_eq w (codes "--nft")) arguments
+asks_nft (name ∷ argument ∷ arguments) =
+    bytes_eq argument (codes "check") && list_any (λ w. bytes_eq w (codes "--nft")) arguments
 
 -- What a run that ended so has written, of this file of interfaces, these members, this position and this input. When
 -- out of memory it wrote that alone; a run that failed wrote a front of either, and nothing where the input wasn't
@@ -30,21 +33,17 @@ Wrote file ms position status.Memory input old new = Appends old new (line (code
 Wrote file ms position status.Failed input old new = AppendsFront old new (line (codes "memory"))
     ⊎ IfSome input (λ bytes. AppendsFront old new (output file ms position bytes).text)
 
--- a run that ended so was out of memory, and wrote that or a front of it
-abbrev pub RanOut : Status → (old new : Option (List ℕ)) → Type 0
-RanOut status.Memory old new = Appends old new (line (codes "memory"))
-RanOut status.Failed old new = AppendsFront old new (line (codes "memory"))
-RanOut ending old new = ⊥
-
--- a run for the members and the position that are given, and for some file of interfaces
-pub record Answered (rows : List Row) (ending : Status) (input old new : Option (List ℕ)) : Type 0 where
+-- A run for the members and the position that are given, and for the interfaces that the file has at the path of
+-- `--interfaces`; none where it can't be read.
+pub record Answered (has : (path text : Text) → Type 0) (rows : List Row) (ending : Status)
+    (input old new : Option (List ℕ)) : Type 0 where
   pub file : Option (List ℕ)
-  pub position : ℕ
-  pub at : IsPositionOf rows position
-  pub wrote : Wrote file (members_named rows) position ending input old new
+  pub there : IsAt has (first_of (codes "interfaces") rows) file
+  pub wrote : Wrote file (members_named rows) (position_named rows) ending input old new
 
 -- What a run did that ended so, by what is given with `check --nft`. It is misused only where that is none: arguments
 -- that aren't understood. Else it answered, or was out of memory.
-abbrev pub Ran : (given : Option (List Row)) → Status → (input old new : Option (List ℕ)) → Type 0
-Ran None ending input old new = IsMisused ending old new
-Ran (Some rows) ending input old new = RanOut ending old new ⊎ Answered rows ending input old new
+abbrev pub Ran : (has : (path text : Text) → Type 0) → (given : Option (List Row)) → Status →
+    (input old new : Option (List ℕ)) → Type 0
+Ran has None ending input old new = IsMisused ending old new
+Ran has (Some rows) ending input old new = RanOut ending old new ⊎ Answered has rows ending input old new

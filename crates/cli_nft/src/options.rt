@@ -3,11 +3,11 @@
 ghost use Rattle.std.specs.Prelude.{◌≡◌, IfOk, false, codes};
 ghost use Rattle.clap.specs.Words.{app_of, rule_of};
 ghost use Rattle.clap.specs.declared.builder.command.Command.TheViews.{out-Command};
-ghost use Rattle.cli_io.specs.Options.{needed_rule};
-ghost use Rattle.cli_nft.specs.Options.{several_rule, u32_rule, check_app, nft_app};
+ghost use Rattle.cli_nft.specs.Options.{several_rule, check_app, nft_app};
+ghost use Rattle.cli_io.specs.Options.{u32_rule};
 
 use clap::{Arg, ArgAction, Command, value_parser};
-use cli_io::{flag, valued, with_option};
+use cli_io::{flag, needed, program_with, valued, with_option};
 use std::alloc::{AllocError, Global};
 
 const NFT: &str = "As nft(8) loads it";
@@ -26,14 +26,6 @@ sets and chains. Never use a position for two rulesets; with another members' gu
 those of check, and
   40 a member is no ADDRESS:PORT, or there are more than 15
   87 an anchor contains itself   88 a packet would meet more than 100000 rules   89 the file of interfaces";
-
-/// `--interfaces FILE`
-fn interfaces<'a>(alloc: Global) -> Arg<'a>
-    ensures rule { rule_of result ≡ needed_rule (codes "interfaces") }
-    ensures local { result.global ≡ false }
-{
-    valued(alloc, "interfaces", INTERFACES).required(true)
-}
 
 /// `--members ADDRESS:PORT..`
 fn members<'a>(alloc: Global) -> Arg<'a>
@@ -64,7 +56,7 @@ fn check_command<'a>(alloc: Global) -> Result<Command<'a>, AllocError>
         .about("Prints a ruleset as nft(8) loads it on a machine")
         .after_help(BELOW);
     let command = with_option(command, flag(alloc, "nft", NFT))?;
-    let command = with_option(command, interfaces(alloc))?;
+    let command = with_option(command, needed(alloc, "interfaces", INTERFACES))?;
     let command = with_option(command, members(alloc))?;
     with_option(command, position(alloc))
 }
@@ -73,7 +65,5 @@ fn check_command<'a>(alloc: Global) -> Result<Command<'a>, AllocError>
 pub(crate) fn command<'a>(alloc: Global) -> Result<Command<'a>, AllocError>
     ensures { IfOk result (λ c. app_of c ≡ nft_app) }
 {
-    let check = check_command(alloc)?;
-    let command = Command::new(alloc, "pfx").subcommand(check)?;
-    Ok(command.subcommand_required(true))
+    program_with(alloc, check_command(alloc)?)
 }

@@ -2,8 +2,9 @@
 
 ghost use Rattle.std.specs.Prelude.{◌≡◌, IfOk, IfSome, map, option_map, bytes_eq, codes};
 ghost use Rattle.std.specs.List.{list_any};
-ghost use Rattle.clap.specs.Words.{found_of, rows_of, one_of, subcommand_rows_of};
-ghost use Rattle.cli_nft.specs.Options.{IsPosition, given_in, given_of, members_named};
+ghost use Rattle.clap.specs.Words.{found_of, rows_of, first_of};
+ghost use Rattle.cli_io.specs.Sources.{IsAt};
+ghost use Rattle.cli_nft.specs.Options.{given_of, members_named, position_named};
 ghost use Rattle.cli_nft.specs.Running.{asks_nft, Wrote, Ran};
 
 use crate::members::members_in;
@@ -11,7 +12,8 @@ use crate::options::command;
 use crate::outputs::nft_output;
 use clap::ArgMatches;
 use cli_io::{
-    InputFault, Sources, Status, misused, out_of_memory, read_all, values_in, write_bytes,
+    InputFault, Sources, Status, given_in, misused, number_in, out_of_memory, read_all, value_in,
+    values_in, write_bytes,
 };
 use nft_rules::Member;
 use std::alloc::{AllocError, Global};
@@ -40,31 +42,24 @@ pub fn asks_nft<S: AsStr>(arguments: &[S]) -> bool
     }
 }
 
-/// The position that the arguments of a subcommand name, 0 if they name none. `clap` has refused what is no number.
+/// The position that is given, 0 without one.
 fn position_in(inner: &ArgMatches<'_>) -> u32
-    ensures { IsPosition (one_of (codes "position") (rows_of (found_of inner.now))) result }
+    ensures { result ≡ position_named (rows_of (found_of inner.now)) }
 {
-    inner.get_one::<u32>("position").unwrap_or(0)
-}
-
-/// What is given with the subcommand `check`.
-fn given_in<'m, 'a>(matches: &'m ArgMatches<'a>) -> Option<&'m ArgMatches<'a>>
-    ensures { option_map (λ m. rows_of (found_of m.now)) result ≡ given_in (subcommand_rows_of matches.now) }
-{
-    match matches.subcommand() {
-        Some((name, inner)) => if name == "check" { Some(inner) } else { None },
-        None => None,
-    }
+    number_in(inner, "position").unwrap_or(0)
 }
 
 /// The text of the file of interfaces, none where it can't be read.
-fn interfaces_in(
-    rt: &HostRuntime,
+fn interfaces_in<T: Sources>(
+    sources: &T,
     alloc: Global,
     inner: &ArgMatches<'_>,
-) -> Result<Option<Vec<u8>>, AllocError> {
-    match inner.get_str("interfaces") {
-        Some(path) => read_file(rt, alloc, path),
+) -> Result<Option<Vec<u8>>, AllocError>
+    ensures { IfOk result (λ text. IsAt (T.has sources.now)
+        (first_of (codes "interfaces") (rows_of (found_of inner.now))) (option_map (λ v. v.items) text)) }
+{
+    match value_in(inner, "interfaces") {
+        Some(path) => read_file(sources, alloc, path),
         None => Ok(None),
     }
 }
@@ -131,18 +126,18 @@ fn answer<R: Read, W: Write>(
     }
 }
 
-/// What the arguments `check --nft --interfaces FILE [--members ADDRESS:PORT..]` ask for, the program's name first,
-/// over this input and output: the ruleset's rules behind the guard of these members as three lines for nft(8), or a
-/// refusal. Other arguments are refused.
-pub fn run_nft<S: AsStr, R: Read, W: Write>(
-    rt: &HostRuntime,
+/// What the arguments `check --nft --interfaces FILE [--members ADDRESS:PORT..] [--position N]` ask for, the program's
+/// name first, over this input and output: the ruleset's rules behind the guard of these members as three lines for
+/// nft(8), or a refusal. Other arguments are refused.
+pub fn run_nft<T: Sources, S: AsStr, R: Read, W: Write>(
+    sources: &T,
     alloc: Global,
     arguments: &[S],
     reader: &mut R,
     writer: &mut W,
 ) -> Status
-    ensures { Ran (given_of (map S.text arguments.now)) result (R.remaining reader.old) (W.contents writer.old)
-        (W.contents writer.new) }
+    ensures { Ran (T.has sources.now) (given_of (map S.text arguments.now)) result (R.remaining reader.old)
+        (W.contents writer.old) (W.contents writer.new) }
 {
     let Ok(command) = command(alloc) else {
         return out_of_memory(writer);
@@ -151,14 +146,14 @@ pub fn run_nft<S: AsStr, R: Read, W: Write>(
         Ok(matches) => matches,
         Err(error) => return misused(alloc, &error, writer),
     };
-    let Some(inner) = given_in(&matches) else {
+    let Some(inner) = given_in(&matches, "check") else {
         return Status::Usage;
     };
     let Ok(members) = members_of(alloc, inner) else {
         return out_of_memory(writer);
     };
     let (named, position) = (lent(&members), position_in(inner));
-    match interfaces_in(rt, alloc, inner) {
+    match interfaces_in(sources, alloc, inner) {
         Ok(Some(text)) => answer(alloc, Some(&text), named, position, reader, writer),
         Ok(None) => answer(alloc, None, named, position, reader, writer),
         Err(_) => out_of_memory(writer),

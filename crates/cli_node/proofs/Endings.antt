@@ -287,6 +287,25 @@ both Made p e = absurd (cc)
 both Memory p e = absurd (cc)
 both Unread p e = absurd (cc)
 
+-- nothing is refused of the numbers and of the store
+pub place_sound : (place keys store starts addresses control : Outcome) → checked place keys store starts addresses control ≡ Sound → place ≡ Sound
+place_sound place keys store starts addresses control e = (both place (first_of keys (first_of store (first_of starts (first_of addresses control)))) e).0
+
+pub store_sound : (place keys store starts addresses control : Outcome) → checked place keys store starts addresses control ≡ Sound → store ≡ Sound
+store_sound place keys store starts addresses control e =
+    (both store (first_of starts (first_of addresses control))
+    (both keys (first_of store (first_of starts (first_of addresses control)))
+    (both place (first_of keys (first_of store (first_of starts (first_of addresses control)))) e).1).1).0
+
+-- where the numbers are sound there is a member
+pub member_sound : {X : Type 0} (m : Option X) (place : Outcome) → (m ≡ None → place ≡ Refused 40) → place ≡ Sound → (x : X) × (m ≡ Some x)
+member_sound None place h e = let refused : place ≡ Refused 40 = h refl in cc
+member_sound (Some x) place h e = (x, refl)
+
+pub if_some : {X : Type 0} (m : Option X) (P : X → Type 0) (x : X) → m ≡ Some x → IfSome m P → P x
+if_some None P x e h = cc
+if_some (Some y) P x e h = let same : y ≡ x = cc in subst P same h
+
 -- neither of the keys
 pub keys_sound : (place key other store starts addresses control : Outcome) →
     checked place (first_of key other) store starts addresses control ≡ Sound → (key ≡ Sound) × (other ≡ Sound)

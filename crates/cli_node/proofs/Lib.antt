@@ -5,3 +5,4 @@ pub mod Endings
 pub mod Sealed
 mod Given
 pub mod Settled
+pub mod Commands

@@ -1,2 +1,4 @@
+pub mod Arguments
 pub mod Outcomes
+pub mod Running
 pub mod inner

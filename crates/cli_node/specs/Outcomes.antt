@@ -4,7 +4,7 @@ use Rattle.std.specs.Io.KnownBytes.{Appends}
 use Rattle.cli_files.specs.KeyTexts.{key_text}
 use Rattle.cli_io.specs.declared.status.Status.{Status}
 use Rattle.cli_io.specs.declared.status.Status.TheVariants as status
-use Rattle.cli_io.specs.Written.{line, AppendsFront}
+use Rattle.cli_io.specs.Written.{line, AppendsFront, IsMisused}
 use Rattle.cli_node.specs.declared.outcome.Outcome.{Outcome}
 use Rattle.cli_node.specs.declared.outcome.Outcome.TheVariants.{Front, Stopped, Asked, Key, Refused, RefusedLine}
 use Rattle.cli_node.specs.declared.outcome.Outcome.TheVariants.{NoAnswer, Sound, Made, Memory, Unread}
@@ -44,11 +44,7 @@ Wrote status.Failed outcome old new =
     AppendsFront old new (line (codes "memory")) ⊎ AppendsFront old new (line_of outcome)
 Wrote ending outcome old new = (ending ≡ status_of outcome) × Appends old new (line_of outcome)
 
--- a run with an outcome wrote it; without one the arguments weren't understood, or it was out of memory
-abbrev pub Ran : Status → Option Outcome → Option (List ℕ) → Option (List ℕ) → Type 0
-Ran ending (Some outcome) old new = Wrote ending outcome old new
-Ran status.Done None old new = ⊥
-Ran status.Refused None old new = ⊥
-Ran status.Usage None old new = Unit {0}
-Ran status.Memory None old new = Appends old new (line (codes "memory"))
-Ran status.Failed None old new = Unit {0}
+-- a run with an outcome wrote it; without one the arguments weren't understood
+abbrev pub Ends : Status → Option Outcome → (old new : Option (List ℕ)) → Type 0
+Ends ending (Some outcome) old new = Wrote ending outcome old new
+Ends ending None old new = IsMisused ending old new

@@ -3,9 +3,7 @@
 ghost use Rattle.std.specs.Prelude.{◌≡◌, ◌<◌, ◌⊎◌, ◌↔◌, ℕ, List, [], ◌∷◌, Ok, false, IfSome, IfOk, IfErr};
 ghost use Rattle.std.specs.Prelude.{IsSome, IsTrue};
 ghost use Rattle.std.specs.Prelude.{codes, option_map};
-ghost use Rattle.pf_entry.specs.declared.command.Command.{Command};
-ghost use Rattle.px_wire.specs.declared.membership.Membership.{Membership};
-ghost use Rattle.clap.specs.Words.{first_value, found_of, rows_of};
+ghost use Rattle.clap.specs.Words.{found_of, rows_of};
 ghost use Rattle.pf_entry.specs.Owned.{command_value};
 ghost use Rattle.pf_arguments.specs.Asked.{asked, given_in, Change};
 ghost use Rattle.node_udp.specs.Addresses.{AreFound};
@@ -13,12 +11,13 @@ ghost use Rattle.node_udp.specs.Members.{me_of, peers_of};
 ghost use Rattle.cli_node.specs.declared.outcome.Outcome.TheVariants.{Refused};
 ghost use Rattle.cli_node.specs.inner.Places.{has_place, waits_of};
 ghost use Rattle.cli_io.specs.Sources.{IsNamed, IsText};
-ghost use Rattle.cli_node.specs.inner.Asked.{IsAsked, IsUnasked};
+ghost use Rattle.cli_io.specs.Numbers.{number_at};
+ghost use Rattle.cli_node.specs.inner.Asked.{AreAskArguments, AsksOver, IsAsked, IsUnasked};
 ghost use Rattle.cli_node.specs.declared.ask.TheConstants.{CLIENT};
 
 use crate::outcome::{Outcome, answer_outcome, fault_outcome};
 use clap::ArgMatches;
-use cli_io::{InputFault, Sources, source_named};
+use cli_io::{InputFault, Sources, number_in, source_named, value_in};
 use node_udp::{BindFault, Membership, UdpWire, ask_once};
 use pf_arguments::{Action, Command, from_matches};
 use px_transport::Wire;
@@ -34,7 +33,7 @@ const WAIT_MS: u32 = 200;
 
 /// The arguments of `ask` of its own.
 #[derive(Clone, Copy)]
-pub(crate) struct AskArguments<'a> {
+pub struct AskArguments<'a> {
     /// Where the node listens.
     pub(crate) to: &'a str,
     pub(crate) cluster: u32,
@@ -46,29 +45,50 @@ pub(crate) struct AskArguments<'a> {
     pub(crate) waits: u32,
 }
 
-/// How many waits a number of seconds is, one at least; without a number there are five.
-fn waits_of(seconds: Option<u16>) -> u32
-    ensures { result ≡ waits_of seconds }
+/// The number of waits for `--wait`: five a second, one at least; five where it isn't given.
+fn waits_in(matches: &ArgMatches<'_>) -> Option<u32>
+    ensures { IfSome result (λ n. n ≡ waits_of (number_at (rows_of (found_of matches.now)) (codes "wait"))) }
 {
-    match seconds {
-        Some(seconds) => (5 * u32::from(seconds)).max(1),
-        None => 5,
+    match number_in(matches, "wait") {
+        Some(seconds) => match u16::try_from(seconds) {
+            Ok(seconds) => Some((5 * u32::from(seconds)).max(1)),
+            Err(_) => None,
+        },
+        None => Some(5),
+    }
+}
+
+/// The number of 8 bits that an option has.
+fn small_in(matches: &ArgMatches<'_>, id: &str) -> Option<u8>
+    ensures { IfSome result (λ n. number_at (rows_of (found_of matches.now)) id.now ≡ Some n) }
+{
+    match number_in(matches, id) {
+        Some(number) => match u8::try_from(number) {
+            Ok(number) => Some(number),
+            Err(_) => None,
+        },
+        None => None,
     }
 }
 
 impl<'a> AskArguments<'a> {
     /// What the matches give. `clap` has refused numbers out of range and arguments that are missing.
-    pub(crate) fn of(matches: &ArgMatches<'a>) -> Option<AskArguments<'a>> {
-        let Some(to) = matches.get_str("to") else {
+    pub(crate) fn of(matches: &ArgMatches<'a>) -> Option<AskArguments<'a>>
+        ensures { IfSome result (AreAskArguments (rows_of (found_of matches.now))) }
+    {
+        let Some(to) = value_in(matches, "to") else {
             return None;
         };
-        let Some(cluster) = matches.get_one::<u32>("cluster") else {
+        let Some(cluster) = number_in(matches, "cluster") else {
             return None;
         };
-        let Some(members) = matches.get_one::<u8>("members") else {
+        let Some(members) = small_in(matches, "members") else {
             return None;
         };
-        let Some(node) = matches.get_one::<u8>("node") else {
+        let Some(node) = small_in(matches, "node") else {
+            return None;
+        };
+        let Some(waits) = waits_in(matches) else {
             return None;
         };
         Some(AskArguments {
@@ -76,7 +96,7 @@ impl<'a> AskArguments<'a> {
             cluster,
             members,
             node,
-            waits: waits_of(matches.get_one::<u16>("wait")),
+            waits,
         })
     }
 }
@@ -132,7 +152,7 @@ fn change_in(alloc: Global, matches: &ArgMatches<'_>, text: &[u8]) -> Result<Com
 }
 
 /// Who makes a client's wire, once.
-pub(crate) trait Client {
+pub trait Client {
     type Wire: Wire + Drop;
 
     // this wire reaches who listens at this address
@@ -198,13 +218,8 @@ pub(crate) fn ask_outcome<T: Sources, C: Client + Drop, R: Read>(
     reader: &mut R,
 ) -> Outcome
     ensures place { has_place arguments.entry.node arguments.entry.members ≡ false → result ≡ Refused 40 }
-    ensures asked { IsUnasked result ⊎ ((m : Membership) × (text : List ℕ) × (command : Command) × (w : C.Wire) ×
-        (back : C.Wire) × (m.cluster ≡ arguments.entry.cluster) × (m.members ≡ arguments.entry.members) ×
-        IsNamed (first_value (found_of matches.now) (codes "file"))
-        (IsText (T.has sources.now) (R.remaining reader.old)) text ×
-        (asked (given_in (rows_of (found_of matches.now))) text ≡ Ok (Change (command_value command))) ×
-        C.reaches client arguments.entry.to.now w ×
-        IsAsked C.Wire.traffic w back m arguments.entry.node arguments.entry.waits command result) }
+    ensures asked { IsUnasked result ⊎ AsksOver C.Wire.traffic (C.reaches client)
+        (IsText (T.has sources.now) (R.remaining reader.old)) matches.now arguments.entry result }
 {
     let Some(m) = membership(arguments) else {
         return Outcome::Refused(40);

@@ -1,7 +1,8 @@
 //! The subcommand `node` with `--check`: whether a node could be started. Nothing is changed: a socket that is made to
 //! try that is removed.
 
-ghost use Rattle.std.specs.Prelude.{◌≡◌, ◌⊎◌, ℕ, Bool, List, Option, Err, None, false, length, map, option_map, OnErr};
+ghost use Rattle.std.specs.Prelude.{◌≡◌, ◌⊎◌, ℕ, Bool, List, Option, Err, None, Some, false, length, map, option_map};
+ghost use Rattle.std.specs.Prelude.{IfSome, OnErr};
 ghost use Rattle.sqlite.specs.Held.{state};
 ghost use Rattle.sqlite.specs.State.{HasCleanDisk};
 ghost use Rattle.px_store.specs.Adopting.{Began, LeavesOld};
@@ -12,9 +13,11 @@ ghost use Rattle.cli_node.specs.declared.outcome.Outcome.TheVariants.{Memory, Re
 ghost use Rattle.cli_node.specs.inner.Outcomes.{checked, first_of};
 ghost use Rattle.cli_node.specs.inner.Places.{has_place};
 ghost use Rattle.cli_node.specs.inner.Secrets.{IsNamed};
-ghost use Rattle.cli_node.specs.inner.Stores.{IsStoreless, identity_at};
+ghost use Rattle.px_wire.specs.declared.membership.Membership.{Membership};
+ghost use Rattle.cli_node.specs.declared.store.Found.{Found};
+ghost use Rattle.cli_node.specs.inner.Stores.{IsFit, IsFoundAt, IsSoundAt, IsStoreless, identity_at};
 
-use crate::database::Inspection;
+use crate::database::{Databases, Inspection};
 use crate::faults::{log_closed, log_metrics, log_place, log_storeless, log_unknown};
 use crate::files::NodeFiles;
 use crate::key::key_in;
@@ -26,9 +29,10 @@ use crate::store::{Found, Opening, failed_outcome, found_at, identity_of, openin
 use cli_io::{Shown, open_regular};
 use node_loop::Membership;
 use px_store::{AdoptFault, examine};
-use sqlite::{Alter, Connection, Error, ErrorCode};
+use sqlite::{Alter, Connection, Error, ErrorCode, File, FileStore};
+use sqlite_trees::store::Store;
 use std::alloc::Global;
-use std::fs::{self, Files, OpenFile};
+use std::fs::{Files, OpenFile};
 use std::io::{Eprint, Read};
 
 /// How a database begins.
@@ -110,16 +114,18 @@ fn looked_at<RT: Files + Eprint, I: Inspection>(
     m: Membership,
 ) -> Outcome
     ensures store { (file new : Bool) → IsStoreless file new result }
+    ensures sound { result ≡ Sound → I.is_unseen inspection.old arguments.entry.store.now
+        ⊎ IsSoundAt ⟦<FileStore<File> as Store>⟧ (I.holds inspection.old arguments.entry.store.now) (identity_at m) }
     ensures over { I.is_over inspection.old → I.is_over inspection.new }
 {
-    let Ok(log) = format!(in alloc; "{}-wal", arguments.store) else {
-        return Outcome::Memory;
-    };
     if !is_database(rt, arguments.store) {
         log_closed(rt, arguments.store, &"it isn't a database");
         return Outcome::Refused(70);
     }
-    if !fs::exists(rt, log.as_str()).unwrap_or(false) {
+    let Ok(lacks_log) = inspection.lacks_log(alloc, arguments.store) else {
+        return Outcome::Memory;
+    };
+    if lacks_log {
         let _logged = eprintln!(rt;
             "pfx: info: store {}: its write-ahead log (-wal) is missing, so its contents aren't checked",
             Shown(arguments.store)
@@ -155,6 +161,10 @@ fn of_found<RT: Files + Eprint, I: Inspection>(
     found: Found,
 ) -> Outcome
     ensures store { IsStoreless arguments.entry.is_from_file arguments.entry.is_new result }
+    ensures sound { result ≡ Sound → (owner : Membership) → m ≡ Some owner →
+        IsFit ⟦<FileStore<File> as Store>⟧ (I.is_unseen inspection.old arguments.entry.store.now)
+        (I.holds inspection.old arguments.entry.store.now) arguments.entry.is_from_file arguments.entry.is_new found
+        (identity_at owner) }
     ensures over { I.is_over inspection.old → I.is_over inspection.new }
 {
     match opening_of(arguments.is_from_file, arguments.is_new, found) {
@@ -181,11 +191,25 @@ fn of_store<RT: Files + Eprint, I: Inspection>(
     found: Option<Found>,
 ) -> Outcome
     ensures store { IsStoreless arguments.entry.is_from_file arguments.entry.is_new result }
+    ensures sound { result ≡ Sound → (owner : Membership) → m ≡ Some owner → (f : Found) × ((found ≡ Some f) ×
+        IsFit ⟦<FileStore<File> as Store>⟧ (I.is_unseen inspection.old arguments.entry.store.now)
+        (I.holds inspection.old arguments.entry.store.now) arguments.entry.is_from_file arguments.entry.is_new f
+        (identity_at owner)) }
     ensures over { I.is_over inspection.old → I.is_over inspection.new }
 {
     match found {
         Some(found) => of_found(rt, inspection, alloc, arguments, m, found),
         None => Outcome::Memory,
+    }
+}
+
+/// What is found of the store that the arguments name; none when out of memory.
+fn found_of<D: Databases>(dbs: &D, alloc: Global, path: &str) -> Option<Found>
+    ensures { IfSome result (IsFoundAt (D.is_seen dbs.now) path.now) }
+{
+    match found_at(dbs, alloc, path) {
+        Ok(found) => Some(found),
+        Err(_) => None,
     }
 }
 
@@ -268,9 +292,10 @@ fn of_addresses(rt: &HostRuntime, arguments: NodeArguments<'_, '_, '_>) -> Outco
 /// What a start with these arguments would be refused for, as far as settings, keys, addresses, sockets and store show:
 /// all is logged on standard error, and the first answered, in the order of a start: 40, 83, 93, 94, the store's
 /// refusals, 95, 82, 84.
-pub(crate) fn check_outcome<F: NodeFiles, I: Inspection>(
+pub(crate) fn check_outcome<F: NodeFiles, D: Databases, I: Inspection>(
     rt: &HostRuntime,
     files: &F,
+    dbs: &D,
     inspection: &mut I,
     alloc: Global,
     arguments: NodeArguments<'_, '_, '_>,
@@ -283,13 +308,19 @@ pub(crate) fn check_outcome<F: NodeFiles, I: Inspection>(
     ensures other { result ≡ Sound → (key : Option (List ℕ)) × IsNamed
         (F.makes files.now arguments.entry.cluster (map (λ t. t.now) arguments.entry.members.now))
         (option_map (λ t. t.now) arguments.entry.other_key) key }
+    ensures fit { result ≡ Sound → (m : Membership) × ((f : Found) × ((m.cluster ≡ arguments.entry.cluster) ×
+        ((m.me ≡ arguments.entry.me) × ((m.members ≡ length arguments.entry.members.now) ×
+        (IsFoundAt (D.is_seen dbs.now) arguments.entry.store.now f ×
+        IsFit ⟦<FileStore<File> as Store>⟧ (I.is_unseen inspection.old arguments.entry.store.now)
+        (I.holds inspection.old arguments.entry.store.now) arguments.entry.is_from_file arguments.entry.is_new f
+        (identity_at m)))))) }
     ensures over { I.is_over inspection.old → I.is_over inspection.new }
 {
     let m = membership(arguments);
     let place = of_place(rt, arguments, m);
     let key = of_key(rt, files, alloc, arguments, arguments.key);
     let other = of_key(rt, files, alloc, arguments, arguments.other_key);
-    let found = found_at(rt, alloc, arguments.store).ok();
+    let found = found_of(dbs, alloc, arguments.store);
     let store = of_store(rt, inspection, alloc, arguments, m, found);
     let starts = starts_of(rt, alloc, arguments, m, found);
     let addresses = of_addresses(rt, arguments);

@@ -1,6 +1,6 @@
 //! The database of a node in its file: a new one has small pages.
 
-ghost use Rattle.std.specs.Prelude.{◌≡◌, ⊤, ℕ, Bool, List, [], IsTrue, IfOk, IfErr, Err, codes};
+ghost use Rattle.std.specs.Prelude.{◌≡◌, ⊤, ℕ, Bool, List, [], IsTrue, IfOk, IfErr, Ok, Err, true, codes};
 ghost use Rattle.sqlite_trees.specs.Tree.{Trees};
 ghost use Rattle.sqlite_trees.specs.View.{IsClean};
 ghost use Rattle.sqlite_store.specs.FileStore.{view, is_shielded};
@@ -20,7 +20,7 @@ use sqlite_pool::probe_blank;
 use sqlite_std_file::OpenError as PathError;
 use sqlite_store::{OpenError, Unopened};
 use sqlite_wal::PageSize;
-use std::alloc::Global;
+use std::alloc::{AllocError, Global};
 use std::fs;
 use std::hash::{BuildHasher, RandomState};
 use std::io::ErrorKind;
@@ -261,10 +261,23 @@ pub(crate) trait Inspection {
     // what an open after a stop could find in the one that is open, when it was opened
     ghost could_leave: { Self → Trees → Type 0 };
 
+    // the file at this path has this database, within a transaction or not
+    ghost holds: { Self → (path : List ℕ) → Database → (within : Bool) → Type 0 };
+
+    // the one at this path can't be looked at: a node has it open, or it lacks its log of writes
+    ghost is_unseen: { Self → (path : List ℕ) → Type 0 };
+
+    /// Whether the database in a file lacks its log of writes, which an opening makes.
+    fn lacks_log(&self, alloc: Global, path: &str) -> Result<bool, AllocError>
+        ensures { result ≡ Ok true → is_unseen self.now path.now };
+
     /// Opens the database in a file. Nothing was changed over the connection.
     fn inspect(&mut self, path: &str) -> Result<Connection<FileStore<File>>, Error>
         ensures found { IfOk result (λ c. (db : Trees) → (file_state c).may_leave db → could_leave self.new db) }
         ensures new { IfOk result IsNew }
+        ensures held { IfOk result (λ c.
+            holds self.old path.now (file_state c).now (file_state c).in_transaction) }
+        ensures busy { result ≡ Err (Error.SqliteFailure ErrorCode.DatabaseBusy) → is_unseen self.old path.now }
         ensures none { IfErr result (λ e. is_over self.old → is_over self.new) };
 
     /// Closes it without copying its log of writes.
@@ -278,6 +291,15 @@ impl Inspection for HostRuntime {
     ghost is_over = { λ _. ⊤ };
 
     ghost could_leave = { λ _ _. ⊤ };
+
+    ghost holds = { λ _ _ _ _. ⊤ };
+
+    ghost is_unseen = { λ _ _. ⊤ };
+
+    fn lacks_log(&self, alloc: Global, path: &str) -> Result<bool, AllocError> {
+        let log = format!(in alloc; "{path}-wal")?;
+        Ok(!fs::exists(self, log.as_str()).unwrap_or(false))
+    }
 
     fn inspect(&mut self, path: &str) -> Result<Connection<FileStore<File>>, Error> {
         open_database(&*self, path)

@@ -1,11 +1,11 @@
 //! The keys that the arguments of `node` name, and new ones.
 
-ghost use Rattle.std.specs.Prelude.{◌≡◌, ◌≢◌, ◌⊎◌, ◌==◌, ◌/◌, Ok, Err, OnErr, IfOk, option_map};
-ghost use Rattle.std.specs.Prelude.{ℕ, List, OnOk, map, is_some};
+ghost use Rattle.std.specs.Prelude.{◌≡◌, ◌⊎◌, ◌==◌, ◌/◌, Ok, Err, OnErr, IfOk, option_map};
+ghost use Rattle.std.specs.Prelude.{OnOk, map, is_some};
 ghost use Rattle.cli_files.specs.KeyTexts.{key_text};
 ghost use Rattle.node_udp.specs.Addresses.{address_of};
-ghost use Rattle.cli_node.specs.declared.outcome.Outcome.TheVariants.{Key, Made, Memory, Refused};
-ghost use Rattle.cli_node.specs.inner.Keeping.{IsWritten};
+ghost use Rattle.cli_node.specs.declared.outcome.Outcome.TheVariants.{Memory, Refused};
+ghost use Rattle.cli_node.specs.inner.Keeping.{IsKeptKey, IsNewKey, IsWritten};
 ghost use Rattle.cli_node.specs.inner.Places.{is_loopback, is_loopback_ip};
 ghost use Rattle.cli_node.specs.inner.Secrets.{IsNamed, AreNamed};
 
@@ -182,8 +182,7 @@ fn write_key<F: Files>(rt: &F, path: &str, text: &str) -> io::Result<()>
 
 /// What is given for a new key that is to be in a file: 94 where one is there, 83 where the system refuses it.
 fn kept<RT: Files + Eprint>(rt: &RT, alloc: Global, path: &str, key: &[u8; 32]) -> Outcome
-    ensures hidden { (key : List ℕ) → result ≢ Key key }
-    ensures made { result ≡ Made → IsWritten RT.File.contents (key_text key.now) }
+    ensures { IsKeptKey RT.File.contents key.now result }
 {
     let Ok(text) = key_text(alloc, key) else {
         return Outcome::Memory;
@@ -207,8 +206,7 @@ pub(crate) fn key_outcome<R: RandomBytes + Files + Eprint>(
     alloc: Global,
     file: Option<&str>,
 ) -> Outcome
-    ensures shown { (key : List ℕ) → result ≡ Key key → R.gives rt.now key }
-    ensures made { result ≡ Made → (key : List ℕ) × R.gives rt.now key × IsWritten R.File.contents (key_text key) }
+    ensures { IsNewKey (R.gives rt.now) R.File.contents (option_map (λ f. f.now) file.entry) result }
 {
     let Ok(key) = new_key(rt) else {
         return Outcome::Unread;

@@ -54,5 +54,9 @@ mod settings;
 mod sockets;
 mod store;
 
+pub use ask::{AskArguments, Client};
 pub use cli_io::Status;
+pub use node::NodeArguments;
+pub use outcome::Outcome;
 pub use running::run_net;
+pub use settings::Nodes;

@@ -4,13 +4,8 @@ ghost use Rattle.std.specs.Prelude.{◌≡◌, ◌≢◌, ◌<◌, ◌≤◌, �
 ghost use Rattle.std.specs.Prelude.{ℕ, Bool, [], None, Ok, IfOk, map, option_map, option_and_then, is_some};
 ghost use Rattle.std.specs.Prelude.{◌||◌, ◌++◌, codes, string_bytes};
 ghost use Rattle.clap.specs.Words.{found_of, one_text};
-ghost use Rattle.sqlite.specs.Held.{state};
-ghost use Rattle.px_store.specs.Formats.{record_at};
-ghost use Rattle.px_store.specs.View.{connection_of, IsOpened};
 ghost use Rattle.toml.specs.Data.{as_str, get_member};
 ghost use Rattle.px_transport.specs.Wiring.{inner_of, keys_of, sealer_of};
-ghost use Rattle.node_loop.specs.Runs.{OnFront};
-ghost use Rattle.node_loop.specs.Timing.{MakesTurns};
 ghost use Rattle.node_udp.specs.Addresses.{AreFound, shown_address};
 ghost use Rattle.node_udp.specs.Members.{hears_of, me_of, peers_of};
 ghost use Rattle.pf_scripts.specs.Lines.{spaced};
@@ -18,13 +13,13 @@ ghost use Rattle.cli_files.specs.Files.{settings_of};
 ghost use Rattle.cli_files.specs.Settings.{number_of};
 ghost use Rattle.cli_node.specs.declared.outcome.Outcome.TheVariants.{Memory, Refused};
 ghost use Rattle.cli_node.specs.inner.Running.{EndsAs, EndsNew, EndsNode, EndsWith, IsAlone, IsUnrun};
-ghost use Rattle.cli_node.specs.inner.Running.{RunsHere};
+ghost use Rattle.cli_node.specs.inner.Running.{MadeTurns, RunsHere};
 ghost use Rattle.cli_node.specs.inner.Running.{hears_asks, keys_with, sealer_with};
 ghost use Rattle.cli_node.specs.inner.Outcomes.{ComesTo, ComesOpen, ComesOpenOr, IsWireless};
 ghost use Rattle.cli_node.specs.inner.Given.{AreFigures, AreTurns, IsFlag, IsFlagIn, IsNumberIn, IsPlaced};
 ghost use Rattle.cli_node.specs.inner.Secrets.{AreNamed};
 ghost use Rattle.cli_node.specs.inner.Settled.{AreArguments, is_whole};
-ghost use Rattle.cli_node.specs.inner.Stores.{HasNone, IsFoundAt, IsKept, IsNone, IsStoreless, is_made};
+ghost use Rattle.cli_node.specs.inner.Stores.{HasNone, IsClosedIn, IsFoundAt, IsKeptIn, IsNone, IsStoreless, is_made};
 ghost use Rattle.cli_node.specs.declared.store.Found.{Found};
 ghost use Rattle.cli_node.specs.declared.store.TheConstants.{NO_STORE};
 ghost use Rattle.cli_node.specs.inner.Places.{is_count, has_place, turns_or_all, chosen};
@@ -56,7 +51,7 @@ const WAIT_MS: u32 = 100;
 
 /// What the arguments of `node` say.
 #[derive(Clone, Copy)]
-pub(crate) struct NodeArguments<'m, 'w, 'a> {
+pub struct NodeArguments<'m, 'w, 'a> {
     /// This node's number.
     pub(crate) me: u8,
     pub(crate) cluster: u32,
@@ -337,8 +332,8 @@ fn run_at<R: Records, T: Timer>(
     ensures turns { place.entry ≡ None → ComesTo R.Records m records result.0 result.1 }
     ensures ran { IsAlone R.Records m records result.0 result.1 ⊎
         RunsHere R.Records m sealing (hears_asks arguments.entry.key arguments.entry.control)
-        (map (λ t. t.now) arguments.entry.members.now) records result.0 result.1 (λ how.
-        OnFront how (MakesTurns arguments.entry.turns (T.timer_events timer.old) (T.timer_events timer.new))) }
+        (map (λ t. t.now) arguments.entry.members.now) records result.0 result.1
+        (MadeTurns arguments.entry.turns (T.timer_events timer.old) (T.timer_events timer.new)) }
 {
     let wire = match wire {
         Ok(wire) => wire,
@@ -440,8 +435,8 @@ fn run_with_control<R: Records, T: Timer>(
     ensures hosted { ComesOpenOr R.Records m records result.0 result.1 }
     ensures ran { IsUnrun R.Records m records result.0 result.1 ⊎
         RunsHere R.Records m sealing (hears_asks arguments.entry.key arguments.entry.control)
-        (map (λ t. t.now) arguments.entry.members.now) records result.0 result.1 (λ how.
-        OnFront how (MakesTurns arguments.entry.turns (T.timer_events timer.old) (T.timer_events timer.new))) }
+        (map (λ t. t.now) arguments.entry.members.now) records result.0 result.1
+        (MadeTurns arguments.entry.turns (T.timer_events timer.old) (T.timer_events timer.new)) }
 {
     let wire = match bind(rt, alloc, arguments) {
         Ok(wire) => wire,
@@ -492,8 +487,8 @@ fn run_member_in<R: Records, T: Timer>(
     ensures turns { arguments.entry.control ≡ None → ComesTo R.Records m records result.0 result.1 }
     ensures ran { IsUnrun R.Records m records result.0 result.1 ⊎
         RunsHere R.Records m sealing (hears_asks arguments.entry.key arguments.entry.control)
-        (map (λ t. t.now) arguments.entry.members.now) records result.0 result.1 (λ how.
-        OnFront how (MakesTurns arguments.entry.turns (T.timer_events timer.old) (T.timer_events timer.new))) }
+        (map (λ t. t.now) arguments.entry.members.now) records result.0 result.1
+        (MadeTurns arguments.entry.turns (T.timer_events timer.old) (T.timer_events timer.new)) }
 {
     match arguments.control {
         Some(path) => run_with_control(rt, alloc, arguments, path, m, records, sealing, timer),
@@ -523,8 +518,8 @@ fn run_on<D: Databases, T: Timer>(
     requires keyed { is_some sealing ≡ is_some arguments.key }
     ensures ran { EndsAs ⟦<SqlRecords<FileStore<File>> as Records>⟧ m sealing
         (hears_asks arguments.entry.key arguments.entry.control) (map (λ t. t.now) arguments.entry.members.now) records
-        (λ r. D.closed dbs.now (state ⟦<FileStore<File> as Store>⟧ (connection_of r))) (λ how.
-        OnFront how (MakesTurns arguments.entry.turns (T.timer_events timer.old) (T.timer_events timer.new))) result }
+        (IsClosedIn ⟦<FileStore<File> as Store>⟧ (D.closed dbs.now))
+        (MadeTurns arguments.entry.turns (T.timer_events timer.old) (T.timer_events timer.new)) result }
     ensures why { result ≢ Refused 80 }
     ensures store { (file new : Bool) → IsStoreless file new result }
 {
@@ -558,8 +553,8 @@ fn run_sealed<F: NodeFiles, D: Databases, T: Timer>(
         (F.raises files.now (arguments.entry.store.now ++ codes "-starts") m.members m.me
         (is_made arguments.entry.is_from_file arguments.entry.is_new found || arguments.entry.makes_starts))
         (hears_asks arguments.entry.key arguments.entry.control) (map (λ t. t.now) arguments.entry.members.now) records
-        (λ r. D.closed dbs.now (state ⟦<FileStore<File> as Store>⟧ (connection_of r))) (λ how.
-        OnFront how (MakesTurns arguments.entry.turns (T.timer_events timer.old) (T.timer_events timer.new))) result }
+        (IsClosedIn ⟦<FileStore<File> as Store>⟧ (D.closed dbs.now))
+        (MadeTurns arguments.entry.turns (T.timer_events timer.old) (T.timer_events timer.new)) result }
     ensures ending { result ≢ Refused 80 }
     ensures store { (file new : Bool) → IsStoreless file new result }
 {
@@ -592,11 +587,10 @@ fn run_new<F: NodeFiles, D: Databases, T: Timer>(
     ensures ran { EndsNew ⟦<SqlRecords<FileStore<File>> as Records>⟧ m keys
         (F.raises files.now (arguments.entry.store.now ++ codes "-starts") m.members m.me
         (is_made arguments.entry.is_from_file arguments.entry.is_new found || arguments.entry.makes_starts))
-        (hears_asks arguments.entry.key arguments.entry.control) (map (λ t. t.now) arguments.entry.members.now) (λ r. IsKept
-        (D.holds dbs.now arguments.entry.store.now) (state ⟦<FileStore<File> as Store>⟧ (connection_of r))
-        (λ f db. IsOpened ⟦<FileStore<File> as Store>⟧ r (record_at f db.trees)))
-        (λ r. D.closed dbs.now (state ⟦<FileStore<File> as Store>⟧ (connection_of r))) (λ how.
-        OnFront how (MakesTurns arguments.entry.turns (T.timer_events timer.old) (T.timer_events timer.new))) result }
+        (hears_asks arguments.entry.key arguments.entry.control) (map (λ t. t.now) arguments.entry.members.now)
+        (IsKeptIn ⟦<FileStore<File> as Store>⟧ (D.holds dbs.now arguments.entry.store.now))
+        (IsClosedIn ⟦<FileStore<File> as Store>⟧ (D.closed dbs.now))
+        (MadeTurns arguments.entry.turns (T.timer_events timer.old) (T.timer_events timer.new)) result }
     ensures ending { result ≢ Refused 80 }
     ensures store { IsStoreless arguments.entry.is_from_file arguments.entry.is_new result }
     ensures none { result ≡ Refused NO_STORE → IsNone found }
@@ -630,11 +624,10 @@ pub(crate) fn run_node<F: NodeFiles, D: Databases, T: Timer>(
         (λ m start. (found : Found) × IsFoundAt (D.is_seen dbs.now) arguments.entry.store.now found ×
         F.raises files.now (arguments.entry.store.now ++ codes "-starts") m.members m.me
         (is_made arguments.entry.is_from_file arguments.entry.is_new found || arguments.entry.makes_starts) start)
-        (hears_asks arguments.entry.key arguments.entry.control) (map (λ t. t.now) arguments.entry.members.now) (λ r. IsKept
-        (D.holds dbs.now arguments.entry.store.now) (state ⟦<FileStore<File> as Store>⟧ (connection_of r))
-        (λ f db. IsOpened ⟦<FileStore<File> as Store>⟧ r (record_at f db.trees)))
-        (λ r. D.closed dbs.now (state ⟦<FileStore<File> as Store>⟧ (connection_of r))) (λ how.
-        OnFront how (MakesTurns arguments.entry.turns (T.timer_events timer.old) (T.timer_events timer.new))) result }
+        (hears_asks arguments.entry.key arguments.entry.control) (map (λ t. t.now) arguments.entry.members.now)
+        (IsKeptIn ⟦<FileStore<File> as Store>⟧ (D.holds dbs.now arguments.entry.store.now))
+        (IsClosedIn ⟦<FileStore<File> as Store>⟧ (D.closed dbs.now))
+        (MadeTurns arguments.entry.turns (T.timer_events timer.old) (T.timer_events timer.new)) result }
     ensures ending { result ≢ Refused 80 }
     ensures store { IsStoreless arguments.entry.is_from_file arguments.entry.is_new result }
     ensures none { result ≡ Refused NO_STORE → HasNone (D.is_seen dbs.now) arguments.entry.store.now }

@@ -1,13 +1,18 @@
 //! The arguments of `node`, `ask` and `key`, as `clap` reads them.
 
-ghost use Rattle.std.specs.Prelude.{◌≡◌, IfOk, false};
+ghost use Rattle.std.specs.Prelude.{◌≡◌, IfOk, false, codes, map};
+ghost use Rattle.clap.specs.Words.{app_of, rule_of, with_subcommand};
 ghost use Rattle.clap.specs.declared.builder.command.Command.TheViews.{out-Command};
+ghost use Rattle.cli_io.specs.Options.{u32_rule, u8_rule, value_rule};
+ghost use Rattle.cli_node.specs.Arguments.{with_place, with_keys, with_control, with_flags, members_rule};
+ghost use Rattle.cli_node.specs.Arguments.{with_rest, needed_if, node_app, with_member, ask_app, key_app, with_all};
+ghost use Rattle.cli_node.specs.Arguments.{with_settings, net_app, is_config, names_config};
 
-use clap::builder::ValueParser;
-use clap::{Arg, ArgAction, ArgGroup, Command, value_parser};
-use cli_io::{flag, valued, with_option};
+use clap::{Arg, ArgAction, Command, value_parser};
+use cli_io::{flag, needed, numbered, valued, with_option};
 use pf_arguments::pfctl_args;
 use std::alloc::{AllocError, Global};
+use std::convert::AsStr;
 
 /// The help of each option, and what is below them.
 const CONFIG: &str =
@@ -27,8 +32,8 @@ const CHECK: &str =
     "Checks settings, keys, addresses, sockets and store; starts and changes nothing";
 
 const TURNS: &str =
-    "Ends after this many turns: a turn receives one datagram, or ticks after 100 ms without one. By default the node runs
-until it is stopped";
+    "Ends after this many turns: a turn receives one datagram, or ticks after 100 ms without one. By default the node
+runs until it is stopped";
 
 const KEY: &str =
     "A file with the cluster's key, 64 hexadecimal digits, that only its owner may read; it authenticates datagrams";
@@ -72,239 +77,180 @@ names the file or address, and the system's error. --check prints ok, or the fir
 socket, requests by UDP are ignored.";
 
 const KEY_BELOW: &str =
-    "It writes 64 hexadecimal digits, as pfx node --key reads them, to FILE, which it creates and only its owner may read,
-or to standard output. A refusal is refused CODE: 94 the file exists, 83 it can't be created.";
+    "It writes 64 hexadecimal digits, as pfx node --key reads them, to FILE, which it creates and only its owner may
+read, or to standard output. A refusal is refused CODE: 94 the file exists, 83 it can't be created.";
 
 const KEY_FILE: &str = "The file to create";
 
 const ASK_BELOW: &str =
-    "It prints asked NODE.NUMBER, no answer, or refused CODE; a node refuses with 60 (64 commands wait) or 62 (no number is
-left). A command that is asked isn't learned yet: see the nodes' logs.";
-
-/// An option with a string.
-fn text<'a>(alloc: Global, name: &'a str, help: &'a str) -> Arg<'a>
-    ensures local { result.global ≡ false }
-{
-    valued(alloc, name, help).required(true)
-}
+    "It prints asked NODE.NUMBER, no answer, or refused CODE; a node refuses with 60 (64 commands wait) or 62 (no number
+is left). A command that is asked isn't learned yet: see the nodes' logs.";
 
 /// An option with a number from 0 to 255.
-fn small<'a>(alloc: Global, name: &'a str, help: &'a str) -> Arg<'a>
+fn small<'a>(alloc: Global, name: &'a str, help: &'a str, is_needed: bool) -> Arg<'a>
+    ensures rule { rule_of result ≡ needed_if is_needed (u8_rule name.entry.now) }
     ensures local { result.global ≡ false }
 {
-    text(alloc, name, help).value_parser(value_parser!(u8))
+    valued(alloc, name, help)
+        .value_parser(value_parser!(u8))
+        .required(is_needed)
 }
 
 /// An option with a number from 0 to 4,294,967,295.
-fn large<'a>(alloc: Global, name: &'a str, help: &'a str) -> Arg<'a>
+fn large<'a>(alloc: Global, name: &'a str, help: &'a str, is_needed: bool) -> Arg<'a>
+    ensures rule { rule_of result ≡ needed_if is_needed (u32_rule name.entry.now) }
     ensures local { result.global ≡ false }
 {
-    text(alloc, name, help).value_parser(value_parser!(u32))
+    valued(alloc, name, help)
+        .value_parser(value_parser!(u32))
+        .required(is_needed)
 }
 
-/// Adds an option, which is missing if out of memory.
-fn with_made<'a>(
+/// `--store FILE`
+fn store<'a>(alloc: Global, is_needed: bool) -> Arg<'a>
+    ensures rule { rule_of result ≡ needed_if is_needed (value_rule (codes "store")) }
+    ensures local { result.global ≡ false }
+{
+    valued(alloc, "store", STORE).required(is_needed)
+}
+
+/// `--me N --cluster C --store FILE`, which have to be given where no file of settings is named.
+fn with_place<'a>(
+    alloc: Global,
     command: Command<'a>,
-    arg: Result<Arg<'a>, AllocError>,
+    is_needed: bool,
 ) -> Result<Command<'a>, AllocError>
     requires command { (out-Command command).has_globals ≡ false }
-    requires arg { IfOk arg (λ a. a.global ≡ false) }
+    ensures app { IfOk result (λ c. app_of c ≡ with_place is_needed (app_of command.entry)) }
     ensures local { IfOk result (λ c. (out-Command c).has_globals ≡ false) }
 {
-    match arg {
-        Ok(arg) => command.arg(arg),
-        Err(error) => {
-            drop(command);
-            Err(error)
-        }
-    }
-}
-
-/// Adds an option that has to be given where no file of settings has it.
-fn with_required<'a>(command: Command<'a>, arg: Arg<'a>) -> Result<Command<'a>, AllocError>
-    requires command { (out-Command command).has_globals ≡ false }
-    requires arg { arg.global ≡ false }
-    ensures local { IfOk result (λ c. (out-Command c).has_globals ≡ false) }
-{
-    with_made(command, arg.required_unless_present("config"))
-}
-
-/// `--me N --cluster C --store FILE`, or a file of settings that has them.
-fn with_place<'a>(alloc: Global, command: Command<'a>) -> Result<Command<'a>, AllocError>
-    requires command { (out-Command command).has_globals ≡ false }
-    ensures local { IfOk result (λ c. (out-Command c).has_globals ≡ false) }
-{
-    let me = valued(alloc, "me", ME).value_parser(value_parser!(u8));
-    let command = with_required(command, me)?;
-    let cluster = valued(alloc, "cluster", CLUSTER).value_parser(value_parser!(u32));
-    let command = with_required(command, cluster)?;
-    with_required(command, valued(alloc, "store", STORE))
+    let command = with_option(command, small(alloc, "me", ME, is_needed))?;
+    let command = with_option(command, large(alloc, "cluster", CLUSTER, is_needed))?;
+    with_option(command, store(alloc, is_needed))
 }
 
 /// `--turns T`
-fn with_turns<'a>(alloc: Global, command: Command<'a>) -> Result<Command<'a>, AllocError>
-    requires command { (out-Command command).has_globals ≡ false }
-    ensures local { IfOk result (λ c. (out-Command c).has_globals ≡ false) }
+fn turns<'a>(alloc: Global) -> Arg<'a>
+    ensures rule { rule_of result ≡ u32_rule (codes "turns") }
+    ensures local { result.global ≡ false }
 {
-    with_option(
-        command,
-        valued(alloc, "turns", TURNS).value_parser(value_parser!(u32)),
-    )
-}
-
-/// Adds an option without a value.
-fn with_flag<'a>(
-    alloc: Global,
-    command: Command<'a>,
-    name: &'a str,
-    help: &'a str,
-) -> Result<Command<'a>, AllocError>
-    requires command { (out-Command command).has_globals ≡ false }
-    ensures local { IfOk result (λ c. (out-Command c).has_globals ≡ false) }
-{
-    with_option(command, flag(alloc, name, help))
-}
-
-/// The name of a group of two options, of which what wants the group wants either.
-fn either<'a>(alloc: Global, name: &'a str, one: &'a str) -> Result<ArgGroup<'a>, AllocError> {
-    let group = ArgGroup::new(alloc, name).arg(one)?;
-    Ok(group.arg("config")?.multiple(true))
-}
-
-/// Adds such a group, whose other option is the file of settings.
-fn with_either<'a>(
-    alloc: Global,
-    command: Command<'a>,
-    name: &'a str,
-    one: &'a str,
-) -> Result<Command<'a>, AllocError>
-    requires command { (out-Command command).has_globals ≡ false }
-    ensures local { IfOk result (λ c. (out-Command c).has_globals ≡ false) }
-{
-    match either(alloc, name, one) {
-        Ok(group) => command.group(group),
-        Err(error) => {
-            drop(command);
-            Err(error)
-        }
-    }
-}
-
-/// Adds an option with a string that stands only where another stands.
-fn with_below<'a>(
-    alloc: Global,
-    command: Command<'a>,
-    name: &'a str,
-    help: &'a str,
-    above: &'a str,
-) -> Result<Command<'a>, AllocError>
-    requires command { (out-Command command).has_globals ≡ false }
-    ensures local { IfOk result (λ c. (out-Command c).has_globals ≡ false) }
-{
-    with_made(command, valued(alloc, name, help).requires_arg(above))
-}
-
-/// Adds an option without a value that stands only where another stands.
-fn with_flag_below<'a>(
-    alloc: Global,
-    command: Command<'a>,
-    name: &'a str,
-    help: &'a str,
-    above: &'a str,
-) -> Result<Command<'a>, AllocError>
-    requires command { (out-Command command).has_globals ≡ false }
-    ensures local { IfOk result (λ c. (out-Command c).has_globals ≡ false) }
-{
-    with_made(command, flag(alloc, name, help).requires_arg(above))
+    valued(alloc, "turns", TURNS).value_parser(value_parser!(u32))
 }
 
 /// The options of `node` about its keys that may be missing.
 fn with_keys<'a>(alloc: Global, command: Command<'a>) -> Result<Command<'a>, AllocError>
     requires command { (out-Command command).has_globals ≡ false }
+    ensures app { IfOk result (λ c. app_of c ≡ with_keys (app_of command.entry)) }
     ensures local { IfOk result (λ c. (out-Command c).has_globals ≡ false) }
 {
     let command = with_option(command, valued(alloc, "key", KEY))?;
-    let command = with_either(alloc, command, "a key", "key")?;
-    let command = with_below(alloc, command, "other-key", OTHER_KEY, "a key")?;
-    let command = with_flag_below(alloc, command, "new-starts", NEW_STARTS, "a key")?;
-    with_flag(alloc, command, "unsealed", UNSEALED)
+    let command = with_option(command, valued(alloc, "other-key", OTHER_KEY))?;
+    let command = with_option(command, flag(alloc, "new-starts", NEW_STARTS))?;
+    with_option(command, flag(alloc, "unsealed", UNSEALED))
 }
 
 /// The options of `node` about operators that may be missing.
 fn with_control<'a>(alloc: Global, command: Command<'a>) -> Result<Command<'a>, AllocError>
     requires command { (out-Command command).has_globals ≡ false }
+    ensures app { IfOk result (λ c. app_of c ≡ with_control (app_of command.entry)) }
     ensures local { IfOk result (λ c. (out-Command c).has_globals ≡ false) }
 {
     let command = with_option(command, valued(alloc, "control", CONTROL))?;
-    let command = with_either(alloc, command, "a control socket", "control")?;
-    with_below(alloc, command, "metrics", METRICS, "a control socket")
+    with_option(command, valued(alloc, "metrics", METRICS))
 }
 
-/// The options of `node` that may be missing.
-fn node_options<'a>(alloc: Global, node: Command<'a>) -> Result<Command<'a>, AllocError>
-    requires command { (out-Command node).has_globals ≡ false }
+/// The options of `node` without a value that are no others' business.
+fn with_flags<'a>(alloc: Global, command: Command<'a>) -> Result<Command<'a>, AllocError>
+    requires command { (out-Command command).has_globals ≡ false }
+    ensures app { IfOk result (λ c. app_of c ≡ with_flags (app_of command.entry)) }
     ensures local { IfOk result (λ c. (out-Command c).has_globals ≡ false) }
 {
-    let command = with_turns(alloc, node)?;
-    let command = with_control(alloc, command)?;
-    let command = with_keys(alloc, command)?;
-    let command = with_flag(alloc, command, "new", NEW)?;
-    let command = with_flag(alloc, command, "check", CHECK)?;
-    with_flag(alloc, command, "quiet", QUIET)
+    let command = with_option(command, flag(alloc, "new", NEW))?;
+    let command = with_option(command, flag(alloc, "check", CHECK))?;
+    with_option(command, flag(alloc, "quiet", QUIET))
 }
 
 /// The members' addresses.
-fn with_members<'a>(alloc: Global, command: Command<'a>) -> Result<Command<'a>, AllocError>
-    requires command { (out-Command command).has_globals ≡ false }
-    ensures local { IfOk result (λ c. (out-Command c).has_globals ≡ false) }
+fn members<'a>(alloc: Global) -> Arg<'a>
+    ensures rule { rule_of result ≡ members_rule }
+    ensures local { result.global ≡ false }
 {
-    let addresses = Arg::new(alloc, "member")
+    Arg::new(alloc, "member")
         .action(ArgAction::Append)
         .num_args(0..)
-        .help(MEMBER);
-    with_option(command, addresses)
+        .help(MEMBER)
+}
+
+/// `[--config FILE] --me N --cluster C --store FILE [--turns T]`, and the options about operators.
+fn with_settings<'a>(
+    alloc: Global,
+    command: Command<'a>,
+    is_needed: bool,
+) -> Result<Command<'a>, AllocError>
+    requires command { (out-Command command).has_globals ≡ false }
+    ensures app { IfOk result (λ c. app_of c ≡ with_settings is_needed (app_of command.entry)) }
+    ensures local { IfOk result (λ c. (out-Command c).has_globals ≡ false) }
+{
+    let command = with_option(command, valued(alloc, "config", CONFIG))?;
+    let command = with_place(alloc, command, is_needed)?;
+    let command = with_option(command, turns(alloc))?;
+    with_control(alloc, command)
+}
+
+/// The options about keys, the flags, and the addresses.
+fn with_rest<'a>(alloc: Global, command: Command<'a>) -> Result<Command<'a>, AllocError>
+    requires command { (out-Command command).has_globals ≡ false }
+    ensures app { IfOk result (λ c. app_of c ≡ with_rest (app_of command.entry)) }
+    ensures local { IfOk result (λ c. (out-Command c).has_globals ≡ false) }
+{
+    let command = with_keys(alloc, command)?;
+    let command = with_flags(alloc, command)?;
+    with_option(command, members(alloc))
 }
 
 /// `node [--config FILE] --me N --cluster C --store FILE [--turns T] [--control PATH [--metrics ADDR]]
 /// [--key FILE [--other-key FILE] [--new-starts]] [--unsealed] [--new] [--check] [--quiet] ADDR..`
-fn node_command<'a>(alloc: Global) -> Result<Command<'a>, AllocError>
+fn node_command<'a>(alloc: Global, is_needed: bool) -> Result<Command<'a>, AllocError>
+    ensures app { IfOk result (λ c. app_of c ≡ node_app is_needed) }
     ensures local { IfOk result (λ c. (out-Command c).has_globals ≡ false) }
 {
     let node = Command::new(alloc, "node")
         .about("Runs a node on its store over UDP")
         .after_help(NODE_BELOW);
-    let command = with_option(node, valued(alloc, "config", CONFIG))?;
-    let command = with_place(alloc, command)?;
-    let command = node_options(alloc, command)?;
-    with_members(alloc, command)
+    let command = with_settings(alloc, node, is_needed)?;
+    with_rest(alloc, command)
 }
 
-/// `--wait S`
-fn with_wait<'a>(alloc: Global, command: Command<'a>) -> Result<Command<'a>, AllocError>
+/// `--to ADDR --cluster C --members N --node N`
+fn with_member<'a>(alloc: Global, command: Command<'a>) -> Result<Command<'a>, AllocError>
     requires command { (out-Command command).has_globals ≡ false }
+    ensures app { IfOk result (λ c. app_of c ≡ with_member (app_of command.entry)) }
     ensures local { IfOk result (λ c. (out-Command c).has_globals ≡ false) }
 {
-    let wait = valued(alloc, "wait", WAIT).value_parser(ValueParser::Unsigned(0, WAIT_MAX));
-    with_option(command, wait)
+    let command = with_option(command, needed(alloc, "to", TO))?;
+    let command = with_option(command, large(alloc, "cluster", CLUSTER, true))?;
+    let command = with_option(command, small(alloc, "members", MEMBERS, true))?;
+    with_option(command, small(alloc, "node", NODE, true))
 }
 
 /// `ask --to ADDR --cluster C --members N --node N [--wait S]`, and pfctl's arguments.
 fn ask_command<'a>(alloc: Global) -> Result<Command<'a>, AllocError>
+    ensures app { IfOk result (λ c. app_of c ≡ ask_app) }
     ensures local { IfOk result (λ c. (out-Command c).has_globals ≡ false) }
 {
     let ask = Command::new(alloc, "ask")
         .about("Submits a change to a node, by pfctl's options")
         .after_help(ASK_BELOW);
-    let command = with_option(ask, text(alloc, "to", TO))?;
-    let command = with_option(command, large(alloc, "cluster", CLUSTER))?;
-    let command = with_option(command, small(alloc, "members", MEMBERS))?;
-    let command = with_option(command, small(alloc, "node", NODE))?;
-    let command = with_wait(alloc, command)?;
+    let command = with_member(alloc, ask)?;
+    let command = with_option(command, numbered(alloc, "wait", WAIT, 0, WAIT_MAX))?;
     pfctl_args(alloc, command)
 }
 
 /// `key [FILE]`
-fn key_command<'a>(alloc: Global) -> Result<Command<'a>, AllocError> {
+fn key_command<'a>(alloc: Global) -> Result<Command<'a>, AllocError>
+    ensures app { IfOk result (λ c. app_of c ≡ key_app) }
+    ensures local { IfOk result (λ c. (out-Command c).has_globals ≡ false) }
+{
     let file = Arg::new(alloc, "file")
         .action(ArgAction::Set)
         .help(KEY_FILE);
@@ -314,24 +260,54 @@ fn key_command<'a>(alloc: Global) -> Result<Command<'a>, AllocError> {
     with_option(key, file)
 }
 
-/// Adds a subcommand, which is missing if out of memory.
+/// A command with one subcommand more.
 fn with_subcommand<'a>(
     command: Command<'a>,
-    subcommand: Result<Command<'a>, AllocError>,
-) -> Result<Command<'a>, AllocError> {
-    match subcommand {
-        Ok(subcommand) => command.subcommand(subcommand),
-        Err(error) => {
-            drop(command);
-            Err(error)
-        }
-    }
+    subcommand: Command<'a>,
+) -> Result<Command<'a>, AllocError>
+    requires command { (out-Command command).has_globals ≡ false }
+    requires subcommand { (out-Command subcommand).has_globals ≡ false }
+    ensures app { IfOk result (λ c. app_of c ≡ with_subcommand (app_of command.entry) (app_of subcommand.entry).top) }
+    ensures local { IfOk result (λ c. (out-Command c).has_globals ≡ false) }
+{
+    command.subcommand(subcommand)
 }
 
-/// The command of the arguments.
-pub(crate) fn command<'a>(alloc: Global) -> Result<Command<'a>, AllocError> {
-    let command = with_subcommand(Command::new(alloc, "pfx"), node_command(alloc))?;
-    let command = with_subcommand(command, ask_command(alloc))?;
-    let command = with_subcommand(command, key_command(alloc))?;
+/// The program with these subcommands.
+fn with_all<'a>(alloc: Global, is_needed: bool) -> Result<Command<'a>, AllocError>
+    ensures { IfOk result (λ c. app_of c ≡ with_all is_needed) }
+{
+    let node = node_command(alloc, is_needed)?;
+    let command = with_subcommand(Command::new(alloc, "pfx"), node)?;
+    let ask = ask_command(alloc)?;
+    let command = with_subcommand(command, ask)?;
+    let key = key_command(alloc)?;
+    with_subcommand(command, key)
+}
+
+/// The same, of which one has to be given.
+pub(crate) fn command<'a>(alloc: Global, is_needed: bool) -> Result<Command<'a>, AllocError>
+    ensures { IfOk result (λ c. app_of c ≡ net_app is_needed) }
+{
+    let command = with_all(alloc, is_needed)?;
     Ok(command.subcommand_required(true))
+}
+
+/// Whether an argument names a file of settings.
+fn is_config(argument: &str) -> bool
+    ensures { result ≡ is_config argument.now }
+{
+    argument == "--config" || argument.as_bytes().starts_with(b"--config=")
+}
+
+/// Whether a file of settings is named.
+pub(crate) fn names_config<S: AsStr>(arguments: &[S]) -> bool
+    ensures { result ≡ names_config (map S.text arguments.now) }
+{
+    for argument in arguments {
+        if is_config(argument.as_str()) {
+            return true;
+        }
+    }
+    false
 }

@@ -15,7 +15,7 @@ use std::io::Write;
 
 /// How a run ends.
 #[derive(Clone, Copy, PartialEq, Eq)]
-pub(crate) enum Outcome {
+pub enum Outcome {
     /// All turns were made: how many positions are learned without a gap, and how many are applied.
     Front { front: u32, applied: u32 },
     /// The same two numbers of a node that an operator ended before its turns were made.

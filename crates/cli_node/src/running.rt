@@ -1,66 +1,94 @@
 //! A run of `node`, `ask` or `key`.
 
-ghost use Rattle.std.specs.Prelude.{◌≡◌, Option};
-ghost use Rattle.cli_node.specs.declared.outcome.Outcome.{Outcome};
-ghost use Rattle.cli_node.specs.Outcomes.{Ran};
+ghost use Rattle.std.specs.Prelude.{map};
+ghost use Rattle.clap.specs.Words.{subcommand_rows_of};
+ghost use Rattle.cli_io.specs.Sources.{IsOfFile, IsText};
+ghost use Rattle.cli_node.specs.Arguments.{given_of};
+ghost use Rattle.cli_node.specs.Running.{AskGives, IsOutcome, KeyGives, NodeGives, Ran};
 
-use crate::ask::{AskArguments, ask_outcome};
+use crate::ask::{AskArguments, Client, ask_outcome};
 use crate::key::key_outcome;
-use crate::options::command;
+use crate::options::{command, names_config};
 use crate::outcome::{Outcome, write_outcome};
-use crate::settings::settled_outcome;
+use crate::settings::{Nodes, settled_outcome};
 use clap::ArgMatches;
-use cli_io::{Status, misused, out_of_memory};
+use cli_files::RandomBytes;
+use cli_io::{Sources, Status, given_in, misused, out_of_memory, value_in};
 use std::alloc::Global;
 use std::convert::AsStr;
-use std::io::{Read, Write};
+use std::fs::Files;
+use std::io::{Eprint, Read, Write};
 
-/// What the matches give; none where no subcommand is named.
-fn outcome_of<R: Read>(
-    rt: &HostRuntime,
+/// What the matches give; none where another subcommand is named.
+fn outcome_of<
+    RT: RandomBytes + Files + Eprint + Sources,
+    N: Nodes + Drop,
+    C: Client + Drop,
+    R: Read,
+>(
+    rt: &RT,
+    nodes: N,
+    client: C,
     alloc: Global,
     matches: &ArgMatches<'_>,
     reader: &mut R,
-) -> Option<Outcome> {
-    if let Some(inner) = matches.subcommand_matches("node") {
-        return Some(settled_outcome(rt, *rt, alloc, inner));
+) -> Option<Outcome>
+    ensures { IsOutcome (NodeGives (N.ran nodes) (N.checked nodes) (λ text. IsOfFile RT.File.remaining text))
+        (KeyGives (RT.gives rt.now) RT.File.contents)
+        (AskGives C.Wire.traffic (C.reaches client) (IsText (RT.has rt.now) (R.remaining reader.old)))
+        (subcommand_rows_of matches.now) result }
+{
+    if let Some(inner) = given_in(matches, "node") {
+        return Some(settled_outcome(rt, nodes, alloc, inner));
     }
-    if let Some(inner) = matches.subcommand_matches("key") {
-        return Some(key_outcome(rt, alloc, inner.get_str("file")));
+    if let Some(inner) = given_in(matches, "key") {
+        return Some(key_outcome(rt, alloc, value_in(inner, "file")));
     }
-    let Some(inner) = matches.subcommand_matches("ask") else {
+    let Some(inner) = given_in(matches, "ask") else {
         return None;
     };
     match AskArguments::of(inner) {
-        Some(arguments) => Some(ask_outcome(rt, *rt, alloc, arguments, inner, reader)),
-        None => None,
+        Some(arguments) => Some(ask_outcome(rt, client, alloc, arguments, inner, reader)),
+        None => Some(Outcome::Refused(40)),
     }
 }
 
 /// What the subcommands `node`, `ask` and `key` ask for, the program's name first, with the input and the output that
-/// are lent.
+/// are lent. `nodes` runs a node, `client` makes the wire over which one is asked: for the system's both are `rt`.
 ///
 /// `node` makes turns of a node over UDP, and writes `front F applied A`, or `refused CODE`; with `--check` it makes
 /// none, and writes `ok` where nothing is to be refused. `ask` asks a node to accept a command of pfctl's arguments,
 /// and writes `asked N.NUMBER`, `refused CODE` or `no answer`. `key` writes a new key's 64 digits, into a file where
 /// one is named. Other arguments are refused. What is printed for people beside that goes to standard error.
-pub fn run_net<S: AsStr, R: Read, W: Write>(
-    rt: &HostRuntime,
+pub fn run_net<
+    RT: RandomBytes + Files + Eprint + Sources,
+    N: Nodes + Drop,
+    C: Client + Drop,
+    S: AsStr,
+    R: Read,
+    W: Write,
+>(
+    rt: &RT,
+    nodes: N,
+    client: C,
     alloc: Global,
     arguments: &[S],
     reader: &mut R,
     writer: &mut W,
 ) -> Status
-    ensures { (outcome : Option Outcome) × Ran result outcome (W.contents writer.old) (W.contents writer.new) }
+    ensures { Ran (NodeGives (N.ran nodes) (N.checked nodes) (λ text. IsOfFile RT.File.remaining text))
+        (KeyGives (RT.gives rt.now) RT.File.contents)
+        (AskGives C.Wire.traffic (C.reaches client) (IsText (RT.has rt.now) (R.remaining reader.old)))
+        (given_of (map S.text arguments.now)) result (W.contents writer.old) (W.contents writer.new) }
 {
-    let Ok(command) = command(alloc) else {
+    let Ok(command) = command(alloc, !names_config(arguments)) else {
         return out_of_memory(writer);
     };
     let matches = match command.try_get_matches_from(arguments) {
         Ok(matches) => matches,
         Err(error) => return misused(alloc, &error, writer),
     };
-    match outcome_of(rt, alloc, &matches, reader) {
+    match outcome_of(rt, nodes, client, alloc, &matches, reader) {
         Some(outcome) => write_outcome(alloc, outcome, writer),
         None => Status::Usage,
     }

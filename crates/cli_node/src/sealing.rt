@@ -59,7 +59,8 @@ fn sealing_of(
 
 /// Whether a missing file of starts is made: with a store that is made, and where that is asked for.
 fn may_make_starts(arguments: NodeArguments<'_, '_, '_>, found: Found) -> bool
-    ensures { result ≡ (is_made arguments.entry.is_from_file arguments.entry.is_new found || arguments.entry.makes_starts) }
+    ensures { result ≡
+        (is_made arguments.entry.is_from_file arguments.entry.is_new found || arguments.entry.makes_starts) }
 {
     is_made(arguments.is_from_file, arguments.is_new, found) || arguments.makes_starts
 }

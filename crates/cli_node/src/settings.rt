@@ -1,6 +1,6 @@
 //! The subcommand `node` with its file of settings.
 
-ghost use Rattle.std.specs.Prelude.{◌≡◌, ◌≢◌, ◌⊎◌, ℕ, List, Some, false, length, map, option_map, IfOk, IfErr};
+ghost use Rattle.std.specs.Prelude.{◌≡◌, ◌≢◌, ◌⊎◌, ℕ, List, Some, false, length, map, option_map, IfOk, IfErr, codes};
 ghost use Rattle.toml.specs.Parse.{parse_document};
 ghost use Rattle.cli_io.specs.Sources.{IsOfFile};
 ghost use Rattle.cli_files.specs.Clusters.{IsClusterKey};
@@ -13,6 +13,8 @@ ghost use Rattle.cli_node.specs.inner.Places.{has_place};
 ghost use Rattle.cli_node.specs.inner.Running.{Anything, EndsNode, hears_asks};
 ghost use Rattle.cli_node.specs.inner.Secrets.{AreNamed};
 ghost use Rattle.cli_node.specs.inner.Settled.{AreSettings, IsNode, IsSettled, IsUnread, IsUnsettled, members_in};
+ghost use Rattle.cli_node.specs.inner.Settled.{settings_code};
+ghost use Rattle.clap.specs.Words.{first_value, found_of};
 ghost use Rattle.cli_node.specs.inner.Stores.{IsStoreless};
 
 use crate::check::check_outcome;
@@ -115,40 +117,61 @@ fn settings_for<RT: Files + Eprint>(
     }
 }
 
+/// The number with which settings are refused: 92 where a file is named, 40 for arguments alone.
+fn settings_code(matches: &ArgMatches<'_>) -> u8
+    ensures { result ≡ settings_code (first_value (found_of matches.now) (codes "config")) }
+{
+    match matches.get_str("config") {
+        Some(_) => BAD_SETTINGS,
+        None => 40,
+    }
+}
+
 /// Logs which setting is missing.
-fn log_missing<RT: Eprint>(rt: &RT, name: &str) {
-    let _logged = eprintln!(rt; "pfx: error: {name} ({BAD_SETTINGS})");
+fn log_missing<RT: Eprint>(rt: &RT, name: &str, code: u8) {
+    let _logged = eprintln!(rt; "pfx: error: {name} ({code})");
 }
 
 /// What is refused where a setting is missing that no option gives.
 fn lacking<RT: Eprint>(rt: &RT, matches: &ArgMatches<'_>, file: &NodeFile) -> Outcome
-    ensures { result ≡ Refused BAD_SETTINGS }
+    ensures { result ≡ Refused (settings_code (first_value (found_of matches.now) (codes "config"))) }
 {
+    let code = settings_code(matches);
     if matches.get_one::<u32>("me").is_none() && file.number("me").is_none() {
-        log_missing(rt, "me is given neither by an option nor in the file");
+        log_missing(rt, "me is given neither by an option nor in the file", code);
     }
     if matches.get_one::<u32>("cluster").is_none() && file.number("cluster").is_none() {
-        log_missing(rt, "cluster is given neither by an option nor in the file");
+        log_missing(
+            rt,
+            "cluster is given neither by an option nor in the file",
+            code,
+        );
     }
     if matches.get_str("store").is_none() && file.text("store").is_none() {
-        log_missing(rt, "store is given neither by an option nor in the file");
+        log_missing(
+            rt,
+            "store is given neither by an option nor in the file",
+            code,
+        );
     }
-    Outcome::Refused(BAD_SETTINGS)
+    Outcome::Refused(code)
 }
 
 /// What is refused where a setting lacks the one that it needs.
-fn halved<RT: Eprint>(rt: &RT) -> Outcome
-    ensures { result ≡ Refused BAD_SETTINGS }
+fn halved<RT: Eprint>(rt: &RT, matches: &ArgMatches<'_>) -> Outcome
+    ensures { result ≡ Refused (settings_code (first_value (found_of matches.now) (codes "config"))) }
 {
+    let code = settings_code(matches);
     log_missing(
         rt,
         "other-key or new-starts is given without key, or metrics without control",
+        code,
     );
-    Outcome::Refused(BAD_SETTINGS)
+    Outcome::Refused(code)
 }
 
 /// Who runs a node, or checks whether it could be started, once.
-pub(crate) trait Nodes {
+pub trait Nodes {
     // a node with these arguments was run, and gave this
     ghost ran: { Self → NodeArguments → Outcome → Type 0 };
 
@@ -184,7 +207,7 @@ impl Nodes for HostRuntime {
 
     fn check(self, alloc: Global, arguments: NodeArguments<'_, '_, '_>) -> Outcome {
         let mut inspection = self;
-        check_outcome(&self, &self, &mut inspection, alloc, arguments)
+        check_outcome(&self, &self, &self, &mut inspection, alloc, arguments)
     }
 }
 
@@ -203,7 +226,7 @@ fn outcome_for<'g: 'f, 'f, RT: Eprint, N: Nodes + Drop>(
         return lacking(rt, matches, file);
     };
     if !arguments.is_whole() {
-        return halved(rt);
+        return halved(rt, matches);
     }
     if is_given(matches, "check") {
         nodes.check(alloc, arguments)

@@ -10,7 +10,7 @@ ghost use Rattle.px_store.specs.View.{connection_of, IsOpened};
 ghost use Rattle.cli_node.specs.declared.outcome.Outcome.TheVariants.{Memory, Refused};
 ghost use Rattle.cli_node.specs.declared.store.TheConstants.{NO_STORE, FILE_IS_THERE};
 ghost use Rattle.cli_node.specs.inner.Outcomes.{adopt_outcome};
-ghost use Rattle.cli_node.specs.inner.Stores.{identity_at, IsKept, IsOpening, IsRefusal, IsStoreless, IsUnmade};
+ghost use Rattle.cli_node.specs.inner.Stores.{identity_at, IsKeptIn, IsOpening, IsRefusal, IsStoreless, IsUnmade};
 ghost use Rattle.cli_node.specs.inner.Stores.{is_made};
 ghost use Rattle.cli_node.specs.inner.Stores.{IsFoundAt, IsNone, found_by, has_no_byte};
 
@@ -303,9 +303,8 @@ pub(crate) fn record_at<D: Databases>(
 ) -> Result<SqlRecords<FileStore<File>>, Outcome>
     ensures members { IfOk result (λ r. ⟦<SqlRecords<FileStore<File>> as Records>⟧.members r ≡ m.members) }
     ensures begins { IfOk result (λ r. ⟦<SqlRecords<FileStore<File>> as Records>⟧.failed r ≡ 0) }
-    ensures rows { IfOk result (λ r. IsKept (D.holds dbs.now arguments.entry.store.now)
-        (state ⟦<FileStore<File> as Store>⟧ (connection_of r))
-        (λ f db. IsOpened ⟦<FileStore<File> as Store>⟧ r (record_at f db.trees))) }
+    ensures rows { IfOk result
+        (IsKeptIn ⟦<FileStore<File> as Store>⟧ (D.holds dbs.now arguments.entry.store.now)) }
     ensures refused { IfErr result (IsStoreless arguments.entry.is_from_file arguments.entry.is_new) }
     ensures kind { IfErr result IsRefusal }
     ensures none { result ≡ Err (Refused NO_STORE) → IsNone found }

@@ -1,9 +1,8 @@
 -- The arguments of `show`, as `clap` has them.
-use Rattle.std.specs.Prelude.{Bool, true, false, List, [], ◌∷◌, Option, Some, None, bytes_eq, codes}
-use Rattle.clap.specs.Words.{App, Row, Rule, Text, new_app, with_rule, with_subcommand, subcommand_of}
-use Rattle.clap.specs.Faults.{fault_of}
-use Rattle.clap.specs.Kinds.{Kinds}
+use Rattle.std.specs.Prelude.{List, Option, codes}
+use Rattle.clap.specs.Words.{App, Row, Text, new_app, with_rule}
 use Rattle.pf_arguments.specs.Options.{with_pfctl}
+use Rattle.cli_io.specs.Given.{program_of, given_with}
 use Rattle.cli_io.specs.Options.{flag_rule, needed_rule, number_rule, value_rule}
 use Rattle.cli_show.specs.declared.arguments.TheConstants.{POSITIONS}
 
@@ -28,21 +27,9 @@ show_app = with_pfctl (with_log (with_store (new_app (codes "show"))))
 
 -- the program with this subcommand, which has to be given
 abbrev pub pfx_app : App
-pfx_app =
-    let app = with_subcommand (new_app (codes "pfx")) show_app.top in
-    record app { top = record app.top { subcommand_required = true } }
+pfx_app = program_of show_app
 
--- the subcommand is `show`
-abbrev pub is_show : Option (Text × List Row) → Bool
-is_show None = false
-is_show (Some (name, rows)) = bytes_eq name (codes "show")
-
--- the same, unless the arguments have a fault
-abbrev pub unless_faulty : Kinds → Bool → Bool
-unless_faulty [] is_so = is_so
-unless_faulty (k ∷ ks) is_so = false
-
--- the arguments are understood, the program's name first
--- Example: `pfx show --pf` isn't, since `--store` is missing.
-unfoldable pub are_understood : (arguments : List Text) → Bool
-are_understood arguments = unless_faulty (fault_of pfx_app arguments) (is_show (subcommand_of pfx_app arguments))
+-- what is given with `show`, the program's name first; none where the arguments aren't understood
+-- Example: of `pfx show --pf` none, since `--store` is missing.
+abbrev pub given_of : (arguments : List Text) → Option (List Row)
+given_of arguments = given_with pfx_app (codes "show") arguments

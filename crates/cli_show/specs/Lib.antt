@@ -4,5 +4,6 @@ pub mod Owners
 pub mod Stores
 pub mod Arguments
 pub mod Outcomes
+pub mod Running
 pub mod Texts
 pub mod Scripts

@@ -3,7 +3,7 @@ use Rattle.std.specs.Prelude.{◌≡◌, ◌⊎◌, ℕ, List, ◌++◌, Bool, t
 use Rattle.std.specs.Io.KnownBytes.{Appends}
 use Rattle.cli_io.specs.declared.status.Status.{Status}
 use Rattle.cli_io.specs.declared.status.Status.TheVariants as status
-use Rattle.cli_io.specs.Written.{line, AppendsFront, IsMisused}
+use Rattle.cli_io.specs.Written.{line, AppendsFront}
 use Rattle.cli_show.specs.declared.outcome.Outcome.{Outcome}
 use Rattle.cli_show.specs.declared.outcome.Outcome.TheVariants.{Shown, Refused, Memory}
 
@@ -31,9 +31,3 @@ Wrote status.Memory outcome old new = Appends old new (line (codes "memory"))
 Wrote status.Failed outcome old new =
     AppendsFront old new (line (codes "memory")) ⊎ AppendsFront old new (text_of outcome)
 Wrote ended outcome old new = (ended ≡ ending outcome) × Appends old new (text_of outcome)
-
--- A run of arguments that are understood wrote an outcome, or that it was out of memory. It is misused only where they
--- aren't understood.
-abbrev pub Ran : (understood : Bool) → Status → (old new : Option (List ℕ)) → Type 0
-Ran true ended old new = (outcome : Outcome) × Wrote ended outcome old new
-Ran false ended old new = IsMisused ended old new

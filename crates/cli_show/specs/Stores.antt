@@ -1,5 +1,6 @@
 -- What is shown of a store.
-use Rattle.std.specs.Prelude.{◌≡◌, ◌≢◌, ◌⊎◌, ℕ, Bool, false, Option, Some, None, Ok}
+use Rattle.std.specs.Prelude.{◌≡◌, ◌≢◌, ◌⊎◌, ℕ, Bool, false, List, Option, Some, None}
+use Rattle.std.specs.Prelude.{Result, Ok, Err}
 use Rattle.sqlite.specs.Effect.{Database}
 use Rattle.sqlite.specs.Held.{Held, state}
 use Rattle.sqlite.specs.State.{State, HasCleanDisk}
@@ -107,3 +108,10 @@ pub record RefusesFile {S : Type 0} (g : store.Ghosts S) (G : Ghosts (SqlRecords
   pub back : Held S
   pub why : HasCleanDisk (state g back) → IsClosed G g given c
   pub leaves : LeavesFile g holds is_closed given back
+
+-- This is shown of the store at a path where databases are opened and closed, or it is refused.
+abbrev pub AnswersIn : {S : Type 0} → (g : store.Ghosts S) → (G : Ghosts (SqlRecords S g)) →
+    (holds : (path : List ℕ) → Database → (within : Bool) → Type 0) → (refuses : (path : List ℕ) → Closed → Type 0) →
+    (is_closed : State → Type 0) → (path : List ℕ) → Wanted → Result Shown Closed → Type 0
+AnswersIn g G holds refuses is_closed path w (Ok s) = ShowsFile g G (holds path) is_closed w s
+AnswersIn g G holds refuses is_closed path w (Err c) = refuses path c ⊎ RefusesFile g G (holds path) is_closed c

@@ -1,11 +1,13 @@
 //! The store of a node is opened, as far as that changes nothing.
 
-ghost use Rattle.std.specs.Prelude.{◌⊎◌, ⊤, ℕ, Bool, List, IfOk, IfErr};
+ghost use Rattle.std.specs.Prelude.{◌⊎◌, ⊤, ℕ, Bool, List, Result, IfOk, IfErr};
 ghost use Rattle.sqlite.specs.Effect.{Database};
 ghost use Rattle.sqlite.specs.Files.{file_state};
 ghost use Rattle.sqlite.specs.Held.{IsNew};
 ghost use Rattle.sqlite.specs.State.{State};
-ghost use Rattle.cli_show.specs.Stores.{RefusesFile, ShowsFile};
+ghost use Rattle.cli_show.specs.Stores.{AnswersIn, RefusesFile, ShowsFile};
+ghost use Rattle.cli_show.specs.declared.shown.Shown.{Shown};
+ghost use Rattle.cli_show.specs.declared.shown.Wanted.{Wanted};
 ghost use Rattle.cli_show.specs.declared.store.Closed.{Closed};
 
 use crate::shown::{Shown, Wanted};
@@ -55,7 +57,7 @@ fn open_file(rt: &HostRuntime, path: &str) -> Result<Connection<FileStore<File>>
 }
 
 /// Where a store is opened and closed.
-pub(crate) trait Databases {
+pub trait Databases {
     // the file at this path has this database, within a transaction or not
     ghost holds: { Self → (path : List ℕ) → Database → (within : Bool) → Type 0 };
 
@@ -97,7 +99,7 @@ impl Databases for HostRuntime {
 }
 
 /// What is shown of the store in a file.
-pub(crate) fn show_file<D: Databases>(
+fn show_file<D: Databases>(
     dbs: &D,
     alloc: Global,
     path: &str,
@@ -121,5 +123,24 @@ pub(crate) fn show_file<D: Databases>(
             dbs.close(conn);
             Err(closed)
         }
+    }
+}
+
+/// Where stores are shown.
+pub trait Stores {
+    // this is shown of the store at a path, or it is refused
+    ghost answers: { Self → (path : List ℕ) → Wanted → Result Shown Closed → Type 0 };
+
+    /// Shows what is wanted of the store at a path.
+    fn show_at(&self, alloc: Global, path: &str, wanted: Wanted<'_>) -> Result<Shown, Closed>
+        ensures { answers self.now path.now wanted.entry result };
+}
+
+impl<D: Databases> Stores for D {
+    ghost answers = { λ dbs. AnswersIn ⟦<FileStore<File> as Store>⟧ ⟦<SqlRecords<FileStore<File>> as Records>⟧
+        (D.holds dbs) (D.refuses dbs) (D.closed dbs) };
+
+    fn show_at(&self, alloc: Global, path: &str, wanted: Wanted<'_>) -> Result<Shown, Closed> {
+        show_file(self, alloc, path, wanted)
     }
 }

@@ -2,7 +2,8 @@
 //!
 //! # Organization
 //!
-//! - [`run_show`]: the subcommand, over any writer.
+//! - [`run_show`]: the subcommand, over any writer, any files and any stores: those of [`Databases`]
+//!   are [`Stores`].
 //! - [`show_store`]: what is shown of the record in a database; a refusal is [`Closed`].
 //! - [`show_record`]: what is shown of a record, as [`Wanted`]; the record is given back as it was. [`show_node`]: the
 //!   same of a node.
@@ -42,6 +43,7 @@ mod store;
 mod texts;
 mod wanted;
 
+pub use file::{Databases, Stores};
 pub use px_replica::{Membership, NodeFault};
 pub use running::run_show;
 pub use showing::{show_node, show_record};

@@ -4,7 +4,6 @@ ghost use Rattle.std.specs.Prelude.{◌≡◌};
 ghost use Rattle.cli_show.specs.Outcomes.{Wrote, status_of};
 
 use crate::shown::Shown;
-use crate::store::Closed;
 use cli_io::{Status, out_of_memory, write_bytes};
 use std::alloc::Global;
 use std::io::Write;
@@ -18,15 +17,6 @@ pub(crate) enum Outcome {
     Refused(u8),
     /// Out of memory.
     Memory,
-}
-
-/// The same of an answer.
-pub(crate) fn outcome_for(shown: Result<Shown, Closed>) -> Outcome {
-    match shown {
-        Ok(shown) => Outcome::Shown(shown),
-        Err(Closed::Memory) => Outcome::Memory,
-        Err(Closed::Refused(code)) => Outcome::Refused(code),
-    }
 }
 
 /// How a run ends that shows this.

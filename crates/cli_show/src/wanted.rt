@@ -1,9 +1,14 @@
 //! What the arguments ask for.
 
-use clap::ArgMatches;
-use cli_io::values_in;
+ghost use Rattle.std.specs.Prelude.{◌≡◌, is_some, map};
+ghost use Rattle.clap.specs.Words.{first_of, found_of, rows_of};
+ghost use Rattle.cli_show.specs.Running.{has_ruleset_option, has_other_option, has_listing, rest_of, kind_behind};
+ghost use Rattle.cli_show.specs.Running.{alone, kind_by, kind_given, goes_with, has_window, if_together, kind_of};
 
-/// What is asked for beside a listing.
+use clap::ArgMatches;
+use cli_io::{has_flag, value_in, values_in};
+
+/// What is asked for of a store.
 #[derive(Clone, Copy, PartialEq, Eq)]
 pub(crate) enum Kind {
     /// What pfctl's options list.
@@ -23,47 +28,138 @@ pub(crate) enum Kind {
 }
 
 /// The arguments behind the options, none where there are none.
-pub(crate) fn rest_of<'m, 'a>(matches: &'m ArgMatches<'a>) -> &'m [&'a str] {
+pub(crate) fn rest_of<'m, 'a>(matches: &'m ArgMatches<'a>) -> &'m [&'a str]
+    ensures { map (λ w. w.now) result.now ≡ rest_of (rows_of (found_of matches.now)) }
+{
     values_in(matches, "address")
 }
 
-/// Whether an option of pfctl's is there.
-fn has_listing(matches: &ArgMatches<'_>) -> bool {
-    ["path", "file", "flush", "table", "change", "show"]
-        .iter()
-        .any(|id| matches.get_str(id).is_some())
-        || matches.get_flag("check")
+/// Whether an option with a value is there.
+fn has_option(matches: &ArgMatches<'_>, id: &str) -> bool
+    ensures { result ≡ is_some (first_of id.now (rows_of (found_of matches.now))) }
+{
+    value_in(matches, id).is_some()
 }
 
-/// What the matches ask for; none where arguments don't go together.
-pub(crate) fn kind_of(matches: &ArgMatches<'_>) -> Option<Kind> {
-    let rest = rest_of(matches);
-    let is_plain = !has_listing(matches);
-    let whole = match (
-        matches.get_flag("nft"),
-        matches.get_flag("pf"),
-        matches.get_flag("script"),
-    ) {
-        (false, false, false) => None,
-        (true, false, false) => Some(Kind::Nft),
-        (false, true, false) => Some(Kind::Texts),
-        (false, false, true) => Some(Kind::Script),
-        _ => return None,
-    };
-    if let Some(kind) = whole {
-        return if is_plain && rest.is_empty() {
+/// Whether an option of pfctl's for a ruleset is there.
+fn has_ruleset_option(matches: &ArgMatches<'_>) -> bool
+    ensures { result ≡ has_ruleset_option (rows_of (found_of matches.now)) }
+{
+    has_option(matches, "path") || has_option(matches, "file") || has_flag(matches, "check")
+}
+
+/// Whether another one of pfctl's is there.
+fn has_other_option(matches: &ArgMatches<'_>) -> bool
+    ensures { result ≡ has_other_option (rows_of (found_of matches.now)) }
+{
+    has_option(matches, "flush")
+        || has_option(matches, "table")
+        || has_option(matches, "change")
+        || has_option(matches, "show")
+}
+
+/// Whether an option of pfctl's is there.
+fn has_listing(matches: &ArgMatches<'_>) -> bool
+    ensures { result ≡ has_listing (rows_of (found_of matches.now)) }
+{
+    has_ruleset_option(matches) || has_other_option(matches)
+}
+
+/// What arguments without options ask for.
+fn kind_behind(rest: &[&str]) -> Option<Kind>
+    ensures { result ≡ kind_behind (map (λ w. w.now) rest.now) }
+{
+    match rest {
+        [] => Some(Kind::Figures),
+        [argument] => if *argument == "log" {
+            Some(Kind::Log)
+        } else {
+            None
+        },
+        [argument, _, ..] => if *argument == "test" {
+            Some(Kind::Packets)
+        } else {
+            None
+        },
+    }
+}
+
+/// What an option asks for that goes with no argument.
+fn alone(kind: Kind, rest: &[&str]) -> Option<Kind>
+    ensures { result ≡ alone kind (map (λ w. w.now) rest.now) }
+{
+    match rest {
+        [] => Some(kind),
+        _ => None,
+    }
+}
+
+/// What is asked for by these options and the arguments behind them; none where they don't go together.
+fn kind_by(nft: bool, pf: bool, script: bool, listing: bool, rest: &[&str]) -> Option<Kind>
+    ensures { result ≡ kind_by nft pf script listing (map (λ w. w.now) rest.now) }
+{
+    match (nft, pf, script, listing) {
+        (true, false, false, false) => alone(Kind::Nft, rest),
+        (false, true, false, false) => alone(Kind::Texts, rest),
+        (false, false, true, false) => alone(Kind::Script, rest),
+        (false, false, false, true) => Some(Kind::Listing),
+        (false, false, false, false) => kind_behind(rest),
+        _ => None,
+    }
+}
+
+/// Whether these options go with what is asked for: `--interfaces` with `--nft`, `--from` and `--count` with the log.
+fn goes_with(interfaces: bool, window: bool, kind: Kind) -> bool
+    ensures { result ≡ goes_with interfaces window kind }
+{
+    match kind {
+        Kind::Nft => !window,
+        Kind::Log => !interfaces,
+        _ => !interfaces && !window,
+    }
+}
+
+/// What is asked for where these options go with it.
+fn if_together(interfaces: bool, window: bool, kind: Option<Kind>) -> Option<Kind>
+    ensures { result ≡ if_together interfaces window kind }
+{
+    match kind {
+        Some(kind) => if goes_with(interfaces, window, kind) {
             Some(kind)
         } else {
             None
-        };
+        },
+        None => None,
     }
-    if !is_plain {
-        return Some(Kind::Listing);
-    }
-    match rest {
-        [] => Some(Kind::Figures),
-        ["log"] => Some(Kind::Log),
-        ["test", _, ..] => Some(Kind::Packets),
-        _ => None,
-    }
+}
+
+/// What `--nft`, `--pf`, `--script` and the arguments ask for.
+fn kind_given(matches: &ArgMatches<'_>) -> Option<Kind>
+    ensures { result ≡ kind_given (rows_of (found_of matches.now)) }
+{
+    kind_by(
+        has_flag(matches, "nft"),
+        has_flag(matches, "pf"),
+        has_flag(matches, "script"),
+        has_listing(matches),
+        rest_of(matches),
+    )
+}
+
+/// Whether `--from` or `--count` is there.
+fn has_window(matches: &ArgMatches<'_>) -> bool
+    ensures { result ≡ has_window (rows_of (found_of matches.now)) }
+{
+    has_option(matches, "from") || has_option(matches, "count")
+}
+
+/// What the matches ask for; none where arguments don't go together.
+pub(crate) fn kind_of(matches: &ArgMatches<'_>) -> Option<Kind>
+    ensures { result ≡ kind_of (rows_of (found_of matches.now)) }
+{
+    if_together(
+        has_option(matches, "interfaces"),
+        has_window(matches),
+        kind_given(matches),
+    )
 }

@@ -41,6 +41,8 @@ impl<'w, W> Heard<'w, W> {
 }
 
 impl<W: Write> Write for Heard<'_, W> {
+    ghost contents = { λ h. W.contents h.inner.now };
+
     fn write(&mut self, bytes: &[u8]) -> io::Result<usize> {
         if let Some(code) = refusal_in(bytes) {
             self.refusal = Some(code);

@@ -133,7 +133,7 @@ fn help_ask<R: Read, W: Write, E: Write>(
         return status;
     }
     match writer.write_all(b"\nTo a node with neither control socket nor key, over UDP:\n\n") {
-        Ok(()) => run_net(rt, rt.alloc(), arguments, reader, writer),
+        Ok(()) => run_net(rt, *rt, *rt, rt.alloc(), arguments, reader, writer),
         Err(_) => Status::Failed,
     }
 }
@@ -171,7 +171,7 @@ fn run_plain<R: Read, W: Write, E: Write>(
             errors,
             is_terminal,
         ),
-        "node" | "ask" | "key" => run_net(rt, alloc, arguments, reader, writer),
+        "node" | "ask" | "key" => run_net(rt, *rt, *rt, alloc, arguments, reader, writer),
         "show" => run_show(rt, alloc, arguments, writer),
         "follow" => run_follow(rt, rt, alloc, arguments, writer, errors),
         "check" if asks_nft(arguments) => run_nft(rt, alloc, arguments, reader, writer),

@@ -102,7 +102,15 @@ impl Network {
         let words = words.replace(alloc, "@3", self.figures.to_string(alloc)?.as_str())?;
         let words = words_of(alloc, words.as_str(), &[])?;
         let mut written = Vec::new(alloc);
-        let status = run_net(rt, alloc, words.as_slice(), &mut io::empty(), &mut written);
+        let status = run_net(
+            rt,
+            *rt,
+            *rt,
+            alloc,
+            words.as_slice(),
+            &mut io::empty(),
+            &mut written,
+        );
         print_run(rt, status, &written, &[])?;
         self.print_come(rt)
     }

@@ -4,7 +4,7 @@ use Rattle.std.specs.Io.KnownBytes.{Appends}
 use Rattle.nft_rules.specs.declared.guard.Member.{Member}
 use Rattle.cli_follow.specs.Following.{followed_of}
 use Rattle.cli_follow.specs.Output.{Wanted, Follower, Given, Loads, Reached, AsksEntries, AsksStatus, Ended, loads}
-use Rattle.cli_follow.specs.Output.{silent}
+use Rattle.cli_follow.specs.Output.{silent, stays}
 use Rattle.cli_follow.specs.Output.{Stage, written_to, after}
 use Rattle.cli_follow.specs.Exchanges.{Exchange, Adds}
 use Rattle.cli_follow.specs.declared.followed_configuration.FollowedConfiguration.{FollowedConfiguration}
@@ -57,9 +57,9 @@ abbrev pub due_in : Wanted → Follower → Due → Reached
 due_in w f due.More = silent f
 due_in w f due.Rest = silent f
 due_in w f (due.Nothing fault) = silent f
-due_in w f due.Status = record { stage = AsksStatus f; out = [] }
+due_in w f due.Status = stays (AsksStatus f)
 due_in w f due.Write = written_to w.file f
-due_in w f due.Another = record { stage = Ended; out = [] }
+due_in w f due.Another = stays Ended
 
 -- what nft(8) is to load of what was followed
 abbrev pub loads_of : Nft → FollowedConfiguration → Loads

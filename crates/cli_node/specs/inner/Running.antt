@@ -7,7 +7,8 @@ use Rattle.px_packet.specs.declared.start.Start.{Start}
 use Rattle.px_records.specs.declared.records.Records.{Ghosts}
 use Rattle.px_transport.specs.Sending.{Sealer}
 use Rattle.px_wire.specs.declared.membership.Membership.{Membership}
-use Rattle.node_loop.specs.Runs.{Runs}
+use Rattle.node_loop.specs.Runs.{Runs, OnFront}
+use Rattle.node_loop.specs.Timing.{MakesTurns, TimerEvent}
 use Rattle.node_loop.specs.declared.ended.Ended.{Ended}
 use Rattle.node_udp.specs.Addresses.{AreFound}
 use Rattle.node_udp.specs.Members.{route_of}
@@ -53,6 +54,10 @@ RunsHere G m sealing hears members given outcome back made =
     (how : Ended) × (outcome ≡ ended_outcome Memory how) × made how
     × (G.is_honest back → (peers : List Address) × AreFound members peers × (events : List SocketEvent)
     × RunsWith G m sealing hears (route_of peers m.me) given back events)
+
+-- where it ended at its front, that number of turns was made, as its timer saw
+abbrev pub MadeTurns : (turns : ℕ) → (before after : List TimerEvent → Type 0) → Ended → Type 0
+MadeTurns turns before after how = OnFront how (MakesTurns turns before after)
 
 -- whatever it is
 abbrev pub Anything : {A : Type 0} → A → Type 0

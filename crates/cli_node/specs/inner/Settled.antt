@@ -44,15 +44,22 @@ members_in matches file = unwrap_or (option_map raw_values (matched_of (found_of
     (texts_at (get_member (codes "members") (settings_of file)))
 
 -- a node is checked or run
-abbrev pub IsDone : (ran checked : NodeArguments → Outcome → Type 0) → (is_check : Bool) → NodeArguments → Outcome → Type 0
+abbrev pub IsDone : (ran checked : NodeArguments → Outcome → Type 0) → (is_check : Bool) → NodeArguments → Outcome →
+    Type 0
 IsDone ran checked false w outcome = ran w outcome
 IsDone ran checked true w outcome = checked w outcome
 
--- What these settings give with these members: 92, or what the node gives that they describe. It is checked where that
--- is asked for.
+-- the number with which settings are refused: 92 where a file is named, 40 for arguments alone
+abbrev pub settings_code : (named : Option (List ℕ)) → ℕ
+settings_code None = 40
+settings_code (Some path) = BAD_SETTINGS
+
+-- What these settings give with these members: that refusal, or what the node gives that they describe. It is checked
+-- where that is asked for.
 abbrev pub IsSettled : (ran checked : NodeArguments → Outcome → Type 0) → ArgMatches → NodeFile →
     (members : List (List ℕ)) → Outcome → Type 0
-IsSettled ran checked matches file members outcome = (outcome ≡ Refused BAD_SETTINGS)
+IsSettled ran checked matches file members outcome =
+    (outcome ≡ Refused (settings_code (first_value (found_of matches) (codes "config"))))
     ⊎ ((w : NodeArguments) × (is_check : Bool) × AreArguments matches file members w × (is_whole w ≡ true)
     × IsFlag (one_text (found_of matches) (codes "check")) is_check × IsDone ran checked is_check w outcome)
 

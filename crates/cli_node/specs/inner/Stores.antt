@@ -1,9 +1,15 @@
 -- Whether a node's store is opened or made.
-use Rattle.std.specs.Prelude.{◌≡◌, ◌≢◌, ◌⊎◌, ◌||◌, ◌&&◌, ◌==◌, if◌then◌else◌, ⊤, not, ℕ, Bool, true, false}
+use Rattle.std.specs.Prelude.{◌≡◌, ◌≢◌, ◌⊎◌, ◌||◌, ◌&&◌, ◌==◌, if◌then◌else◌, ⊤, not, ℕ, Bool, true, false, None}
 use Rattle.std.specs.Prelude.{List, ◌++◌, codes}
 use Rattle.sqlite.specs.State.{State, HasCleanDisk}
 use Rattle.sqlite.specs.Effect.{Database}
-use Rattle.px_store.specs.Formats.{schema_at}
+use Rattle.sqlite.specs.Held.{Held, state}
+use Rattle.sqlite_trees.specs.declared.store.Store as store
+use Rattle.px_store.specs.Adopting.{Began}
+use Rattle.px_store.specs.Formats.{record_at, schema_at}
+use Rattle.px_store.specs.Judging.{reopen_refusal}
+use Rattle.px_store.specs.View.{connection_of, IsOpened}
+use Rattle.px_store.specs.declared.keeper.SqlRecords.{SqlRecords}
 use Rattle.px_store.specs.declared.formats.Format.{Format}
 use Rattle.px_store.specs.declared.calls.Identity.{Identity}
 use Rattle.px_wire.specs.declared.membership.Membership.{Membership}
@@ -81,6 +87,31 @@ abbrev pub IsKept : (held : Database → (within : Bool) → Type 0) → (now : 
 IsKept held now is_opened =
     (was : Database) × (within : Bool) × held was within
     × (HasCleanDisk now → (f : Format) → was.schema ≡ schema_at f → within ≡ false → is_opened f was)
+
+-- the same of the record in such a database
+abbrev pub IsKeptIn : {S : Type 0} → (g : store.Ghosts S) → (held : Database → (within : Bool) → Type 0) →
+    SqlRecords S g → Type 0
+IsKeptIn g held r = IsKept held (state g (connection_of r)) (λ f db. IsOpened g r (record_at f db.trees))
+
+-- the database that a record is in was closed
+abbrev pub IsClosedIn : {S : Type 0} → (g : store.Ghosts S) → (closed : State → Type 0) → SqlRecords S g → Type 0
+IsClosedIn g closed r = closed (state g (connection_of r))
+
+-- A database that was held begins as one of a format, and its rows are no fault to this owner.
+pub record IsSoundAt {S : Type 0} (g : store.Ghosts S) (held : Database → (within : Bool) → Type 0) (owner : Identity) :
+    Type 0 where
+  pub given : Held S
+  pub back : Held S
+  pub was : held (state g given).now (state g given).in_transaction
+  pub known : (f : Format) × Began f (state g given)
+  pub sound : HasCleanDisk (state g back) → (f : Format) → Began f (state g given) →
+      reopen_refusal f owner (state g given).now.trees ≡ None
+
+-- nothing keeps this owner from the store that is found: one is made, or it isn't read, or it is sound
+abbrev pub IsFit : {S : Type 0} → (g : store.Ghosts S) → (is_unseen : Type 0) →
+    (held : Database → (within : Bool) → Type 0) → (is_from_file is_new : Bool) → Found → (owner : Identity) → Type 0
+IsFit g is_unseen held is_from_file is_new f owner =
+    IsOpening is_from_file is_new f Makes ⊎ (is_unseen ⊎ IsSoundAt g held owner)
 
 -- nothing but out of memory and refusals
 abbrev pub IsRefusal : Outcome → Type 0

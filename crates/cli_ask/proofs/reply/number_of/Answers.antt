@@ -1,4 +1,4 @@
-use Rattle.cli_ask.proofs.Numbers.{number_read, no_number}
+use Rattle.cli_io.proofs.Digits.{number_read, no_number}
 use Rattle.cli_ask.proofs.reply.number_of.Goals as goal
 
 pub returns-in-Ok : goal.returns-in-Ok

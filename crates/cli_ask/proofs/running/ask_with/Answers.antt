@@ -2,7 +2,7 @@ use Rattle.std.proofs.Common.{◌≡◌, ◌∙◌, ℕ, ap, sym, subst, inl, co
 use Rattle.clap.specs.Words.{found_of, rows_of}
 use Rattle.cli_ask.specs.Asking.{answer_value, AskedAt}
 use Rattle.cli_ask.specs.Calls.{call_of, call_value}
-use Rattle.cli_ask.specs.Outcomes.{number_at}
+use Rattle.cli_io.specs.Numbers.{number_at}
 use Rattle.cli_ask.proofs.running.ask_with.Goals as goal
 
 -- the request that the arguments spell is made
@@ -11,8 +11,8 @@ returns g c =
     let rows = rows_of (found_of c.args.matches.now) in
     let found = rw c.in-Ok-Some.field-0-is at c.in-Ok-Some.ensures in
     let good = rw c.in-Ok-None-refusal_of.field-0-is at c.in-Ok-None-refusal_of.ensures in
-    let at : c.unwrap_or-at.result ≡ unwrap_or (number_at rows (codes "at")) 0 = c.unwrap_or-at.ensures ∙ ap (λ o. unwrap_or o 0) c.number_at.ensures in
-    let wait : c.unwrap_or-seconds.result ≡ unwrap_or (number_at rows (codes "wait")) 0 = c.unwrap_or-seconds.ensures ∙ ap (λ o. unwrap_or o 0) c.number_at-2.ensures in
+    let at : c.unwrap_or-at.result ≡ unwrap_or (number_at rows (codes "at")) 0 = c.unwrap_or-at.ensures ∙ ap (λ o. unwrap_or o 0) c.number_in.ensures in
+    let wait : c.unwrap_or-seconds.result ≡ unwrap_or (number_at rows (codes "wait")) 0 = c.unwrap_or-seconds.ensures ∙ ap (λ o. unwrap_or o 0) c.number_in-2.ensures in
     inl (record {
       call = call_value c.in-Ok-Some.call;
       answer = answer_value c.ask_at-answer.result;

@@ -1,7 +1,8 @@
 use Rattle.std.proofs.Common.{ℕ, None, codes, subst, sym}
 use Rattle.cli_ask.specs.Scripts.{change_value, items_in, items_left}
 use Rattle.cli_ask.specs.Scripting.{Ended, end_text}
-use Rattle.cli_ask.proofs.Scripts.{all_begin, all_done, all_bad, all_out, all_ended, all_made, all_skip, ran_out, is_before, isnt_before, AllSo}
+use Rattle.cli_ask.proofs.Scripts.{all_begin, all_done, all_bad, all_out, all_ended, all_made, all_skip, is_before, isnt_before, AllSo}
+use Rattle.cli_io.proofs.Given.{ran_out}
 use Rattle.cli_ask.proofs.scripting.ask_script.Goals as goal
 use Rattle.cli_ask.proofs.scripting.ask_script.Goals.{then-change-request+in_default, else-change-request}
 

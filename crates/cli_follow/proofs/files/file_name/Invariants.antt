@@ -1,6 +1,6 @@
 use Rattle.std.proofs.Common.{◌≡◌, ◌++◌, drop, codes, string_bytes}
 use Rattle.std.specs.List.{flat_map}
-use Rattle.cli_follow.specs.inner.Files.{after_plus}
+use Rattle.cli_follow.specs.Files.{after_plus}
 use Rattle.cli_follow.proofs.files.file_name.Given as goal
 
 -- the names so far, and those that are left

@@ -1,7 +1,7 @@
 use Rattle.std.proofs.Common.{◌≡◌, ◌++◌, map}
 use Rattle.std.specs.Vec.Iter.{into_iter_items}
 use Rattle.pf_dump.specs.Seen.{text_of}
-use Rattle.cli_follow.specs.inner.Files.{file_at, file_value}
+use Rattle.cli_follow.specs.Files.{file_at, file_value}
 use Rattle.cli_follow.proofs.files.files_in.Given as goal
 
 -- the files so far, and those of the rulesets that are left

@@ -2,7 +2,7 @@ use Rattle.std.proofs.Common.{◌∙◌, rules, tests}
 use Rattle.std.proofs.lemmas.Iterator.{YieldsList-from_slice}
 use Rattle.std.proofs.lemmas.Iterator.Search.{any_from_yields_List}
 use Rattle.cli_follow.specs.declared.files.TextFile.{TextFile}
-use Rattle.cli_follow.specs.inner.Files.{is_named, file_value}
+use Rattle.cli_follow.specs.Files.{is_named, file_value}
 use Rattle.cli_follow.proofs.Kept.{any_named}
 use Rattle.cli_follow.proofs.files.has_name.Goals as goal
 

@@ -1,6 +1,6 @@
 use Rattle.std.proofs.Common.{◌≡◌, ◌∙◌, IfOk, refl, subst}
 use Rattle.clap.specs.Words.{App, app_of}
-use Rattle.cli_follow.proofs.Rules.{with_more}
+use Rattle.cli_io.proofs.Rules.{with_more}
 use Rattle.cli_follow.proofs.options.with_places.Goals as goal
 
 pub returns-clause-app : goal.returns-clause-app

@@ -1,14 +1,13 @@
 use Rattle.std.proofs.Common.{◌∙◌, inr, map, sym}
 use Rattle.clap.specs.Words.{found_of, rows_of}
-use Rattle.cli_follow.proofs.Misuse.{kinds_of_program, given_parsed, given_refused, nowhere, at_path}
+use Rattle.cli_follow.proofs.Misuse.{given_parsed, given_refused, nowhere, at_path}
 use Rattle.cli_follow.proofs.running.run_follow.Goals as goal
 
 -- the arguments are refused
 pub returns-in-Err : goal.returns-in-Err
 returns-in-Err g c =
     let arguments = map g.S.AsStr.text c.args.arguments.now in
-    let kinds = kinds_of_program _ arguments c.in-Err.error c.in-Ok.ensures c.in-Err.ensures.kinds in
-    given_refused _ _ _ arguments c.in-Err.error c.refuse.result _ _ c.refuse.ensures.ran kinds c.refuse.ensures.memory
+    given_refused _ _ _ _ _ arguments c.in-Err.error c.refuse.result _ _ c.in-Ok.ensures c.in-Err.ensures.kinds c.refuse.ensures.ran c.refuse.ensures.memory
 
 -- another subcommand
 pub returns-in_default-given_in : goal.returns-in_default-given_in
@@ -19,17 +18,17 @@ returns-in_default-given_in g c =
     rw e (inr tt)
 
 -- no path
-pub returns-in_default-value_of : goal.returns-in_default-value_of
-returns-in_default-value_of g c =
+pub returns-in_default-value_in : goal.returns-in_default-value_in
+returns-in_default-value_in g c =
     let arguments = map g.S.AsStr.text c.args.arguments.now in
     let matches = c.in-Ok-try_get_matches_from in
     let e = given_parsed _ arguments matches.matches c.in-Ok.ensures matches.ensures.kinds matches.ensures.matches ∙ sym c.in-Some.ensures in
-    nowhere _ _ _ _ (rows_of (found_of c.in-Some.inner.now)) c.refused.result _ e (sym c.in_default-value_of.ensures) c.refused.ensures
+    nowhere _ _ _ _ _ (rows_of (found_of c.in-Some.inner.now)) c.refused.result _ e (sym c.in_default-value_in.ensures) c.refused.ensures
 
 pub returns : goal.returns
 returns g c =
     let arguments = map g.S.AsStr.text c.args.arguments.now in
     let matches = c.in-Ok-try_get_matches_from in
     let e = given_parsed _ arguments matches.matches c.in-Ok.ensures matches.ensures.kinds matches.ensures.matches ∙ sym c.in-Some.ensures in
-    at_path _ _ _ _ (rows_of (found_of c.in-Some.inner.now)) c.in-Some-value_of.path.now c.followed.result _ _ c.peer_at-peer.result c.followed.new.control e
-    (sym c.in-Some-value_of.ensures) c.peer_at-peer.ensures c.followed.ensures
+    at_path _ _ _ _ _ (rows_of (found_of c.in-Some.inner.now)) c.in-Some-value_in.path.now c.followed.result _ _ c.peer_at-peer.result c.followed.new.control e
+    (sym c.in-Some-value_in.ensures) c.peer_at-peer.ensures c.followed.ensures

@@ -1,16 +1,30 @@
-use Rattle.std.proofs.Common.{◌≡◌, ◌+◌, subst}
+use Rattle.std.proofs.Common.{◌≡◌, ◌∙◌, ◌+◌, ap, subst, sym}
 use Rattle.cli_follow.specs.declared.follower.Due.TheVariants as due
-use Rattle.cli_follow.specs.Output.{Wanted, AsksEntries, Stopped, written_to}
+use Rattle.cli_follow.specs.Files.{WasPut}
+use Rattle.cli_follow.specs.Output.{Wanted, Stage, AsksEntries, Stopped, TurnFiled, is_again, written_to}
 use Rattle.cli_io.specs.Written.{AppendsFront}
-use Rattle.cli_follow.specs.inner.Seen.{follower_of, wanted_of, due_in, Leads}
+use Rattle.cli_follow.specs.inner.Seen.{follower_of, wanted_of, due_in, stage_in, Leads}
+use Rattle.cli_follow.proofs.Filing.{filed_due, filed_late}
 use Rattle.cli_follow.proofs.Runs.{stopped_before, stopped_within, if_err}
 use Rattle.cli_follow.proofs.running.turn.Goals as goal
 
-pub returns-then-is_err-clause-stopped : goal.returns-then-is_err-clause-stopped
-returns-then-is_err-clause-stopped g c =
-    stopped_before (g.C.Control.exchanged c.args.control.now) (g.C.Control.exchanged c.ask.new.control) (wanted_of c.args.follower.now)
-    (AsksEntries (follower_of c.args.asks c.args.follower.now))
-    (due_in (wanted_of c.args.follower.now) (follower_of (c.args.asks + 1) c.ask.new.follower) c.in-Ok.due) (g.W.Write.contents c.args.writer.now) c.in-Ok.ensures.due
+pub returns-in_err-write_texts-in-Write-clause-stopped : goal.returns-in_err-write_texts-in-Write-clause-stopped
+returns-in_err-write_texts-in-Write-clause-stopped g c =
+    let x = g.C.Control.exchanged c.args.control.now in
+    let y = g.C.Control.exchanged c.ask.new.control in
+    let w = wanted_of c.args.follower.now in
+    let s = AsksEntries (follower_of c.args.asks c.args.follower.now) in
+    let a = g.W.Write.contents c.args.writer.now in
+    if_err c.from_residual.result (Stopped x y w s a a) (stopped_before x y w s (due_in w (follower_of (c.args.asks + 1) c.ask.new.follower) c.in-Ok.due) a c.in-Ok.ensures.due)
+
+pub returns-in_err-write_again-in-Rest-clause-stopped : goal.returns-in_err-write_again-in-Rest-clause-stopped
+returns-in_err-write_again-in-Rest-clause-stopped g c =
+    let x = g.C.Control.exchanged c.args.control.now in
+    let y = g.C.Control.exchanged c.ask.new.control in
+    let w = wanted_of c.args.follower.now in
+    let s = AsksEntries (follower_of c.args.asks c.args.follower.now) in
+    let a = g.W.Write.contents c.args.writer.now in
+    if_err c.from_residual-in_err-write_again-in-Rest.result (Stopped x y w s a a) (stopped_before x y w s (due_in w (follower_of (c.args.asks + 1) c.ask.new.follower) c.in-Ok.due) a c.in-Ok.ensures.due)
 
 pub returns-in_err-write-in-Write-clause-stopped :
     goal.returns-in_err-write-in-Write-clause-stopped
@@ -25,10 +39,30 @@ returns-in_err-write-in-Write-clause-stopped g c =
     let leads : Leads x y w s (due_in w f due.Write) = subst (λ d. Leads x y w s (due_in w f d)) c.in-Write.is c.in-Ok.ensures.due in
     let front : AppendsFront a b (written_to w.file f).out =
     subst (λ (u : Wanted). AppendsFront a b (written_to u.file f).out) c.ask.ensures.wanted (c.in_err-write-in-Write.ensures.front (c.args.asks + 1)) in
-    if_err c.from_residual.result (Stopped x y w s a b) (stopped_within x y w s (due_in w f due.Write) a b leads front)
+    if_err c.from_residual-in_err-write-in-Write.result (Stopped x y w s a b) (stopped_within x y w s (due_in w f due.Write) a b leads front)
 
-pub returns-then-is_err-2-clause-stopped : goal.returns-then-is_err-2-clause-stopped
-returns-then-is_err-2-clause-stopped g c =
-    stopped_before (g.C.Control.exchanged c.args.control.now) (g.C.Control.exchanged c.ask.new.control) (wanted_of c.args.follower.now)
-    (AsksEntries (follower_of c.args.asks c.args.follower.now))
-    (due_in (wanted_of c.args.follower.now) (follower_of (c.args.asks + 1) c.ask.new.follower) c.in-Ok.due) (g.W.Write.contents c.args.writer.now) c.in-Ok.ensures.due
+pub returns-in_ok-write-in-Write-clause-filed : goal.returns-in_ok-write-in-Write-clause-filed
+returns-in_ok-write-in-Write-clause-filed g c =
+    let x = g.C.Control.exchanged c.args.control.now in
+    let y = g.C.Control.exchanged c.ask.new.control in
+    let w = wanted_of c.args.follower.now in
+    let e = follower_of c.args.asks c.args.follower.now in
+    let f = follower_of (c.args.asks + 1) c.ask.new.follower in
+    let f2 = follower_of (c.args.asks + 1) c.write.new.self in
+    let leads : Leads x y w (AsksEntries e) (due_in w f due.Write) = subst (λ d. Leads x y w (AsksEntries e) (due_in w f d)) c.in-Write.is c.in-Ok.ensures.due in
+    let at : (written_to w.file f).stage ≡ AsksEntries f2 =
+    subst (λ (u : Wanted). (written_to u.file f).stage ≡ AsksEntries f2) c.ask.ensures.wanted (c.in_ok-write-in-Write.ensures.whole (c.args.asks + 1)).0 in
+    filed_due x y (WasPut g.F.Folders.has g.F.Folders.is_renamed) w e f (stage_in f2 c.in-Ok.due) c.args.files.now c.write_texts.new.files leads
+    (at ∙ ap (λ d. stage_in f2 d) (sym c.in-Write.is)) c.in_ok-write_texts-in-Write.ensures
+
+pub returns-in_ok-write_again-in-Rest-clause-filed : goal.returns-in_ok-write_again-in-Rest-clause-filed
+returns-in_ok-write_again-in-Rest-clause-filed g c =
+    let x = g.C.Control.exchanged c.args.control.now in
+    let y = g.C.Control.exchanged c.ask.new.control in
+    let put = WasPut g.F.Folders.has g.F.Folders.is_renamed in
+    let w = wanted_of c.args.follower.now in
+    let e = follower_of c.args.asks c.args.follower.now in
+    let f = follower_of (c.args.asks + 1) c.ask.new.follower in
+    let leads : Leads x y w (AsksEntries e) (due_in w f due.Rest) = subst (λ d. Leads x y w (AsksEntries e) (due_in w f d)) c.in-Rest.is c.in-Ok.ensures.due in
+    subst (λ (t : Stage). TurnFiled x y put w e t c.args.files.now c.write_again.new.files) (ap (λ d. stage_in f d) (sym c.in-Rest.is))
+    (filed_late x y put w e f (is_again c.args.asks) c.args.files.now c.write_again.new.files leads c.in_ok-write_again-in-Rest.ensures)

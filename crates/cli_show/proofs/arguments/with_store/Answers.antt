@@ -1,11 +1,11 @@
 use Rattle.std.proofs.Common.{◌≡◌, ◌∙◌, IfOk, refl, subst}
 use Rattle.clap.specs.Words.{App, app_of}
-use Rattle.cli_show.proofs.Rules.{with_more}
+use Rattle.cli_io.proofs.Rules.{with_more}
 use Rattle.cli_show.proofs.arguments.with_store.Goals as goal
 
 pub returns-clause-app : goal.returns-clause-app
 returns-clause-app c =
-    let store = c.in_ok-command.ensures.app ∙ with_more _ _ _ _ refl c.store.ensures.rule in
+    let store = c.in_ok-command.ensures.app ∙ with_more _ _ _ _ refl c.needed.ensures.rule in
     let nft = c.in_ok-command-2.ensures.app ∙ with_more _ _ _ _ store c.flag.ensures.rule in
     let interfaces = c.in_ok-command-3.ensures.app ∙ with_more _ _ _ _ nft c.valued.ensures.rule in
     subst (λ (a : App). IfOk c.with_option-4.result (λ o. app_of o ≡ a)) (with_more _ _ _ _ interfaces c.flag-2.ensures.rule) c.with_option-4.ensures.app

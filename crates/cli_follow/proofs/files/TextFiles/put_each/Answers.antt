@@ -1,14 +1,14 @@
 use Rattle.std.proofs.Common.{ℕ, List, refl, subst}
 use Rattle.std.specs.Prelude.{string_bytes}
 use Rattle.cli_follow.specs.declared.files.TextFile.{TextFile}
-use Rattle.cli_follow.specs.inner.Files.{IsPut, file_value}
+use Rattle.cli_follow.specs.Files.{WasPut, file_value}
 use Rattle.cli_follow.proofs.Kept.{written_after, one_more}
 use Rattle.cli_follow.proofs.files.TextFiles.put_each.Goals as goal
 
 pub loop-file-preserved : goal.loop-file-preserved
 loop-file-preserved g c = record {
   written = λ before.
-      let put = IsPut (g.F.Folders.is_written c.args.rt.now) (g.F.Folders.is_renamed c.args.rt.now)
+      let put = WasPut g.F.Folders.has g.F.Folders.is_renamed
       (string_bytes c.args.self.now.folder) in
       let file : TextFile = record { name = c.in-Some.file.name; text = c.in-Some.file.text; is_put = c.in_ok-is_put.is_put } in
       written_after put c.loop-file.put.items c.push.new.self.items file (c.loop-file.invariant.written before)

@@ -1,5 +1,5 @@
 use Rattle.std.proofs.Common.{◌≡◌, drop, map}
-use Rattle.cli_follow.specs.inner.Files.{file_value, with_gone}
+use Rattle.cli_follow.specs.Files.{file_value, with_gone}
 use Rattle.cli_follow.proofs.files.TextFiles.with_gone.Given as goal
 
 -- the files so far, and those before that are left

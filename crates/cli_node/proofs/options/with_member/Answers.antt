@@ -1,0 +1,11 @@
+use Rattle.std.proofs.Common.{◌≡◌, ◌∙◌, IfOk, refl, subst}
+use Rattle.clap.specs.Words.{App, app_of}
+use Rattle.cli_io.proofs.Rules.{with_more}
+use Rattle.cli_node.proofs.options.with_member.Goals as goal
+
+pub returns-clause-app : goal.returns-clause-app
+returns-clause-app c =
+    let to = c.in_ok-command.ensures.app ∙ with_more _ _ _ _ refl c.needed.ensures.rule in
+    let cluster = c.in_ok-command-2.ensures.app ∙ with_more _ _ _ _ to c.large.ensures.rule in
+    let members = c.in_ok-command-3.ensures.app ∙ with_more _ _ _ _ cluster c.small.ensures.rule in
+    subst (λ (a : App). IfOk c.with_option-4.result (λ o. app_of o ≡ a)) (with_more _ _ _ _ members c.small-2.ensures.rule) c.with_option-4.ensures.app
