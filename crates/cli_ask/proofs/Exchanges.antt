@@ -2,7 +2,7 @@
 use Rattle.std.proofs.Common.{◌≡◌, ℕ, ◌+◌, ◌≤◌, Bool, List, [], ◌∷◌, ◌++◌, Option, refl, ap, inl, inr, arith}
 use Rattle.std.specs.Prelude.{◌⊎◌}
 use Rattle.std.proofs.lemmas.List.Elements.{All-push}
-use Rattle.cli_ask.specs.Asking.{Answered, Event, Asked, Looked, asked_count, Adds}
+use Rattle.cli_ask.specs.Asking.{Answered, Event, Asked, Looked, Directed, asked_count, Adds}
 use Rattle.cli_ask.specs.Calls.{Request}
 use Rattle.cli_ask.specs.Exchanges.{AreExchanged, HasExchange, IsExchanged}
 
@@ -10,11 +10,19 @@ count_more : (es : List Event) (limit : ℕ) (r : Request) (a : Answered) → as
 count_more [] limit r a = refl
 count_more (Asked l q b ∷ es) limit r a = ap (λ (n : ℕ). n + 1) (count_more es limit r a)
 count_more (Looked l b ∷ es) limit r a = count_more es limit r a
+count_more (Directed p ∷ es) limit r a = count_more es limit r a
 
 count_same : (es : List Event) (limit : ℕ) (over : Bool) → asked_count (es ++ Looked limit over ∷ []) ≡ asked_count es
 count_same [] limit over = refl
 count_same (Asked l q b ∷ es) limit over = ap (λ (n : ℕ). n + 1) (count_same es limit over)
 count_same (Looked l b ∷ es) limit over = count_same es limit over
+count_same (Directed p ∷ es) limit over = count_same es limit over
+
+count_there : (es : List Event) (path : List ℕ) → asked_count (es ++ Directed path ∷ []) ≡ asked_count es
+count_there [] path = refl
+count_there (Asked l q b ∷ es) path = ap (λ (n : ℕ). n + 1) (count_there es path)
+count_there (Looked l b ∷ es) path = count_there es path
+count_there (Directed p ∷ es) path = count_there es path
 
 module _ {D S : Type 0} (dialed : D → ℕ → Type 0) (is_refused : D → Type 0) (is_new : S → Type 0) (contents remaining : S → Option (List ℕ))
     (old new : D) where
@@ -42,4 +50,17 @@ module _ {D S : Type 0} (dialed : D → ℕ → Type 0) (is_refused : D → Type
         counted = so.counted;
         few = omega (arith, e, l);
         each = All-push (IsExchanged is_refused is_new contents remaining) es (Looked limit over) so.each tt;
+      }
+
+  -- requests are made at another socket, of which as many connections were asked for
+  pub exchanged_there : (path : List ℕ) → ((n : ℕ) → dialed old n → dialed new n) →
+      Adds (AreExchanged dialed is_refused is_new contents remaining old) (AreExchanged dialed is_refused is_new contents remaining new) (Directed path ∷ [])
+  exchanged_there path same = λ es so.
+      let e : asked_count (es ++ Directed path ∷ []) ≡ asked_count es = count_there es path in
+      let l : so.count ≤ asked_count es = so.few in
+      record {
+        count = so.count;
+        counted = same so.count so.counted;
+        few = omega (arith, e, l);
+        each = All-push (IsExchanged is_refused is_new contents remaining) es (Directed path) so.each tt;
       }

@@ -30,15 +30,17 @@ parts_value (Ok None) = None
 parts_value (Err f) = Some (Err f)
 
 -- A request and its answer, which was waited for until the limit, in seconds; or the clock was read, and the time up to
--- the limit is over or isn't.
+-- the limit is over or isn't; or from here on requests are made at the control socket at this path.
 pub data Event : Type 0 where
   Asked : (limit : ℕ) → Request → Answered → Event
   Looked : (limit : ℕ) → (is_over : Bool) → Event
+  Directed : (path : List ℕ) → Event
 
 abbrev pub asked_count : List Event → ℕ
 asked_count [] = 0
 asked_count (Asked limit r a ∷ es) = asked_count es + 1
 asked_count (Looked limit is_over ∷ es) = asked_count es
+asked_count (Directed path ∷ es) = asked_count es
 
 -- where these events came so far, those are with these more
 -- Example: what is asked twice is there twice.

@@ -1,7 +1,7 @@
 -- What a node was asked over connections, and what it answered.
 use Rattle.std.specs.Prelude.{◌≡◌, ◌≤◌, ℕ, List, Option, Some, Ok, Err}
 use Rattle.std.specs.List.{All}
-use Rattle.cli_ask.specs.Asking.{Answered, Event, Asked, Looked, asked_count}
+use Rattle.cli_ask.specs.Asking.{Answered, Event, Asked, Looked, Directed, asked_count}
 use Rattle.cli_ask.specs.Calls.{Request}
 use Rattle.cli_ask.specs.Replies.{Answer, IsAnswerTo, IsUnanswered}
 use Rattle.cli_ask.specs.Showing.{printable}
@@ -21,12 +21,13 @@ HasExchange is_refused is_new contents remaining r (Ok a) = IsPrinted is_new con
 HasExchange {D} is_refused is_new contents remaining r (Err f) =
     IsUnanswered is_new ((now : D) × is_refused now) f
 
--- the same of an event; of the clock nothing is specified
+-- the same of an event; of the clock, and of where requests are made, nothing is specified
 abbrev pub IsExchanged : {D S : Type 0} → (is_refused : D → Type 0) → (is_new : S → Type 0) →
     (contents remaining : S → Option (List ℕ)) → Event → Type 0
 IsExchanged is_refused is_new contents remaining (Asked limit r a) =
     HasExchange is_refused is_new contents remaining r a
 IsExchanged is_refused is_new contents remaining (Looked limit is_over) = Unit {0}
+IsExchanged is_refused is_new contents remaining (Directed path) = Unit {0}
 
 -- Each of the requests among these events had its exchange, and no more connections were asked for than requests were
 -- made.

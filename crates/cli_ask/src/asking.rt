@@ -38,6 +38,18 @@ pub fn pause<RT: Net>(rt: &RT, milliseconds: u64) {
     }
 }
 
+/// What waits between two requests, and does nothing else: a caller that is generic over it reaches nobody by it.
+pub trait Pauses {
+    /// Waits for that many milliseconds.
+    fn pause(&self, milliseconds: u64);
+}
+
+impl<RT: Net> Pauses for RT {
+    fn pause(&self, milliseconds: u64) {
+        pause(self, milliseconds)
+    }
+}
+
 /// Whether it is to be asked again: the node answers that the request is waiting; or there is no answer to a request
 /// that makes no change, as while the node is restarted.
 fn is_open(call: &Call, found: &Result<Reply, AskFault>) -> bool
@@ -78,7 +90,7 @@ fn in_time(
 
 /// Asks again while that is to be done and time is left, if it may be asked again at all. Where the time is over behind
 /// an answer, that is the answer; in the midst of an ask that may be made again, the one before.
-pub(crate) fn ask_on<RT: Net, C: Control>(
+pub(crate) fn ask_on<RT: Pauses, C: Control>(
     rt: &RT,
     alloc: Global,
     control: &mut C,
@@ -96,7 +108,7 @@ pub(crate) fn ask_on<RT: Net, C: Control>(
             return found;
         }
         if ask >= AT_ONCE {
-            pause(rt, PAUSE);
+            rt.pause(PAUSE);
         }
         if control.is_over(deadline) {
             return in_time(alloc, is_waiting, found);
@@ -107,7 +119,7 @@ pub(crate) fn ask_on<RT: Net, C: Control>(
 }
 
 /// Behind a command that was accepted, asks what became of it.
-fn follow_up<RT: Net, C: Control>(
+fn follow_up<RT: Pauses, C: Control>(
     rt: &RT,
     alloc: Global,
     control: &mut C,
@@ -139,7 +151,7 @@ fn limit_of(seconds: u32) -> u32
 /// in time. No command is asked twice that may have been accepted. With 0 seconds it is asked once, and the answer is
 /// waited for 10 seconds at most. Verdicts of many packets are asked for in as many requests as the node needs; they
 /// are of one position, or there is no answer.
-pub(crate) fn ask_at<RT: Net + Clock, C: Control>(
+pub(crate) fn ask_at<RT: Pauses + Clock, C: Control>(
     rt: &RT,
     alloc: Global,
     control: &mut C,

@@ -3,7 +3,7 @@
 ghost use Rattle.std.specs.Prelude.{◌≡◌, ◌⊎◌, ℕ, ◌+◌, List, [], ◌∷◌, Some, Err, IfOk, string_bytes};
 ghost use Rattle.cli_ask.specs.Calls.{call_value};
 ghost use Rattle.cli_ask.specs.Replies.{reply_value};
-ghost use Rattle.cli_ask.specs.Asking.{Event, Asked, Looked, Adds, answer_value};
+ghost use Rattle.cli_ask.specs.Asking.{Event, Asked, Looked, Directed, Adds, answer_value};
 ghost use Rattle.cli_ask.specs.Exchanges.{AreExchanged, HasExchange};
 ghost use Rattle.cli_ask.specs.Reading.{ReadAt};
 ghost use Rattle.cli_ask.specs.Showing.{printable};
@@ -18,7 +18,7 @@ use std::time::Clock;
 
 /// A peer that answers as a node does at its control socket.
 pub trait Control {
-    // these requests were made and answered, and the clock was read, so far, in order
+    // these requests were made and answered, the clock was read, and it was directed to these paths, so far, in order
     ghost exchanged: { Self → List Event → Type 0 };
 
     /// Makes a request once, and waits for the answer until the deadline.
@@ -29,6 +29,17 @@ pub trait Control {
     /// Whether the time until the deadline is over, by the clock.
     fn is_over(&mut self, deadline: Deadline) -> bool
         ensures { Adds (exchanged self.old) (exchanged self.new) (Looked deadline.seconds result ∷ []) };
+}
+
+/// A peer that answers at any control socket: at the one to which it was directed last.
+pub trait Direct<'a>: Control {
+    // it answers at the control socket at this path
+    ghost answers_at: { Self → (path : List ℕ) → Type 0 };
+
+    /// What is asked from now on is asked at the control socket at a path.
+    fn direct(&mut self, path: &'a str)
+        ensures there { answers_at self.new path.now }
+        ensures alone { Adds (Self.exchanged self.old) (Self.exchanged self.new) (Directed path.now ∷ []) };
 }
 
 /// An answer as it is printed.
@@ -87,6 +98,26 @@ impl<D: Dial, RT: Clock> Control for Reached<'_, D, RT> {
     }
 }
 
+impl<'a, RT: Net + Clock> Reached<'a, ControlSocket<'a, RT>, RT> {
+    /// Whoever answers at the system's control sockets, at none before it is directed to one.
+    pub fn new(rt: &'a RT) -> Reached<'a, ControlSocket<'a, RT>, RT>
+        ensures { ⟦<Reached<'a, ControlSocket<'a, RT>, RT> as Control>⟧.exchanged result [] }
+    {
+        Reached {
+            dial: ControlSocket { rt, path: "" },
+            rt,
+        }
+    }
+}
+
+impl<'a, RT: Net + Clock> Direct<'a> for Reached<'a, ControlSocket<'a, RT>, RT> {
+    ghost answers_at = { λ peer path. peer.dial.path.now ≡ path };
+
+    fn direct(&mut self, path: &'a str) {
+        self.dial.path = path;
+    }
+}
+
 /// Where control sockets are.
 pub trait ControlSockets<'a> {
     /// One by itself, over which a request is made.
@@ -98,16 +129,6 @@ pub trait ControlSockets<'a> {
     /// The control socket at a path.
     fn socket_at(&'a self, path: &'a str) -> Self::Socket
         ensures { is_at self.now path.now result };
-
-    /// Whoever answers at one.
-    type Peer: Control + Drop;
-
-    // this one answers at the control socket at this path
-    ghost answers_at: { Self → (path : List ℕ) → Self.Peer → Type 0 };
-
-    /// Whoever answers at the control socket at a path.
-    fn peer_at(&'a self, path: &'a str) -> Self::Peer
-        ensures { answers_at self.now path.now result };
 }
 
 impl<'a, RT: Net + Clock + 'a> ControlSockets<'a> for RT {
@@ -117,17 +138,6 @@ impl<'a, RT: Net + Clock + 'a> ControlSockets<'a> for RT {
 
     fn socket_at(&'a self, path: &'a str) -> ControlSocket<'a, RT> {
         ControlSocket { rt: self, path }
-    }
-
-    type Peer = Reached<'a, ControlSocket<'a, RT>, RT>;
-
-    ghost answers_at = { λ _ path peer. peer.dial.path.now ≡ path };
-
-    fn peer_at(&'a self, path: &'a str) -> Reached<'a, ControlSocket<'a, RT>, RT> {
-        Reached {
-            dial: ControlSocket { rt: self, path },
-            rt: self,
-        }
     }
 }
 

@@ -2,9 +2,10 @@
 //!
 //! # Organization
 //!
-//! - [`run_control_ask`]: the subcommand `ask` with `--control`, over any reader and writer.
+//! - [`run_control_ask`]: the subcommand `ask` with `--control`, over any reader and writer, at a peer that the caller
+//!   lends ([`Direct`], [`Control`]): the system's is [`Reached`].
 //! - [`read_at`], [`pause`]: one read at a control socket with its [`Reply`], and the time between two.
-//! - [`ControlSockets`]: where control sockets are; for the system's the handle itself.
+//! - [`ControlSockets`]: where control sockets are that are read; for the system's the handle itself.
 //! - [`change_line`]: the line of a change that is sent, and [`laws`]: it is read as the arguments that it was made of.
 //!
 //! Within: `options` has the arguments as `clap` reads them, `arguments` what is sent for them, a `call` with its
@@ -23,6 +24,9 @@
 //! - What is asked, and how often, is stated over a trait (`Control`), whose ghost has the requests and their answers,
 //!   since no contract can state what a socket gives. For a peer that is reached over connections (`Reached`) it has
 //!   what was written to each and read of it.
+//! - **A run borrows its peer**, and directs it to the path of `--control`, which is among what the ghost has: its
+//!   contract is of the peer's states before and after it, so that nothing is asked behind the run, at another path,
+//!   or where the arguments are misused. Of the system it has no sockets beside that ([`Pauses`]).
 #![tactic(auto)]
 
 mod answers;
@@ -46,9 +50,9 @@ mod showing;
 mod target;
 mod verdicts;
 
-pub use asking::pause;
+pub use asking::{Pauses, pause};
 pub use cli_io::Status;
-pub use control::{ControlSockets, read_at};
+pub use control::{Control, ControlSockets, Direct, Reached, read_at};
 pub use exchange::{AskFault, Reply};
 pub use running::run_control_ask;
 pub use sending::change_line;

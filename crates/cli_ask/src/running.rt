@@ -12,11 +12,11 @@ ghost use Rattle.cli_ask.specs.Outcomes.{RunsScript, Runs};
 ghost use Rattle.cli_ask.specs.Running.{Ran};
 
 use crate::arguments::{call_in, has_option};
-use crate::asking::ask_at;
+use crate::asking::{Pauses, ask_at};
 use crate::call::Kind;
 use crate::checking::{Refused, refusal_of};
 use crate::commands::is_command;
-use crate::control::{Control, ControlSockets};
+use crate::control::{Control, Direct};
 use crate::exchange::{AskFault, Reply};
 use crate::options::command;
 use crate::outcome::{Outcome, refused, write_outcome};
@@ -31,7 +31,6 @@ use cli_io::{
 use std::alloc::{AllocError, Global};
 use std::convert::AsStr;
 use std::io::{Read, Write};
-use std::net::Net;
 use std::time::Clock;
 
 /// What a source that can't be read gives: of a file 90.
@@ -86,7 +85,7 @@ fn replied<E: Write>(kind: Kind, answer: Result<Reply, AskFault>, errors: &mut E
 }
 
 /// Makes the request that the arguments spell with this text.
-fn ask_with<RT: Net + Clock, C: Control, E: Write>(
+fn ask_with<RT: Pauses + Clock, C: Control, E: Write>(
     rt: &RT,
     alloc: Global,
     matches: &ArgMatches<'_>,
@@ -114,7 +113,7 @@ fn ask_with<RT: Net + Clock, C: Control, E: Write>(
 }
 
 /// What the arguments give at a control socket.
-fn outcome_of<RT: Net + Clock + Sources, C: Control, R: Read, E: Write>(
+fn outcome_of<RT: Pauses + Clock + Sources, C: Control, R: Read, E: Write>(
     rt: &RT,
     alloc: Global,
     matches: &ArgMatches<'_>,
@@ -209,7 +208,7 @@ fn script_in<T: Sources, R: Read>(
 }
 
 /// Asks the changes of a script.
-fn run_script<RT: Net + Clock + Sources, C: Control, R: Read, W: Write, E: Write>(
+fn run_script<RT: Pauses + Clock + Sources, C: Control, R: Read, W: Write, E: Write>(
     rt: &RT,
     alloc: Global,
     matches: &ArgMatches<'_>,
@@ -238,7 +237,7 @@ fn run_script<RT: Net + Clock + Sources, C: Control, R: Read, W: Write, E: Write
 }
 
 /// Asks at a control socket what the arguments spell, and writes what that gives.
-fn run_at<RT: Net + Clock + Sources, C: Control, R: Read, W: Write, E: Write>(
+fn run_at<RT: Pauses + Clock + Sources, C: Control, R: Read, W: Write, E: Write>(
     rt: &RT,
     alloc: Global,
     matches: &ArgMatches<'_>,
@@ -274,23 +273,23 @@ fn run_at<RT: Net + Clock + Sources, C: Control, R: Read, W: Write, E: Write>(
 /// whose answer is written; with `--script` each change of a script, one after the other. Arguments of a change that
 /// are refused wherever they are asked (40, 24, 1 to 3, 41), and a ruleset that the grammar refuses, are refused before
 /// the node is asked, unless `--unchecked` is among them. An argument with a control character is refused (40) in any
-/// case. 85 where nobody answers at the socket, 86 where the answer is cut short or none. The node is the one that
-/// `sockets` has at the path of `--control`: for the system's control sockets they are `rt`.
+/// case. 85 where nobody answers at the socket, 86 where the answer is cut short or none. `peer` is directed to the
+/// path of `--control`, and is asked nothing else.
 ///
 /// The status is 1 where a change was refused or its outcome isn't known in time, where not all addresses of `-T test`
 /// match, and of every refusal. Messages on `errors` are how many positions are left once few are, and, where that
 /// is a terminal, at which line a script is.
 pub fn run_control_ask<
     'a,
-    RT: Net + Clock + Sources,
-    C: ControlSockets<'a>,
+    RT: Pauses + Clock + Sources,
+    C: Direct<'a>,
     S: AsStr,
     R: Read,
     W: Write,
     E: Write,
 >(
     rt: &RT,
-    sockets: &'a C,
+    peer: &mut C,
     alloc: Global,
     arguments: &'a [S],
     reader: &mut R,
@@ -298,7 +297,7 @@ pub fn run_control_ask<
     errors: &mut E,
     is_terminal: bool,
 ) -> Status
-    ensures { Ran (C.answers_at sockets.now) C.Peer.exchanged (given_of (map S.text arguments.now))
+    ensures { Ran C.answers_at C.exchanged peer.old peer.new (given_of (map S.text arguments.now))
         (IsText (RT.has rt.now) (R.remaining reader.old)) result (W.contents writer.old) (W.contents writer.new) }
 {
     let Ok(command) = command(alloc) else {
@@ -314,15 +313,6 @@ pub fn run_control_ask<
     let Some(path) = value_in(inner, "control") else {
         return write_outcome(alloc, refused(40), writer);
     };
-    let mut peer = sockets.peer_at(path);
-    run_at(
-        rt,
-        alloc,
-        inner,
-        &mut peer,
-        reader,
-        writer,
-        errors,
-        is_terminal,
-    )
+    peer.direct(path);
+    run_at(rt, alloc, inner, peer, reader, writer, errors, is_terminal)
 }

@@ -7,7 +7,7 @@ ghost use Rattle.cli_ask.specs.Scripting.{call_for, printed, went_value, went_by
 ghost use Rattle.cli_ask.specs.Scripting.{end_text, Ended, AskedOne, AskedAll};
 
 use crate::answers::outcome_behind;
-use crate::asking::ask_at;
+use crate::asking::{Pauses, ask_at};
 use crate::control::Control;
 use crate::exchange::{AskFault, Reply};
 use crate::reporting::{report_left, report_line};
@@ -15,7 +15,6 @@ use crate::script::{Change, Left, ScriptFault, next_change};
 use cli_io::{Status, out_of_memory, write_bytes};
 use std::alloc::{AllocError, Global};
 use std::io::Write;
-use std::net::Net;
 use std::time::Clock;
 
 /// What comes of a change that was made.
@@ -55,7 +54,7 @@ fn went_by(alloc: Global, reply: Reply) -> Result<Went, AllocError>
 }
 
 /// Asks one change, and waits for what comes of it.
-fn make<RT: Net + Clock, C: Control, E: Write>(
+fn make<RT: Pauses + Clock, C: Control, E: Write>(
     rt: &RT,
     alloc: Global,
     control: &mut C,
@@ -95,7 +94,7 @@ fn write_end<W: Write>(alloc: Global, said: &[u8], line: u64, writer: &mut W) ->
 }
 
 /// Asks one change and writes what came of it; none where it was made, else how the script ends.
-fn ask_one<RT: Net + Clock, C: Control, W: Write, E: Write>(
+fn ask_one<RT: Pauses + Clock, C: Control, W: Write, E: Write>(
     rt: &RT,
     alloc: Global,
     control: &mut C,
@@ -121,7 +120,7 @@ fn ask_one<RT: Net + Clock, C: Control, W: Write, E: Write>(
 
 /// Asks the script's changes, each once what came of the one before it is known, and writes a line of each. It ends at
 /// the first that isn't made, or of which nobody knows, with the number of its line.
-pub(crate) fn ask_script<RT: Net + Clock, C: Control, W: Write, E: Write>(
+pub(crate) fn ask_script<RT: Pauses + Clock, C: Control, W: Write, E: Write>(
     rt: &RT,
     alloc: Global,
     control: &mut C,

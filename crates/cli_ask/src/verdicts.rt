@@ -6,13 +6,12 @@ ghost use Rattle.cli_ask.specs.Replies.{reply_value};
 ghost use Rattle.cli_ask.specs.Asking.{line_count, behind_lines, left_by, is_whole, IsOfOne, with_more};
 ghost use Rattle.cli_ask.specs.Asking.{answer_value, parts_value, BegunParts, AskedVerdicts};
 
-use crate::asking::ask_on;
+use crate::asking::{Pauses, ask_on};
 use crate::call::Call;
 use crate::control::Control;
 use crate::exchange::{AskFault, Deadline, Reply};
 use pf_scripts::cut_line;
 use std::alloc::{AllocError, Global};
-use std::net::Net;
 
 /// How many times verdicts are asked for that a node doesn't answer at once, until all are of one position.
 const BEGINNINGS: u32 = 3;
@@ -72,7 +71,7 @@ fn push_part(so_far: &mut Reply, part: &Reply) -> Result<(), AllocError>
 
 /// Asks for the verdicts behind those that an answer has, as many at a time as the node answers at once; none where it
 /// has applied another position meanwhile, so that they would be verdicts of several configurations.
-fn ask_verdicts<RT: Net, C: Control>(
+fn ask_verdicts<RT: Pauses, C: Control>(
     rt: &RT,
     alloc: Global,
     control: &mut C,
@@ -105,7 +104,7 @@ fn ask_verdicts<RT: Net, C: Control>(
 }
 
 /// The verdicts of one position: they are asked for anew where the node has applied another one meanwhile.
-pub(crate) fn verdicts<RT: Net, C: Control>(
+pub(crate) fn verdicts<RT: Pauses, C: Control>(
     rt: &RT,
     alloc: Global,
     control: &mut C,

@@ -6,6 +6,7 @@ use Rattle.clap.specs.Words.{Row, ReadsOne}
 use Rattle.cli_io.specs.declared.status.Status.{Status}
 use Rattle.cli_io.specs.declared.status.Status.TheVariants as status
 use Rattle.cli_follow.specs.Exchanges.{Exchange}
+use Rattle.cli_follow.specs.Files.{Act}
 use Rattle.cli_follow.specs.Places.{AreTurns, FollowedBy, FollowedTo, IsEnding, IsNoEnding, IsRefusedWith, IsWantedBy}
 use Rattle.cli_follow.specs.declared.follower.WriteFault.TheVariants as fault
 use Rattle.cli_follow.specs.declared.places.Places.{Places}
@@ -19,14 +20,14 @@ turns_are gives (Some t) (Some v) n none some f is = λ digits fits. is ∙ (f t
 turns_are gives (Some t) None n none some f is = let w = some t refl in λ digits fits. absurd (f t (Err w.0) w.1 (digits, fits))
 
 -- a run to these places
-pub to_places : (x y : List Exchange → Type 0) (put : List ℕ → List ℕ → List ℕ → Type 0) (has : (path text : List ℕ) → Type 0) (rows : List Row) (p : Places) (turns : ℕ) (s : Status) (a b : Option (List ℕ)) → IsWantedBy has rows p →
-    FollowedTo x y put p turns s a b → FollowedBy x y put has rows turns s a b
-to_places x y put has rows p turns s a b wanted followed = inl (p, (wanted, followed))
+pub to_places : (x y : List Exchange → Type 0) (u v : List Act → Type 0) (has : (path text : List ℕ) → Type 0) (rows : List Row) (p : Places) (turns : ℕ) (s : Status) (a b : Option (List ℕ)) → IsWantedBy has rows p →
+    FollowedTo x y u v p turns s a b → FollowedBy x y u v has rows turns s a b
+to_places x y u v has rows p turns s a b wanted followed = inl (p, (wanted, followed))
 
 -- none, for a refusal
-pub refused_first : (x : List Exchange → Type 0) (put : List ℕ → List ℕ → List ℕ → Type 0) (has : (path text : List ℕ) → Type 0) (rows : List Row) (turns : ℕ) (code : ℕ) (s : Status) (a : Option (List ℕ)) → IsRefusedWith rows code → IsNoEnding s →
-    FollowedBy x x put has rows turns s a a
-refused_first x put has rows turns code s a why ending = inr (adds_nothing x, (Appends-nil a, (ending, λ e. (code, why))))
+pub refused_first : (x : List Exchange → Type 0) (u : List Act → Type 0) (has : (path text : List ℕ) → Type 0) (rows : List Row) (turns : ℕ) (code : ℕ) (s : Status) (a : Option (List ℕ)) → IsRefusedWith rows code → IsNoEnding s →
+    FollowedBy x x u u has rows turns s a a
+refused_first x u has rows turns code s a why ending = inr (adds_nothing x, (adds_nothing u, (Appends-nil a, (ending, λ e. (code, why)))))
 
 no_ending : (rows : List Row) (s : Status) → IsEnding (Err fault.Memory) s → IsNoEnding s × ((s ≡ status.Refused) → (code : ℕ) × IsRefusedWith rows code)
 no_ending rows status.Done h = (inr h, λ e. absurd cc)
@@ -37,6 +38,6 @@ no_ending rows status.Memory h = (inr h, λ e. absurd cc)
 no_ending rows status.Failed h = (inr h, λ e. absurd cc)
 
 -- none, when out of memory
-pub no_memory : (x : List Exchange → Type 0) (put : List ℕ → List ℕ → List ℕ → Type 0) (has : (path text : List ℕ) → Type 0) (rows : List Row) (turns : ℕ) (s : Status) (a : Option (List ℕ)) → IsEnding (Err fault.Memory) s →
-    FollowedBy x x put has rows turns s a a
-no_memory x put has rows turns s a ending = inr (adds_nothing x, (Appends-nil a, no_ending rows s ending))
+pub no_memory : (x : List Exchange → Type 0) (u : List Act → Type 0) (has : (path text : List ℕ) → Type 0) (rows : List Row) (turns : ℕ) (s : Status) (a : Option (List ℕ)) → IsEnding (Err fault.Memory) s →
+    FollowedBy x x u u has rows turns s a a
+no_memory x u has rows turns s a ending = inr (adds_nothing x, (adds_nothing u, (Appends-nil a, no_ending rows s ending)))

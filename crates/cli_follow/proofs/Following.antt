@@ -1,11 +1,11 @@
 -- What a control socket answers of a log leads from one configuration of the log to a later one.
-use Rattle.std.proofs.Common.{◌≡◌, ◌==◌, ℕ, zero, suc, ◌+◌, ◌-◌, ◌<◌, ◌≤◌, min, Bool, true, false, List, [], ◌∷◌, ◌++◌}
-use Rattle.std.proofs.Common.{Option, Some, None, Result, Ok, length, fold, inl, inr, refl, sym, ap, subst, ◌∙◌, arith}
+use Rattle.std.proofs.Common.{◌≡◌, ℕ, zero, suc, ◌+◌, ◌-◌, ◌≤◌, min, true, false, List, [], ◌∷◌, ◌++◌}
+use Rattle.std.proofs.Common.{Option, Some, Result, length, fold, inl, inr, sym, ap, subst, ◌∙◌, arith}
 use Rattle.std.specs.Prelude.{if◌then◌else◌, nat_lt, option_map}
 use Rattle.std.proofs.lemmas.List.{length-append}
 use Rattle.std.proofs.lemmas.List.Sums.{fold_push}
 use Rattle.std.proofs.lemmas.Bool.{cases_lt}
-use Rattle.hex.specs.Hex.{IsBytes, encode_lower, decode_of}
+use Rattle.hex.specs.Hex.{IsBytes, encode_lower}
 use Rattle.hex.specs.declared.error.FromHexError.{FromHexError}
 use Rattle.hex.proofs.HexLemmas.{decode_of-encode_lower}
 use Rattle.px_model.specs.Node as node
@@ -15,9 +15,9 @@ use Rattle.px_model.specs.Spelling.{Bytes, spelled}
 use Rattle.px_model.proofs.Plans.{below_front}
 use Rattle.pf_config.specs.Map.{Configuration}
 use Rattle.pf_scripts.specs.Lines.{ScriptLine, lines}
-use Rattle.pf_node.specs.Applied.{after, after_read, entry_applied}
+use Rattle.pf_node.specs.Applied.{after, entry_applied}
 use Rattle.pf_node.proofs.Following.{after_next}
-use Rattle.node_requests.specs.EntryLines.{digits_line, entry_line, entries_before, entries_from}
+use Rattle.node_requests.specs.EntryLines.{digits_line, entry_line, entries_before}
 use Rattle.cli_follow.specs.Following.{after_decoded, after_line, after_lines, AreBytes, Follows}
 use Rattle.cli_follow.proofs.Texts.{line_of, IsWhole, whole_nothing, lines_more, whole_more}
 

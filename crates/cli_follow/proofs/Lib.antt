@@ -10,4 +10,5 @@ pub mod Writes
 pub mod Endings
 pub mod Misuse
 pub mod Kept
+pub mod Puts
 pub mod Asked

@@ -1,5 +1,5 @@
 -- What a step hands out is what there is to load.
-use Rattle.std.proofs.Common.{◌≡◌, ◌∙◌, ℕ, ◌&&◌, Bool, true, false, List, [], ◌++◌, Option, Some, None, refl, sym, ap}
+use Rattle.std.proofs.Common.{◌≡◌, ◌∙◌, ℕ, Bool, true, false, List, [], ◌++◌, Option, Some, None, refl, sym, ap}
 use Rattle.std.specs.Prelude.{not, bytes_eq, string_bytes, if◌then◌else◌, MatchOption}
 use Rattle.std.specs.Cmp.Lexicographic.{bytes_decides}
 use Rattle.std.proofs.lemmas.Bool.{and_parts, true≢false}
@@ -11,7 +11,7 @@ use Rattle.cli_follow.specs.declared.kernel.Step.{Step}
 use Rattle.cli_follow.specs.declared.kernel.Step.TheVariants as step
 use Rattle.cli_follow.specs.Stepping.{shown, two_lines, IsSameAs, IsStep}
 use Rattle.cli_follow.specs.Stepping as relation
-use Rattle.cli_follow.specs.Output.{Given, Loads, renders, is_same, end_of, loads_new, loads}
+use Rattle.cli_follow.specs.Output.{Loads, renders, is_same, end_of, loads_new, loads}
 use Rattle.cli_follow.specs.inner.Seen.{given_of, lines_of}
 
 not_true : (b : Bool) → not b ≡ true → b ≡ false

@@ -12,17 +12,18 @@ use Rattle.cli_io.specs.Written.{IsMisused}
 use Rattle.cli_io.specs.Given.{given_in}
 use Rattle.cli_io.proofs.Given as parsed
 use Rattle.cli_follow.specs.Arguments.{pfx_app, given_of}
-use Rattle.cli_follow.specs.Exchanges.{Exchange}
+use Rattle.cli_follow.specs.Exchanges.{Exchange, Adds}
+use Rattle.cli_follow.specs.Files.{Act}
 use Rattle.cli_follow.specs.Places.{AreTurns, FollowedBy, IsNoEnding}
 use Rattle.cli_follow.specs.Running.{RanOut, Ran}
 
 -- ---- out of memory
 
 -- whatever is given
-pub memory_over : {P : Type 0} (answers_at : Text → P → Type 0) (exchanged : P → List Exchange → Type 0) (put : List ℕ → List ℕ → List ℕ → Type 0) (has : Text → Text → Type 0) (given : Option (List Row)) (s : Status)
-    (old new : Option (List ℕ)) → RanOut s old new → Ran answers_at exchanged put has given s old new
-memory_over answers_at exchanged put has None s old new h = inl h
-memory_over answers_at exchanged put has (Some rows) s old new h = inl h
+pub memory_over : {P : Type 0} (answers_at : Text → P → Type 0) (exchanged : P → List Exchange → Type 0) (u v : List Act → Type 0) (has : Text → Text → Type 0) (given : Option (List Row)) (s : Status)
+    (old new : Option (List ℕ)) → Adds u v [] → RanOut s old new → Ran answers_at exchanged u v has given s old new
+memory_over answers_at exchanged u v has None s old new still h = (still, inl h)
+memory_over answers_at exchanged u v has (Some rows) s old new still h = inl (still, h)
 
 -- ---- the program's command
 
@@ -39,25 +40,25 @@ given_parsed a arguments m same kinds matches = parsed.given_parsed pfx_app a (c
 
 -- ---- arguments that clap refuses
 
-pub given_refused : {P : Type 0} (answers_at : Text → P → Type 0) (exchanged : P → List Exchange → Type 0) (put : List ℕ → List ℕ → List ℕ → Type 0) (has : Text → Text → Type 0) (a : App) (arguments : List Text) (e : Error)
-    (s : Status) (old new : Option (List ℕ)) → a ≡ pfx_app → (is_simple_and_free a ≡ true → HasKind (fault_of a arguments) e) →
-    RanOut s old new ⊎ IsMisused s old new → (kind_of e ≡ OutOfMemory → RanOut s old new) → Ran answers_at exchanged put has (given_of arguments) s old new
-given_refused answers_at exchanged put has a arguments e s old new same kinds h none =
-    parsed.given_refused (λ rows. Ran answers_at exchanged put has rows s old new) pfx_app (codes "follow") arguments e
-    (parsed.kinds_of pfx_app a arguments e simple_and_free same kinds) h
-    (λ m rows. memory_over answers_at exchanged put has rows s old new (none m))
+pub given_refused : {P : Type 0} (answers_at : Text → P → Type 0) (exchanged : P → List Exchange → Type 0) (u v : List Act → Type 0) (has : Text → Text → Type 0) (a : App) (arguments : List Text) (e : Error)
+    (s : Status) (old new : Option (List ℕ)) → Adds u v [] → a ≡ pfx_app → (is_simple_and_free a ≡ true → HasKind (fault_of a arguments) e) →
+    RanOut s old new ⊎ IsMisused s old new → (kind_of e ≡ OutOfMemory → RanOut s old new) → Ran answers_at exchanged u v has (given_of arguments) s old new
+given_refused answers_at exchanged u v has a arguments e s old new still same kinds h none =
+    parsed.given_refused (λ rows. Ran answers_at exchanged u v has rows s old new) pfx_app (codes "follow") arguments e
+    (parsed.kinds_of pfx_app a arguments e simple_and_free same kinds) (still, h)
+    (λ m rows. memory_over answers_at exchanged u v has rows s old new still (none m))
 
 -- ---- arguments that are understood
 
 -- without a path
-pub nowhere : {P : Type 0} (answers_at : Text → P → Type 0) (exchanged : P → List Exchange → Type 0) (put : List ℕ → List ℕ → List ℕ → Type 0) (has : Text → Text → Type 0) (given : Option (List Row)) (rows : List Row) (s : Status)
-    (a : Option (List ℕ)) → given ≡ Some rows → first_of (codes "control") rows ≡ None → IsNoEnding s → Ran answers_at exchanged put has given s a a
-nowhere answers_at exchanged put has given rows s a e n is = rw e (inr (rw n (is, Appends-nil a)))
+pub nowhere : {P : Type 0} (answers_at : Text → P → Type 0) (exchanged : P → List Exchange → Type 0) (u v : List Act → Type 0) (has : Text → Text → Type 0) (given : Option (List Row)) (rows : List Row) (s : Status)
+    (a : Option (List ℕ)) → Adds u v [] → given ≡ Some rows → first_of (codes "control") rows ≡ None → IsNoEnding s → Ran answers_at exchanged u v has given s a a
+nowhere answers_at exchanged u v has given rows s a still e n is = rw e (inr (rw n (is, (Appends-nil a, still))))
 
 -- at the control socket at a path
-pub at_path : {P : Type 0} (answers_at : Text → P → Type 0) (exchanged : P → List Exchange → Type 0) (put : List ℕ → List ℕ → List ℕ → Type 0) (has : Text → Text → Type 0) (given : Option (List Row)) (rows : List Row) (path : Text) (s : Status)
+pub at_path : {P : Type 0} (answers_at : Text → P → Type 0) (exchanged : P → List Exchange → Type 0) (u v : List Act → Type 0) (has : Text → Text → Type 0) (given : Option (List Row)) (rows : List Row) (path : Text) (s : Status)
     (old new : Option (List ℕ)) (before after : P) → given ≡ Some rows → first_of (codes "control") rows ≡ Some path → answers_at path before →
-    ((turns : ℕ) × (AreTurns (one_of (codes "turns") rows) turns × FollowedBy (exchanged before) (exchanged after) put has rows turns s old new)) →
-    Ran answers_at exchanged put has given s old new
-at_path answers_at exchanged put has given rows path s old new before after e p there (turns, (counted, followed)) =
+    ((turns : ℕ) × (AreTurns (one_of (codes "turns") rows) turns × FollowedBy (exchanged before) (exchanged after) u v has rows turns s old new)) →
+    Ran answers_at exchanged u v has given s old new
+at_path answers_at exchanged u v has given rows path s old new before after e p there (turns, (counted, followed)) =
     rw e (inr (rw p (record { before = before; after = after; turns = turns; there = there; counted = counted; followed = followed })))

@@ -1,7 +1,6 @@
 -- Runs one after the other.
 use Rattle.std.proofs.Common.{◌≡◌, ◌∙◌, ℕ, ◌==◌, ◌||◌, Bool, true, false, List, [], ◌∷◌, ◌++◌, Option, Some, None, Result, Ok, Err, refl, sym, ap, ap₂, subst, append_assoc, append-nil, arith}
 use Rattle.std.specs.Prelude.{option_map, option_and_then, if◌then◌else◌, IfOk, IfErr}
-use Rattle.std.specs.Io.KnownBytes.{Appends}
 use Rattle.std.proofs.KnownBytes.{Appends-nil, Appends-trans}
 use Rattle.std.proofs.lemmas.Bool.Decides.{nat_tests}
 use Rattle.cli_ask.specs.declared.exchange.AskFault.{AskFault}
@@ -13,7 +12,8 @@ use Rattle.cli_follow.specs.declared.follower.Due.{Due}
 use Rattle.cli_follow.specs.declared.follower.WriteFault.{WriteFault}
 use Rattle.cli_follow.specs.declared.follower.WriteFault.TheVariants as fault
 use Rattle.cli_follow.specs.Exchanges.{Exchange, Entries, Status, Adds, asked}
-use Rattle.cli_follow.specs.Output.{Wanted, Follower, Stage, AsksEntries, AsksStatus, Reached, after, after_one, behind, stays, start, Went, Stopped, Ends}
+use Rattle.cli_follow.specs.Files.{Act}
+use Rattle.cli_follow.specs.Output.{Wanted, Follower, Stage, AsksEntries, AsksStatus, Reached, after, after_one, behind, stays, start, Went, Stopped, LeftTo, Ends}
 use Rattle.cli_follow.specs.Output.{after_entries, after_status}
 use Rattle.cli_follow.specs.inner.Seen.{due_in, Leads, Fails}
 
@@ -78,10 +78,10 @@ run_two w s t d e r p q = run_on w (d ∷ []) (e ∷ []) s (stays t) r (run_one 
 
 -- ---- what was asked and written
 
-pub adds_more : (x y z : List Exchange → Type 0) (es fs : List Exchange) → Adds x y es → Adds y z fs → Adds x z (es ++ fs)
+pub adds_more : {X : Type 0} (x y z : List X → Type 0) (es fs : List X) → Adds x y es → Adds y z fs → Adds x z (es ++ fs)
 adds_more x y z es fs p q = λ ds h. subst z (append_assoc ds es fs) (q (ds ++ es) (p ds h))
 
-pub adds_nothing : (x : List Exchange → Type 0) → Adds x x []
+pub adds_nothing : {X : Type 0} (x : List X → Type 0) → Adds x x []
 adds_nothing x = λ ds h. subst x (sym (append-nil ds)) h
 
 pub went_nowhere : (x : List Exchange → Type 0) (w : Wanted) (s : Stage) (b : Option (List ℕ)) → Went x x w s s b b
@@ -178,11 +178,11 @@ if_err (Err e) P h = h
 
 -- ---- the loop
 
-pub ends_early : (x y : List Exchange → Type 0) (put : List ℕ → List ℕ → List ℕ → Type 0) (w : Wanted) (files : Option TextFiles) (turns : ℕ) (e : WriteFault) (a b : Option (List ℕ)) →
-    (e ≡ fault.Another → ⊥) → Stopped x y w (AsksEntries start) a b → Ends x y put w files turns (Err e) a b
-ends_early x y put w files turns fault.Another a b other h = absurd (other refl)
-ends_early x y put w files turns fault.Memory a b other h = h
-ends_early x y put w files turns fault.Closed a b other h = h
+pub ends_early : (x y : List Exchange → Type 0) (p q : List Act → Type 0) (w : Wanted) (files : Option TextFiles) (turns : ℕ) (e : WriteFault) (a b : Option (List ℕ)) →
+    (e ≡ fault.Another → ⊥) → Stopped x y w (AsksEntries start) a b → LeftTo x y p q w files → Ends x y p q w files turns (Err e) a b
+ends_early x y p q w files turns fault.Another a b other h left = absurd (other refl)
+ends_early x y p q w files turns fault.Memory a b other h left = (h, left)
+ends_early x y p q w files turns fault.Closed a b other h left = (h, left)
 
 -- a turn behind those before it
 pub turned : (x y z : List Exchange → Type 0) (w v : Wanted) (s t u k : Stage) (a b c : Option (List ℕ)) → v ≡ w → u ≡ k → Went x y w s t a b → Went y z v t u b c → Went x z w s k a c

@@ -5,8 +5,7 @@ use Rattle.cli_io.specs.Written.{AppendsFront}
 use Rattle.nft_rules.specs.declared.guard.Member.{Member}
 use Rattle.cli_follow.specs.declared.followed_configuration.FollowedConfiguration.{FollowedConfiguration}
 use Rattle.cli_follow.specs.declared.follower.Nft.{Nft}
-use Rattle.cli_follow.specs.Following.{Followed}
-use Rattle.cli_follow.specs.Output.{Stage, Follower, Given, AsksEntries, written_to}
+use Rattle.cli_follow.specs.Output.{Follower, Given, AsksEntries, written_to}
 use Rattle.cli_follow.specs.Following.{followed_of}
 use Rattle.cli_follow.specs.inner.Seen.{Wrote, Written, given_of, members_of, last_of, wanted_for, loads_of}
 

@@ -30,7 +30,7 @@ abbrev pub IsAnswered : (is_read : (target : List ℕ) → Answered → Type 0) 
 IsAnswered is_read e =
     is_read (target_of e.question) (answer_value e.answer) ⊎ (e.answer ≡ Err fault.Memory)
 
--- where these were exchanged so far, those are with these more
+-- where these were there so far, those are with these more
 -- Example: what is asked twice is there twice.
-abbrev pub Adds : (List Exchange → Type 0) → (List Exchange → Type 0) → List Exchange → Type 0
-Adds old new more = (es : List Exchange) → old es → new (es ++ more)
+abbrev pub Adds : {X : Type 0} → (List X → Type 0) → (List X → Type 0) → List X → Type 0
+Adds {X} old new more = (es : List X) → old es → new (es ++ more)

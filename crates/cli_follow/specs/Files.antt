@@ -8,6 +8,7 @@ use Rattle.pf_config.specs.Map.{Configuration, Path}
 use Rattle.pf_dump.specs.Done.{AreDoneTo}
 use Rattle.pf_dump.specs.Texts.{Text}
 use Rattle.pf_dump.specs.Written.{texts_of}
+use Rattle.cli_follow.specs.Exchanges.{Adds}
 use Rattle.cli_follow.specs.declared.files.TextFile.{TextFile}
 use Rattle.cli_follow.specs.declared.files.TextFiles.{TextFiles}
 
@@ -23,18 +24,30 @@ place_of folder name = folder ++ (codes "/" ++ name)
 abbrev pub path_beside : (folder name : List ℕ) → List ℕ
 path_beside folder name = folder ++ (codes "/." ++ (name ++ codes ".new"))
 
--- The file of a name was written beside its place, all of it, then renamed, and nothing was done after that. Given is
--- what a path has in a state of all files, and by which renaming one state follows another.
--- Example: what is written and renamed once more, without text, isn't put so.
-abbrev pub IsPut : {D : Type 0} → (has : D → (path text : List ℕ) → Type 0) →
-    (is_renamed : D → D → (from to : List ℕ) → Type 0) → (folder name text : List ℕ) → (now : D) → Type 0
-IsPut {D} has is_renamed folder name text now = (before : D) × (has before (path_beside folder name) text
-    × is_renamed before now (path_beside folder name) (place_of folder name))
+-- ---- what is done with files
 
--- at some time
-abbrev pub WasPut : {D : Type 0} → (has : D → (path text : List ℕ) → Type 0) →
-    (is_renamed : D → D → (from to : List ℕ) → Type 0) → (folder name text : List ℕ) → Type 0
-WasPut {D} has is_renamed folder name text = (now : D) × IsPut has is_renamed folder name text now
+-- a file was written at a path, for what was there; or one was renamed; and whether that was possible
+pub data Act : Type 0 where
+  Wrote : (path text : List ℕ) → (is_done : Bool) → Act
+  Renamed : (from to : List ℕ) → (is_done : Bool) → Act
+
+-- where a file was written, these bytes were
+abbrev pub IsDone : {F : Type 0} → (contents : F → Option (List ℕ)) → Act → Type 0
+IsDone contents (Wrote path text true) = IsWritten contents text
+IsDone contents (Wrote path text false) = Unit {0}
+IsDone contents (Renamed from to is_done) = Unit {0}
+
+-- These acts were done meanwhile, in this order and no other, and they are so.
+abbrev pub Acted : (done did : List Act → Type 0) → (IsSo : List Act → Type 0) → Type 0
+Acted done did IsSo = (acts : List Act) × (Adds done did acts × IsSo acts)
+
+-- The file of a name was put: written beside its place, all of it, and where that was possible renamed. It is there
+-- where both were.
+abbrev pub IsPut : (folder name text : List ℕ) → List Act → (is_put : Bool) → Type 0
+IsPut folder name text acts is_put =
+    ((acts ≡ Wrote (path_beside folder name) text false ∷ []) × (is_put ≡ false))
+    ⊎ (acts ≡ Wrote (path_beside folder name) text true
+    ∷ Renamed (path_beside folder name) (place_of folder name) is_put ∷ [])
 
 -- ---- what is recorded of a folder
 
@@ -46,10 +59,13 @@ is_put f = f.is_put
 abbrev pub is_there : (name text : List ℕ) → TextFile → Bool
 is_there name text f = (f.is_put && bytes_eq (string_bytes f.name) name) && bytes_eq (string_bytes f.text) text
 
--- each file that is recorded as written was put into its place
-abbrev pub AreWritten : (put : (name text : List ℕ) → Type 0) → List TextFile → Type 0
-AreWritten put [] = Unit {0}
-AreWritten put (f ∷ fs) = (is_put f ≡ true → put (string_bytes f.name) (string_bytes f.text)) × AreWritten put fs
+-- what is recorded as there isn't put again
+abbrev pub StandsIf : (there : Bool) → (folder name text : List ℕ) → List Act → (is_put : Bool) → Type 0
+StandsIf true folder name text acts is_put = (acts ≡ []) × (is_put ≡ true)
+StandsIf false folder name text acts is_put = IsPut folder name text acts is_put
+
+abbrev pub Stands : (folder : List ℕ) → List TextFile → (name text : List ℕ) → List Act → (is_put : Bool) → Type 0
+Stands folder old name text acts is_put = StandsIf (list_any (is_there name text) old) folder name text acts is_put
 
 -- ---- which files there are
 
@@ -105,35 +121,54 @@ with_gone files (old ∷ olds) = with_gone (if is_gone files old then files ++ e
 
 -- ---- what is written for a configuration
 
--- What is recorded of a folder is that of a configuration: its files, with an empty one for each path that is gone, and
--- whether one couldn't be written. For 91 it is as it was: the rulesets don't give the configuration.
--- Example: x/y is gone: anchor+x+y.conf is recorded without text.
-abbrev pub AreFilesOf : Configuration → (old new : TextFiles) → Type 0
-AreFilesOf c old new = ((new ≡ old) × (AreDoneTo (texts_of c) c → ⊥))
-    ⊎ ((new.is_behind ≡ not (list_all is_put new.written.items))
-    × (map file_value new.written.items ≡ with_gone (files_of c) old.written.items))
+-- Files are put one after the other, of which these are recorded: what is done, and what is recorded then.
+-- Example: of two files the first is there already: the acts are those of the second alone.
+pub data Puts (folder : List ℕ) (old : List TextFile) : List FileValue → List Act → List TextFile → Type 0 where
+  NoFile : Puts folder old [] [] []
+  File : {files : List FileValue} {acts : List Act} {new : List TextFile} (f : TextFile) (more : List Act) →
+      Puts folder old files acts new → Stands folder old (string_bytes f.name) (string_bytes f.text) more f.is_put →
+      Puts folder old (files ++ file_value f ∷ []) (acts ++ more) (new ++ f ∷ [])
 
--- The files of a configuration were written into the same folder. If each file that was recorded as written was put
--- into its place, so was each that is recorded then.
-pub record AreWrittenFor (put : (folder name text : List ℕ) → Type 0) (c : Configuration) (old new : TextFiles) :
-    Type 0 where
-  pub folder : new.folder ≡ old.folder
-  pub kept : AreWritten (put (string_bytes old.folder)) old.written.items →
-      AreWritten (put (string_bytes old.folder)) new.written.items
-  pub files : AreFilesOf c old new
+-- a front of the files was put
+abbrev pub PutsFront : (folder : List ℕ) → List TextFile → List FileValue → List Act → Type 0
+PutsFront folder old files acts = (front : List FileValue) × (rest : List FileValue) × (new : List TextFile)
+    × (files ≡ front ++ rest) × Puts folder old front acts new
 
--- that, where files are wanted
-abbrev pub FilesWritten : (put : (folder name text : List ℕ) → Type 0) → Configuration →
-    (old new : Option TextFiles) → Type 0
-FilesWritten put c None new = new ≡ None
-FilesWritten put c (Some old) None = ⊥
-FilesWritten put c (Some old) (Some new) = AreWrittenFor put c old new
+-- The files of a configuration were put, with an empty one for each path that is gone, and that is recorded, with
+-- whether one couldn't be written. For 91 nothing is done: the rulesets don't give the configuration.
+-- Example: x/y is gone: anchor+x+y.conf is written without text.
+abbrev pub ArePutFor : Configuration → (old : TextFiles) → List Act → (new : TextFiles) → Type 0
+ArePutFor c old acts new = ((new ≡ old) × (acts ≡ []) × (AreDoneTo (texts_of c) c → ⊥))
+    ⊎ ((new.folder ≡ old.folder) × (new.is_behind ≡ not (list_all is_put new.written.items))
+    × Puts (string_bytes old.folder) old.written.items (with_gone (files_of c) old.written.items) acts
+    new.written.items)
 
--- that, or all is as it was
-abbrev pub FilesWrittenIf : (put : (folder name text : List ℕ) → Type 0) → (wanted : Bool) → Configuration →
-    (old new : Option TextFiles) → Type 0
-FilesWrittenIf put true c old new = FilesWritten put c old new
-FilesWrittenIf put false c old new = new ≡ old
+-- a front of them was put
+abbrev pub AreLeftFor : Configuration → (old : TextFiles) → List Act → Type 0
+AreLeftFor c old acts =
+    PutsFront (string_bytes old.folder) old.written.items (with_gone (files_of c) old.written.items) acts
+
+-- they were put, where files are wanted
+abbrev pub FilesWritten : Configuration → (old : Option TextFiles) → List Act → (new : Option TextFiles) → Type 0
+FilesWritten c None acts new = (new ≡ None) × (acts ≡ [])
+FilesWritten c (Some old) acts None = ⊥
+FilesWritten c (Some old) acts (Some new) = ArePutFor c old acts new
+
+-- they were, or all is as it was
+abbrev pub FilesWrittenIf : (wanted : Bool) → Configuration → (old : Option TextFiles) → List Act →
+    (new : Option TextFiles) → Type 0
+FilesWrittenIf true c old acts new = FilesWritten c old acts new
+FilesWrittenIf false c old acts new = (new ≡ old) × (acts ≡ [])
+
+-- a front of them was put, where files are wanted
+abbrev pub FilesLeft : Configuration → (old : Option TextFiles) → List Act → Type 0
+FilesLeft c None acts = acts ≡ []
+FilesLeft c (Some old) acts = AreLeftFor c old acts
+
+-- a front was, or nothing was done
+abbrev pub FilesLeftIf : (wanted : Bool) → Configuration → (old : Option TextFiles) → List Act → Type 0
+FilesLeftIf true c old acts = FilesLeft c old acts
+FilesLeftIf false c old acts = acts ≡ []
 
 -- a file couldn't be written
 abbrev pub are_behind : Option TextFiles → Bool

@@ -1,6 +1,6 @@
 -- What a control socket's lines of entries do to a configuration.
 use Rattle.std.specs.Prelude.{◌≡◌, ℕ, ◌+◌, ◌≤◌, ◌||◌, ◌⊎◌, Bool, true, false, List, [], ◌∷◌, Option, Some, None, Result}
-use Rattle.std.specs.Prelude.{Ok, Err, OnOk, nat_lt, option_map, if◌then◌else◌}
+use Rattle.std.specs.Prelude.{Ok, Err, nat_lt, option_map, if◌then◌else◌}
 use Rattle.std.specs.List.{fold}
 use Rattle.hex.specs.Hex.{IsBytes, decode_of}
 use Rattle.hex.specs.declared.error.FromHexError.{FromHexError}

@@ -19,7 +19,7 @@ use Rattle.cli_follow.specs.declared.follower.TheConstants.{AGAIN}
 use Rattle.cli_follow.specs.declared.follower.WriteFault.{WriteFault}
 use Rattle.cli_follow.specs.declared.follower.WriteFault.TheVariants as fault
 use Rattle.cli_follow.specs.Exchanges.{Question, Entries, Status, Exchange, Adds}
-use Rattle.cli_follow.specs.Files.{FilesWritten, are_behind}
+use Rattle.cli_follow.specs.Files.{Act, Acted, FilesWritten, FilesLeft, are_behind}
 use Rattle.cli_follow.specs.Following.{Followed, LinesApplied, lines_applied}
 use Rattle.cli_follow.specs.Members.{members_reported}
 use Rattle.cli_follow.specs.Stepping.{two_lines, end_line}
@@ -216,36 +216,60 @@ start = record {
 
 -- ---- rulesets for pfctl(8)
 
--- What a turn does with files that ends so: where what was followed was due, its files are written; else they are as
--- they were, or where one couldn't be written they are written again.
-abbrev pub FiledIn : (put : (folder name text : List ℕ) → Type 0) → Stage → (is_due : Bool) →
-    (old new : Option TextFiles) → Type 0
-FiledIn put (AsksEntries f) true old new = FilesWritten put f.followed.configuration old new
-FiledIn put (AsksEntries f) false old new = (new ≡ old)
-    ⊎ ((are_behind old ≡ true) × FilesWritten put f.followed.configuration old new)
-FiledIn put (AsksStatus f) is_due old new = new ≡ old
-FiledIn put Ended is_due old new = new ≡ old
+-- What a turn does with files that ends so: where what was followed was due, its files are put; else nothing is done,
+-- or where one couldn't be written they are put again.
+abbrev pub FiledIn : Stage → (is_due : Bool) → (old : Option TextFiles) → List Act → (new : Option TextFiles) → Type 0
+FiledIn (AsksEntries f) true old acts new = FilesWritten f.followed.configuration old acts new
+FiledIn (AsksEntries f) false old acts new = ((new ≡ old) × (acts ≡ []))
+    ⊎ ((are_behind old ≡ true) × FilesWritten f.followed.configuration old acts new)
+FiledIn (AsksStatus f) is_due old acts new = (new ≡ old) × (acts ≡ [])
+FiledIn Ended is_due old acts new = (new ≡ old) × (acts ≡ [])
 
 -- The turns of a run, one after the other: each turn's answers lead from what was followed to where it ends, and its
--- files are written for that. Given are the answers of all turns, and the stage and the files after the last.
--- Example: a command is done in the first of two turns: in it the files of its configuration are written.
-pub data Filed (put : (folder name text : List ℕ) → Type 0) (w : Wanted) (first : Option TextFiles) :
-    List Exchange → Stage → Option TextFiles → Type 0 where
-  NoTurn : Filed put w first [] (AsksEntries start) first
-  Turn : {before : List Exchange} {f : Follower} {old new : Option TextFiles} (es : List Exchange) (r : Reached) →
-      Filed put w first before (AsksEntries f) old → after w (AsksEntries f) es ≡ Some r →
-      FiledIn put r.stage r.is_due old new → Filed put w first (before ++ es) r.stage new
+-- files are put for that. Given are the answers and the acts of all turns, and the stage and the files after the last.
+-- Example: a command is done in the first of two turns: in it the files of its configuration are put.
+pub data Filed (w : Wanted) (first : Option TextFiles) : List Exchange → List Act → Stage → Option TextFiles →
+    Type 0 where
+  NoTurn : Filed w first [] [] (AsksEntries start) first
+  Turn : {before : List Exchange} {acts : List Act} {f : Follower} {old new : Option TextFiles}
+      (es : List Exchange) (more : List Act) (r : Reached) →
+      Filed w first before acts (AsksEntries f) old → after w (AsksEntries f) es ≡ Some r →
+      FiledIn r.stage r.is_due old more new → Filed w first (before ++ es) (acts ++ more) r.stage new
 
--- these answers were given meanwhile
-abbrev pub FiledTo : (given now : List Exchange → Type 0) → (put : (folder name text : List ℕ) → Type 0) → Wanted →
+-- these answers were given meanwhile, and these acts done
+abbrev pub FiledTo : (given now : List Exchange → Type 0) → (done did : List Act → Type 0) → Wanted →
     (first : Option TextFiles) → Stage → (last : Option TextFiles) → Type 0
-FiledTo given now put w first s last = (es : List Exchange) × (Adds given now es × Filed put w first es s last)
+FiledTo given now done did w first s last = (es : List Exchange) × (acts : List Act) × Adds given now es
+    × Adds done did acts × Filed w first es acts s last
 
--- one turn: these answers were given, and files were written for what they lead to
-abbrev pub TurnFiled : (given now : List Exchange → Type 0) → (put : (folder name text : List ℕ) → Type 0) → Wanted →
-    Follower → Stage → (old new : Option TextFiles) → Type 0
-TurnFiled given now put w f t old new = (es : List Exchange) × (r : Reached) × Adds given now es
-    × (after w (AsksEntries f) es ≡ Some r) × (r.stage ≡ t) × FiledIn put r.stage r.is_due old new
+-- one turn: these answers were given, and files were put for what they lead to
+abbrev pub TurnFiled : (given now : List Exchange → Type 0) → (done did : List Act → Type 0) → Wanted → Follower →
+    Stage → (old new : Option TextFiles) → Type 0
+TurnFiled given now done did w f t old new = (es : List Exchange) × (r : Reached) × Adds given now es
+    × (after w (AsksEntries f) es ≡ Some r) × (r.stage ≡ t)
+    × Acted done did (λ acts. FiledIn r.stage r.is_due old acts new)
+
+-- What a turn does with files in which the run ends early: a front of those is put that it would put.
+abbrev pub LeftIn : Stage → (is_due : Bool) → (old : Option TextFiles) → List Act → Type 0
+LeftIn (AsksEntries f) true old acts = FilesLeft f.followed.configuration old acts
+LeftIn (AsksEntries f) false old acts = (acts ≡ [])
+    ⊎ ((are_behind old ≡ true) × FilesLeft f.followed.configuration old acts)
+LeftIn (AsksStatus f) is_due old acts = acts ≡ []
+LeftIn Ended is_due old acts = acts ≡ []
+
+-- one turn in which the run ends early: these answers were given
+abbrev pub TurnLeft : (given now : List Exchange → Type 0) → (done did : List Act → Type 0) → Wanted → Follower →
+    (old : Option TextFiles) → Type 0
+TurnLeft given now done did w f old = (es : List Exchange) × (r : Reached) × Adds given now es
+    × (after w (AsksEntries f) es ≡ Some r) × Acted done did (λ acts. LeftIn r.stage r.is_due old acts)
+
+-- turns one after the other, and such a one behind them
+abbrev pub LeftTo : (given now : List Exchange → Type 0) → (done did : List Act → Type 0) → Wanted →
+    (first : Option TextFiles) → Type 0
+LeftTo given now done did w first = (es : List Exchange) × (fs : List Exchange) × (f : Follower) × (r : Reached)
+    × (old : Option TextFiles) × (acts : List Act) × (more : List Act) × Adds given now (es ++ fs)
+    × Adds done did (acts ++ more) × Filed w first es acts (AsksEntries f) old
+    × (after w (AsksEntries f) fs ≡ Some r) × LeftIn r.stage r.is_due old more
 
 -- ---- a run
 
@@ -261,16 +285,16 @@ Stopped given now w s before written = (es : List Exchange) × (r : Reached) × 
     × (after w s es ≡ Some r) × AppendsFront before written r.out
 
 -- How a run ends that is to ask for entries so often: after that many asks, or at another log, all is written that the
--- answers lead to, and in each turn the files; when out of memory, or the output is closed, a front of the lines.
-abbrev pub Ends : (given now : List Exchange → Type 0) → (put : (folder name text : List ℕ) → Type 0) → Wanted →
+-- answers lead to, and in each turn the files are put; when out of memory, or the output is closed, a front of that.
+abbrev pub Ends : (given now : List Exchange → Type 0) → (done did : List Act → Type 0) → Wanted →
     (files : Option TextFiles) → (turns : ℕ) → Result Unit WriteFault → (before written : Option (List ℕ)) → Type 0
-Ends given now put w files turns (Ok done) before written = (f : Follower) × (f.asks ≡ turns)
+Ends given now done did w files turns (Ok ended) before written = (f : Follower) × (f.asks ≡ turns)
     × Went given now w (AsksEntries start) (AsksEntries f) before written
-    × ((last : Option TextFiles) × FiledTo given now put w files (AsksEntries f) last)
-Ends given now put w files turns (Err fault.Another) before written =
+    × ((last : Option TextFiles) × FiledTo given now done did w files (AsksEntries f) last)
+Ends given now done did w files turns (Err fault.Another) before written =
     Went given now w (AsksEntries start) Ended before written
-    × ((last : Option TextFiles) × FiledTo given now put w files Ended last)
-Ends given now put w files turns (Err fault.Memory) before written =
-    Stopped given now w (AsksEntries start) before written
-Ends given now put w files turns (Err fault.Closed) before written =
-    Stopped given now w (AsksEntries start) before written
+    × ((last : Option TextFiles) × FiledTo given now done did w files Ended last)
+Ends given now done did w files turns (Err fault.Memory) before written =
+    Stopped given now w (AsksEntries start) before written × LeftTo given now done did w files
+Ends given now done did w files turns (Err fault.Closed) before written =
+    Stopped given now w (AsksEntries start) before written × LeftTo given now done did w files

@@ -10,6 +10,7 @@ use Rattle.cli_io.specs.Sources.{IsAt}
 use Rattle.cli_io.specs.declared.status.Status.{Status}
 use Rattle.cli_io.specs.declared.status.Status.TheVariants as status
 use Rattle.cli_follow.specs.Exchanges.{Exchange, Adds}
+use Rattle.cli_follow.specs.Files.{Act}
 use Rattle.cli_follow.specs.Output.{Wanted, Ends, wanted}
 use Rattle.cli_follow.specs.declared.files.TextFile.{TextFile}
 use Rattle.cli_follow.specs.declared.files.TextFiles.{TextFiles}
@@ -97,21 +98,22 @@ abbrev pub wanted_at : Places → Wanted
 wanted_at p = wanted (option_map (λ v. v.items) p.interfaces) p.is_guarded
 
 -- the log is followed to these places, and the run ends as that does
-abbrev pub FollowedTo : (given now : List Exchange → Type 0) → (put : (folder name text : List ℕ) → Type 0) → Places →
-    (turns : ℕ) → Status → (before written : Option (List ℕ)) → Type 0
-FollowedTo given now put p turns s before written = (r : Result Unit WriteFault)
-    × (Ends given now put (wanted_at p) p.files turns r before written × IsEnding r s)
+abbrev pub FollowedTo : (given now : List Exchange → Type 0) → (done did : List Act → Type 0) → Places → (turns : ℕ) →
+    Status → (before written : Option (List ℕ)) → Type 0
+FollowedTo given now done did p turns s before written = (r : Result Unit WriteFault)
+    × (Ends given now done did (wanted_at p) p.files turns r before written × IsEnding r s)
 
--- nothing is asked and nothing is written: the arguments or the file of interfaces are refused, or it was out of memory
-abbrev pub NotFollowed : (given now : List Exchange → Type 0) → List Row → Status →
+-- nothing is asked and nothing is written, to files neither: the arguments or the file of interfaces are refused, or it
+-- was out of memory
+abbrev pub NotFollowed : (given now : List Exchange → Type 0) → (done did : List Act → Type 0) → List Row → Status →
     (before written : Option (List ℕ)) → Type 0
-NotFollowed given now rows s before written = Adds given now []
-    × (Appends before written [] × (IsNoEnding s × ((s ≡ status.Refused) → (code : ℕ) × IsRefusedWith rows code)))
+NotFollowed given now done did rows s before written = Adds given now [] × (Adds done did []
+    × (Appends before written [] × (IsNoEnding s × ((s ≡ status.Refused) → (code : ℕ) × IsRefusedWith rows code))))
 
 -- the log is followed to the places that the arguments name, or it isn't
-abbrev pub FollowedBy : (given now : List Exchange → Type 0) → (put : (folder name text : List ℕ) → Type 0) →
+abbrev pub FollowedBy : (given now : List Exchange → Type 0) → (done did : List Act → Type 0) →
     (has : (path text : List ℕ) → Type 0) → List Row → (turns : ℕ) → Status → (before written : Option (List ℕ)) →
     Type 0
-FollowedBy given now put has rows turns s before written =
-    ((p : Places) × (IsWantedBy has rows p × FollowedTo given now put p turns s before written))
-    ⊎ NotFollowed given now rows s before written
+FollowedBy given now done did has rows turns s before written =
+    ((p : Places) × (IsWantedBy has rows p × FollowedTo given now done did p turns s before written))
+    ⊎ NotFollowed given now done did rows s before written

@@ -1,6 +1,6 @@
 -- What nft(8) is to load of one configuration after the other.
-use Rattle.std.specs.Prelude.{◌≡◌, ℕ, ◌+◌, Bool, true, false, List, [], ◌++◌, ◌==◌, Option, Some, None, MatchOption}
-use Rattle.std.specs.Prelude.{length, take, drop, not, nat_lt, if◌then◌else◌, string_bytes, IfSome}
+use Rattle.std.specs.Prelude.{◌≡◌, ℕ, ◌+◌, true, false, List, [], ◌++◌, ◌==◌, Option, Some, None, MatchOption}
+use Rattle.std.specs.Prelude.{length, take, drop, not, nat_lt, if◌then◌else◌, string_bytes}
 use Rattle.std.specs.List.{prefix_len}
 use Rattle.pf_config.specs.Map.{Configuration}
 use Rattle.cli_nft.specs.Outputs.{Written, config_output}

@@ -1,13 +1,14 @@
 //! Rulesets for pfctl(8) in files, one for each path.
 
-ghost use Rattle.std.specs.Prelude.{◌≡◌, ⊤, ℕ, List, [], true, IfOk, IfSome, IfNone, OnOk, map, string_bytes};
-ghost use Rattle.std.specs.List.{list_all, list_any};
+ghost use Rattle.std.specs.Prelude.{◌≡◌, List, [], ◌∷◌, IfOk, IfSome, IfNone, OnOk, OnErr, map, string_bytes, is_ok};
+ghost use Rattle.std.specs.List.{list_all, list_any, AllByRecursion};
 ghost use Rattle.pf_dump.specs.Done.{AreDoneTo};
 ghost use Rattle.pf_dump.specs.Seen.{text_of};
 ghost use Rattle.pf_dump.specs.Written.{texts_of};
-ghost use Rattle.cli_follow.specs.Files.{AreWritten, IsWritten, IsPut, WasPut, is_put, is_there};
-ghost use Rattle.cli_follow.specs.Files.{file_value, file_name, file_at, files_of, is_named};
-ghost use Rattle.cli_follow.specs.Files.{is_gone, with_gone, are_behind, AreFilesOf};
+ghost use Rattle.cli_follow.specs.Exchanges.{Adds};
+ghost use Rattle.cli_follow.specs.Files.{Act, Wrote, Renamed, Acted, IsWritten, IsDone, IsPut, Stands, Puts, PutsFront};
+ghost use Rattle.cli_follow.specs.Files.{file_value, file_name, file_at, files_of, is_named, is_put, is_there};
+ghost use Rattle.cli_follow.specs.Files.{is_gone, with_gone, are_behind, ArePutFor, AreLeftFor};
 
 use crate::followed_configuration::FollowedConfiguration;
 use crate::follower::log_change;
@@ -140,33 +141,28 @@ fn write_new<F: Files>(rt: &F, path: &str, text: &str) -> io::Result<()>
 }
 
 /// Where files are written and renamed.
-pub(crate) trait Folders {
-    // the file at this path has this text
-    ghost has: { Self → (path text : List ℕ) → Type 0 };
+pub trait Folders {
+    // this was done so far, in order
+    ghost done: { Self → List Act → Type 0 };
 
-    // by renaming a file from one path to another the first became the second
-    ghost is_renamed: { (old new : Self) → (from to : List ℕ) → Type 0 };
-
-    /// Writes a new file, as [`write_new`] does.
+    /// Writes a new file: what is at this path is removed first.
     fn write_file(&mut self, path: &str, text: &str) -> io::Result<()>
-        ensures { OnOk result (has self.new path.now text.now) };
+        ensures { Adds (done self.old) (done self.new) (Wrote path.now text.now (is_ok result) ∷ []) };
 
     /// Renames a file.
     fn rename(&mut self, from: &str, to: &str) -> io::Result<()>
-        ensures { OnOk result (is_renamed self.old self.new from.now to.now) };
+        ensures { Adds (done self.old) (done self.new) (Renamed from.now to.now (is_ok result) ∷ []) };
 }
 
 /// The system's files.
 #[derive(Clone, Copy)]
-pub(crate) struct SystemFiles<'a, R> {
-    pub(crate) rt: &'a R,
+pub struct SystemFiles<'a, R> {
+    pub rt: &'a R,
 }
 
 impl<R: Files> Folders for SystemFiles<'_, R> {
     // no contract states which file is at a path
-    ghost has = { λ _ _ text. IsWritten R.File.contents text };
-
-    ghost is_renamed = { λ _ _ _ _. ⊤ };
+    ghost done = { λ _ acts. AllByRecursion (IsDone R.File.contents) acts };
 
     fn write_file(&mut self, path: &str, text: &str) -> io::Result<()> {
         write_new(self.rt, path, text)
@@ -198,8 +194,9 @@ impl TextFiles {
         name: &str,
         text: &str,
     ) -> Result<bool, AllocError>
-        ensures { IfOk result (λ is_put. is_put ≡ true →
-            IsPut F.has F.is_renamed (string_bytes self.now.folder) name.now text.now folders.new) }
+        ensures put { IfOk result (λ is_put. Acted (F.done folders.old) (F.done folders.new)
+            (λ acts. IsPut (string_bytes self.now.folder) name.now text.now acts is_put)) }
+        ensures none { OnErr result (Adds (F.done folders.old) (F.done folders.new) []) }
     {
         let folder = self.folder.as_str();
         let place = format!(in alloc; "{folder}/{name}")?;
@@ -218,10 +215,9 @@ impl TextFiles {
         name: &str,
         text: &str,
     ) -> Result<bool, AllocError>
-        ensures { IfOk result (λ is_put.
-            AreWritten (WasPut F.has F.is_renamed (string_bytes self.now.folder))
-            self.now.written.items → is_put ≡ true →
-            WasPut F.has F.is_renamed (string_bytes self.now.folder) name.now text.now) }
+        ensures put { IfOk result (λ is_put. Acted (F.done folders.old) (F.done folders.new) (λ acts.
+            Stands (string_bytes self.now.folder) self.now.written.items name.now text.now acts is_put)) }
+        ensures none { OnErr result (Adds (F.done folders.old) (F.done folders.new) []) }
     {
         if is_written(self.written.as_slice(), name, text) {
             return Ok(true);
@@ -258,11 +254,12 @@ impl TextFiles {
         alloc: Global,
         files: Vec<TextFile>,
     ) -> Result<Vec<TextFile>, AllocError>
-        ensures written { IfOk result (λ put.
-            AreWritten (WasPut F.has F.is_renamed (string_bytes self.now.folder))
-            self.now.written.items →
-            AreWritten (WasPut F.has F.is_renamed (string_bytes self.now.folder)) put.items) }
-        ensures files { IfOk result (λ put. map file_value put.items ≡ map file_value files.items) }
+        ensures put { IfOk result (λ put. Acted (F.done folders.old) (F.done folders.new) (λ acts.
+            Puts (string_bytes self.now.folder) self.now.written.items (map file_value files.items)
+            acts put.items)) }
+        ensures front { OnErr result (Acted (F.done folders.old) (F.done folders.new) (λ acts.
+            PutsFront (string_bytes self.now.folder) self.now.written.items
+            (map file_value files.items) acts)) }
     {
         let mut put = Vec::new(alloc);
         for file in files {
@@ -285,14 +282,14 @@ impl TextFiles {
         alloc: Global,
         files: Vec<TextFile>,
     ) -> Result<bool, AllocError>
-        ensures place { self.new.folder ≡ self.old.folder }
-        ensures written { AreWritten (WasPut F.has F.is_renamed (string_bytes self.old.folder))
-            self.old.written.items →
-            AreWritten (WasPut F.has F.is_renamed (string_bytes self.old.folder))
-            self.new.written.items }
-        ensures files { OnOk result (map file_value self.new.written.items
-            ≡ with_gone (map file_value files.items) self.old.written.items) }
+        ensures folder { self.new.folder ≡ self.old.folder }
+        ensures put { OnOk result (Acted (F.done folders.old) (F.done folders.new) (λ acts.
+            Puts (string_bytes self.old.folder) self.old.written.items
+            (with_gone (map file_value files.items) self.old.written.items) acts self.new.written.items)) }
         ensures whole { IfOk result (λ is_whole. is_whole ≡ list_all is_put self.new.written.items) }
+        ensures front { OnErr result (Acted (F.done folders.old) (F.done folders.new) (λ acts.
+            PutsFront (string_bytes self.old.folder) self.old.written.items
+            (with_gone (map file_value files.items) self.old.written.items) acts)) }
     {
         let files = self.with_gone(alloc, files)?;
         self.written = self.put_each(folders, alloc, files)?;
@@ -308,12 +305,10 @@ impl TextFiles {
         followed: &FollowedConfiguration,
         errors: &mut E,
     ) -> Result<(), AllocError>
-        ensures place { self.new.folder ≡ self.old.folder }
-        ensures written { AreWritten (WasPut F.has F.is_renamed (string_bytes self.old.folder))
-            self.old.written.items →
-            AreWritten (WasPut F.has F.is_renamed (string_bytes self.old.folder))
-            self.new.written.items }
-        ensures files { OnOk result (AreFilesOf followed.now.config self.old self.new) }
+        ensures put { OnOk result (Acted (F.done folders.old) (F.done folders.new)
+            (λ acts. ArePutFor followed.now.config self.old acts self.new)) }
+        ensures front { OnErr result (Acted (F.done folders.old) (F.done folders.new)
+            (λ acts. AreLeftFor followed.now.config self.old acts)) }
     {
         let Some(files) = files_of(alloc, &followed.config)? else {
             return log_change(errors, alloc, followed.position, "refused 91\n");

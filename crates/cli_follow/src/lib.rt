@@ -3,8 +3,8 @@
 //! # Organization
 //!
 //! - [`run_follow`]: the subcommand, over any writers, at the node that control sockets ([`ControlSockets`]) have at a
-//!   path; [`follow`]: its loop, over whoever answers as a node does ([`Control`]): what it writes is what the answers
-//!   lead to.
+//!   path; [`follow`]: its loop, over whoever answers as a node does ([`Control`]), and wherever files are written
+//!   ([`Folders`]): what it writes, and does with files, is what the answers lead to.
 //! - [`FollowedConfiguration`]: the configuration after the first entries of a log, as a control socket's lines give
 //!   them.
 //! - [`Kernel`]: what nft(8) is to load, one position after the other; it knows neither sockets nor files.
@@ -52,7 +52,7 @@ mod places;
 mod running;
 
 pub use control::{Control, ControlSockets};
-pub use files::TextFiles;
+pub use files::{Folders, SystemFiles, TextFiles};
 pub use followed_configuration::{FollowedConfiguration, TakeFault};
 pub use follower::WriteFault;
 pub use kernel::{Kernel, Step};

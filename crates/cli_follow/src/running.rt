@@ -1,19 +1,19 @@
 //! A run of `follow`.
 
-ghost use Rattle.std.specs.Prelude.{◌≡◌, ◌+◌, ◌⊎◌, ◌&&◌, ℕ, Err, IfOk, IfErr, OnOk, codes, map, option_map};
+ghost use Rattle.std.specs.Prelude.{◌≡◌, ◌+◌, ◌⊎◌, ◌&&◌, ℕ, Err, IfOk, IfErr, OnOk, OnErr, codes, map, option_map};
 ghost use Rattle.clap.specs.Words.{found_of, rows_of, one_of, kind_of};
 ghost use Rattle.clap.specs.declared.error.kind.ErrorKind.TheVariants.{OutOfMemory};
 ghost use Rattle.cli_io.specs.Written.{IsMisused};
 ghost use Rattle.cli_follow.specs.Arguments.{given_of};
-ghost use Rattle.cli_follow.specs.Files.{WasPut, FilesWritten, FilesWrittenIf, are_behind};
-ghost use Rattle.cli_follow.specs.Output.{AsksEntries, wanted, is_again, Went, Stopped, TurnFiled, Ends};
+ghost use Rattle.cli_follow.specs.Files.{Acted, FilesWritten, FilesWrittenIf, FilesLeft, FilesLeftIf, are_behind};
+ghost use Rattle.cli_follow.specs.Output.{AsksEntries, wanted, is_again, Went, Stopped, TurnFiled, TurnLeft, Ends};
 ghost use Rattle.cli_follow.specs.inner.Seen.{follower_of, wanted_of, due_in, stage_in, stage_if, Leads, Fails};
 ghost use Rattle.cli_follow.specs.Output as code;
 ghost use Rattle.cli_follow.specs.Places.{AreTurns, IsEnding, IsNoEnding, FollowedTo, FollowedBy};
 ghost use Rattle.cli_follow.specs.Running.{RanOut, Ran};
 
 use crate::control::{Control, ControlSockets};
-use crate::files::{Folders, SystemFiles, TextFiles, are_behind};
+use crate::files::{Folders, TextFiles, are_behind};
 use crate::follower::{Due, Follower, WriteFault, is_again};
 use crate::options::command;
 use crate::places::{Places, places_for};
@@ -88,8 +88,10 @@ fn write_texts<F: Folders, E: Write>(
     files: &mut Option<TextFiles>,
     errors: &mut E,
 ) -> Result<(), AllocError>
-    ensures { OnOk result (FilesWritten (WasPut F.has F.is_renamed)
-        follower.now.followed.config files.old files.new) }
+    ensures written { OnOk result (Acted (F.done folders.old) (F.done folders.new) (λ acts.
+        FilesWritten follower.now.followed.config files.old acts files.new)) }
+    ensures left { OnErr result (Acted (F.done folders.old) (F.done folders.new) (λ acts.
+        FilesLeft follower.now.followed.config files.old acts)) }
 {
     match files {
         Some(files) => files.write(folders, alloc, &follower.followed, errors),
@@ -106,8 +108,12 @@ fn write_again<F: Folders, E: Write>(
     files: &mut Option<TextFiles>,
     errors: &mut E,
 ) -> Result<(), AllocError>
-    ensures { OnOk result (FilesWrittenIf (WasPut F.has F.is_renamed)
-        (is_again asks && are_behind files.old) follower.now.followed.config files.old files.new) }
+    ensures written { OnOk result (Acted (F.done folders.old) (F.done folders.new) (λ acts.
+        FilesWrittenIf (is_again asks && are_behind files.old) follower.now.followed.config
+        files.old acts files.new)) }
+    ensures left { OnErr result (Acted (F.done folders.old) (F.done folders.new) (λ acts.
+        FilesLeftIf (is_again asks && are_behind files.old) follower.now.followed.config
+        files.old acts)) }
 {
     if is_again(asks) && are_behind(files) {
         return write_texts(folders, alloc, follower, files, errors);
@@ -133,11 +139,15 @@ fn turn<F: Folders, C: Control, W: Write, E: Write>(
         (wanted_of follower.old) (AsksEntries (follower_of asks follower.old))
         (W.contents writer.old) (W.contents writer.new)) }
     ensures filed { IfOk result (λ d. TurnFiled (C.exchanged control.old) (C.exchanged control.new)
-        (WasPut F.has F.is_renamed) (wanted_of follower.old) (follower_of asks follower.old)
+        (F.done folders.old) (F.done folders.new) (wanted_of follower.old) (follower_of asks follower.old)
         (stage_in (follower_of (asks + 1) follower.new) d) files.old files.new) }
+    ensures left { IfErr result (λ e. TurnLeft (C.exchanged control.old) (C.exchanged control.new)
+        (F.done folders.old) (F.done folders.new) (wanted_of follower.old) (follower_of asks follower.old)
+        files.old) }
     ensures again { IfOk result (λ d. d ≡ Due.Rest →
-        FilesWrittenIf (WasPut F.has F.is_renamed) (is_again asks && are_behind files.old)
-        follower.new.followed.config files.old files.new) }
+        Acted (F.done folders.old) (F.done folders.new) (λ acts.
+        FilesWrittenIf (is_again asks && are_behind files.old) follower.new.followed.config
+        files.old acts files.new)) }
     ensures fault { IfErr result (λ e. e ≡ WriteFault.Another → ⊥) }
     ensures status { IfOk result (λ d. d ≡ Due.Status → ⊥) }
     ensures wanted { wanted_of follower.new ≡ wanted_of follower.old }
@@ -191,8 +201,11 @@ fn rest<RT: Net, C: Control, E: Write>(
     }
 }
 
-/// The loop of [`follow`], wherever files are written.
-pub(crate) fn follow_in<RT: Net, F: Folders, C: Control, W: Write, E: Write>(
+/// Follows a node's log until the output is closed, or entries were asked for so often, or another log is there: what
+/// nft(8) is to load goes to the writer, for the interfaces that a file lists, if there is one, with the members' guard
+/// or without; rulesets for pfctl(8) go into files, where they are wanted: for the system's files `folders` is
+/// [`SystemFiles`]. Refusals go to `errors`.
+pub fn follow<RT: Net, F: Folders, C: Control, W: Write, E: Write>(
     rt: &RT,
     folders: &mut F,
     alloc: Global,
@@ -200,19 +213,19 @@ pub(crate) fn follow_in<RT: Net, F: Folders, C: Control, W: Write, E: Write>(
     turns: u64,
     interfaces: Option<Vec<u8>>,
     is_guarded: bool,
-    first: Option<TextFiles>,
+    files: Option<TextFiles>,
     writer: &mut W,
     errors: &mut E,
 ) -> Result<(), WriteFault>
     ensures { Ends (C.exchanged control.old) (C.exchanged control.new)
-        (WasPut F.has F.is_renamed)
-        (wanted (option_map (λ v. v.items) interfaces) is_guarded) first turns result
+        (F.done folders.old) (F.done folders.new)
+        (wanted (option_map (λ v. v.items) interfaces) is_guarded) files turns result
         (W.contents writer.old) (W.contents writer.new) }
 {
     let Ok(mut follower) = Follower::new(alloc, interfaces, is_guarded) else {
         return Err(WriteFault::Memory);
     };
-    let mut files = first;
+    let mut files = files;
     let mut said = None;
     for asks in 0..turns {
         let due = match turn(
@@ -234,40 +247,6 @@ pub(crate) fn follow_in<RT: Net, F: Folders, C: Control, W: Write, E: Write>(
         rest(rt, control, errors, due, &mut said);
     }
     Ok(())
-}
-
-/// Follows a node's log until the output is closed, or entries were asked for so often, or another log is there: what
-/// nft(8) is to load goes to the writer, for the interfaces that a file lists, if there is one, with the members' guard
-/// or without; rulesets for pfctl(8) go into files, where they are wanted. Refusals go to `errors`.
-pub fn follow<RT: Files + Net, C: Control, W: Write, E: Write>(
-    rt: &RT,
-    alloc: Global,
-    control: &mut C,
-    turns: u64,
-    interfaces: Option<Vec<u8>>,
-    is_guarded: bool,
-    files: Option<TextFiles>,
-    writer: &mut W,
-    errors: &mut E,
-) -> Result<(), WriteFault>
-    ensures { Ends (C.exchanged control.old) (C.exchanged control.new)
-        (WasPut ⟦<SystemFiles<'static, RT> as Folders>⟧.has ⟦<SystemFiles<'static, RT> as Folders>⟧.is_renamed)
-        (wanted (option_map (λ v. v.items) interfaces) is_guarded) files turns result
-        (W.contents writer.old) (W.contents writer.new) }
-{
-    let mut folders = SystemFiles { rt };
-    follow_in(
-        rt,
-        &mut folders,
-        alloc,
-        control,
-        turns,
-        interfaces,
-        is_guarded,
-        files,
-        writer,
-        errors,
-    )
 }
 
 /// A refusal by its number, logged on standard error, since what is written goes to nft(8).
@@ -323,7 +302,7 @@ fn follow_to<RT: Net, F: Folders, C: Control, W: Write, E: Write>(
     errors: &mut E,
 ) -> Status
     ensures { FollowedTo (C.exchanged control.old) (C.exchanged control.new)
-        (WasPut F.has F.is_renamed) places turns result
+        (F.done folders.old) (F.done folders.new) places turns result
         (W.contents writer.old) (W.contents writer.new) }
 {
     let Places {
@@ -334,7 +313,7 @@ fn follow_to<RT: Net, F: Folders, C: Control, W: Write, E: Write>(
     if interfaces.is_some() && !is_guarded {
         let _logged = errors.write_all(NO_GUARD);
     }
-    let ended = follow_in(
+    let ended = follow(
         rt, folders, alloc, control, turns, interfaces, is_guarded, files, writer, errors,
     );
     status_of(ended, errors)
@@ -374,7 +353,7 @@ fn followed<RT: Files + Net + Sources, F: Folders, C: Control, W: Write, E: Writ
 ) -> Status
     ensures { (turns : ℕ) × (AreTurns (one_of (codes "turns") (rows_of (found_of matches.now))) turns
         × FollowedBy (C.exchanged control.old) (C.exchanged control.new)
-        (WasPut F.has F.is_renamed) (RT.has rt.now) (rows_of (found_of matches.now))
+        (F.done folders.old) (F.done folders.new) (RT.has rt.now) (rows_of (found_of matches.now))
         turns result (W.contents writer.old) (W.contents writer.new)) }
 {
     let turns = turns_in(matches);
@@ -405,26 +384,27 @@ fn refuse<W: Write, E: Write>(
 
 /// What the subcommand `follow` asks for, the program's name first: the rules of a running node's configuration, whole,
 /// once it has applied a command and each time that what it applies changes them; for nft(8) to the writer, for
-/// pfctl(8) into files. Refusals go to `errors`. The node is the one that `sockets` has at the path of `--control`: for
-/// the system's control sockets they are `rt`.
+/// pfctl(8) into files, of `folders`: for the system's files [`SystemFiles`]. Refusals go to `errors`. The node is the
+/// one that `sockets` has at the path of `--control`: for the system's control sockets they are `rt`.
 pub fn run_follow<
     'a,
     RT: Files + Net + Sources,
     C: ControlSockets<'a>,
+    F: Folders,
     S: AsStr,
     W: Write,
     E: Write,
 >(
     rt: &RT,
     sockets: &'a C,
+    folders: &mut F,
     alloc: Global,
     arguments: &'a [S],
     writer: &mut W,
     errors: &mut E,
 ) -> Status
     ensures { Ran (C.answers_at sockets.now) C.Peer.exchanged
-        (WasPut ⟦<SystemFiles<'static, RT> as Folders>⟧.has ⟦<SystemFiles<'static, RT> as Folders>⟧.is_renamed)
-        (RT.has rt.now)
+        (F.done folders.old) (F.done folders.new) (RT.has rt.now)
         (given_of (map S.text arguments.now)) result (W.contents writer.old) (W.contents writer.new) }
 {
     let Ok(command) = command(alloc) else {
@@ -441,6 +421,5 @@ pub fn run_follow<
         return refused(alloc, 40, errors);
     };
     let mut peer = sockets.peer_at(path);
-    let mut folders = SystemFiles { rt };
-    followed(rt, &mut folders, alloc, inner, &mut peer, writer, errors)
+    followed(rt, folders, alloc, inner, &mut peer, writer, errors)
 }

@@ -13,7 +13,6 @@ use Rattle.cli_node.specs.declared.outcome.Outcome.TheVariants.{Sound, Made, Mem
 use Rattle.cli_node.specs.inner.Outcomes.{outcome_of, ending_of, ended_outcome, first_of, checked, is_refused}
 use Rattle.cli_node.specs.inner.Outcomes.{ComesOpenOr, IsWireless}
 use Rattle.cli_node.specs.inner.Running.{RunsHere, EndsAs, EndsWith, EndsNew, EndsNode, Anything}
-use Rattle.cli_node.specs.inner.Secrets.{IsNamed, AreNamed}
 use Rattle.cli_node.specs.inner.Stores.{IsRefusal, IsStoreless}
 use Rattle.cli_node.specs.declared.key.Keys.{Keys}
 use Rattle.cli_node.specs.declared.sealing.Sealing.{Sealing}
@@ -194,6 +193,11 @@ none_of None b h e = refl
 none_of (Some x) b h e =
     let t : IsTrue b = h.0 refl in absurd (let f : IsTrue false = subst (λ (q : Bool). IsTrue q) e t in cc)
 
+pub some_of : {X : Type 0} (m : Option X) (x : X) (b : Bool) → IsSome m ↔ IsTrue b → m ≡ Some x → b ≡ true
+some_of None x b h e = absurd cc
+some_of (Some y) x true h e = refl
+some_of (Some y) x false h e = let t : IsTrue false = h.0 refl in absurd cc
+
 -- the numbers are the first that is asked
 pub place_first : (place keys store starts addresses control : Outcome) → place ≡ Refused 40 →
     checked place keys store starts addresses control ≡ Refused 40
@@ -242,32 +246,18 @@ new_map G m keys is may hears members kept kept' closed closed' made made' resul
 new_map G m keys is may hears members kept kept' closed closed' made made' result s d c f (inr (given, counted, whole, at, ends)) =
     inr (given, counted, whole, d given at, with_map G m keys is may hears members given closed closed' made made' result s c f ends)
 
-named_map : (makes more : (path key : List ℕ) → Type 0) (path key : Option (List ℕ)) →
-    IsNamed (λ p k. makes p k × more p k) path key → IsNamed makes path key
-named_map makes more None None h = tt
-named_map makes more None (Some k) h = h
-named_map makes more (Some p) None h = h
-named_map makes more (Some p) (Some k) h = h.0
-
-are_map : (makes more : (path key : List ℕ) → Type 0) (path other : Option (List ℕ)) (keys : Option Keys) →
-    AreNamed (λ p k. makes p k × more p k) path other keys → AreNamed makes path other keys
-are_map makes more None other None h = tt
-are_map makes more None other (Some keys) h = h
-are_map makes more (Some p) other None h = h
-are_map makes more (Some p) other (Some keys) h = (h.0.0, named_map makes more other keys.other h.1)
-
-pub node_any : {R : Type 0} (G : Ghosts R) (is_member : Membership → Type 0) (makes more : (path key : List ℕ) → Type 0)
-    (path other : Option (List ℕ)) (is_start : Membership → Start → Type 0) (hears : Bool) (members : List (List ℕ))
+pub node_any : {R : Type 0} (G : Ghosts R) (is_member : Membership → Type 0) (are_keys : Option Keys → Type 0)
+    (is_start : Membership → Start → Type 0) (hears : Bool) (members : List (List ℕ))
     (kept closed : R → Type 0) (made : Ended → Type 0) (result : Outcome) →
-    EndsNode G is_member (AreNamed (λ p k. makes p k × more p k) path other) is_start hears members kept closed made result →
-    EndsNode G is_member (AreNamed makes path other) (λ m. Anything) hears members Anything Anything Anything result
-node_any G is_member makes more path other is_start hears members kept closed made result (inl refused) = inl refused
-node_any G is_member makes more path other is_start hears members kept closed made result (inr (m, keys, is, are, ends)) =
+    EndsNode G is_member are_keys is_start hears members kept closed made result →
+    EndsNode G is_member are_keys (λ m. Anything) hears members Anything Anything Anything result
+node_any G is_member are_keys is_start hears members kept closed made result (inl refused) = inl refused
+node_any G is_member are_keys is_start hears members kept closed made result (inr (m, keys, is, are, ends)) =
     inr (
       m,
       keys,
       is,
-      are_map makes more path other keys are,
+      are,
       new_map G m keys (is_start m) Anything hears members kept Anything closed Anything made Anything result
           (λ x h. tt) (λ r h. tt) (λ r h. tt) (λ how h. tt) ends,
     )

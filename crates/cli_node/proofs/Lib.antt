@@ -3,6 +3,5 @@ mod Refusing
 pub mod Stores
 pub mod Endings
 pub mod Sealed
-mod Given
 pub mod Settled
 pub mod Commands

@@ -7,4 +7,5 @@ pub mod Secrets
 pub mod Asked
 pub mod Keeping
 pub mod Given
+pub mod Doing
 pub mod Settled

@@ -1,18 +1,21 @@
 //! The subcommand `ask`: a command asked of a node.
 
-ghost use Rattle.std.specs.Prelude.{◌≡◌, ◌<◌, ◌⊎◌, ◌↔◌, ℕ, List, [], ◌∷◌, Ok, false, IfSome, IfOk, IfErr};
-ghost use Rattle.std.specs.Prelude.{IsSome, IsTrue};
+ghost use Rattle.std.specs.Prelude.{◌≡◌, ◌<◌, ◌⊎◌, ◌↔◌, ⊤, ℕ, List, [], ◌∷◌, Some, None, Ok, Err, false};
+ghost use Rattle.std.specs.Prelude.{IfSome, IfOk, IfErr, OnErr, IsSome, IsTrue};
 ghost use Rattle.std.specs.Prelude.{codes, option_map};
 ghost use Rattle.clap.specs.Words.{found_of, rows_of};
 ghost use Rattle.pf_entry.specs.Owned.{command_value};
 ghost use Rattle.pf_arguments.specs.Asked.{asked, given_in, Change};
+ghost use Rattle.px_transport.specs.Wires.{IsQuiet, WireEvent};
 ghost use Rattle.node_udp.specs.Addresses.{AreFound};
 ghost use Rattle.node_udp.specs.Members.{me_of, peers_of};
-ghost use Rattle.cli_node.specs.declared.outcome.Outcome.TheVariants.{Refused};
-ghost use Rattle.cli_node.specs.inner.Places.{has_place, waits_of};
+ghost use Rattle.cli_node.specs.declared.outcome.Outcome.TheVariants.{Memory, Refused};
+ghost use Rattle.cli_node.specs.inner.Places.{has_8_bits, has_place, waits_of};
 ghost use Rattle.cli_io.specs.Sources.{IsNamed, IsText};
 ghost use Rattle.cli_io.specs.Numbers.{number_at};
-ghost use Rattle.cli_node.specs.inner.Asked.{AreAskArguments, AsksOver, IsAsked, IsUnasked};
+ghost use Rattle.cli_node.specs.inner.Asked.{AreAskArguments, AsksNode, HasNoText, IsAsked, IsRefusedWith, IsUnread};
+ghost use Rattle.cli_node.specs.inner.Doing.{Adds, IsLeft};
+ghost use Rattle.cli_node.specs.inner.Asked.{is_wait, names_node, unasked_code};
 ghost use Rattle.cli_node.specs.declared.ask.TheConstants.{CLIENT};
 
 use crate::outcome::{Outcome, answer_outcome, fault_outcome};
@@ -47,7 +50,8 @@ pub struct AskArguments<'a> {
 
 /// The number of waits for `--wait`: five a second, one at least; five where it isn't given.
 fn waits_in(matches: &ArgMatches<'_>) -> Option<u32>
-    ensures { IfSome result (λ n. n ≡ waits_of (number_at (rows_of (found_of matches.now)) (codes "wait"))) }
+    ensures some { IfSome result (λ n. n ≡ waits_of (number_at (rows_of (found_of matches.now)) (codes "wait"))) }
+    ensures none { result ≡ None → is_wait (number_at (rows_of (found_of matches.now)) (codes "wait")) ≡ false }
 {
     match number_in(matches, "wait") {
         Some(seconds) => match u16::try_from(seconds) {
@@ -60,7 +64,8 @@ fn waits_in(matches: &ArgMatches<'_>) -> Option<u32>
 
 /// The number of 8 bits that an option has.
 fn small_in(matches: &ArgMatches<'_>, id: &str) -> Option<u8>
-    ensures { IfSome result (λ n. number_at (rows_of (found_of matches.now)) id.now ≡ Some n) }
+    ensures some { IfSome result (λ n. number_at (rows_of (found_of matches.now)) id.now ≡ Some n) }
+    ensures none { result ≡ None → has_8_bits (number_at (rows_of (found_of matches.now)) id.now) ≡ false }
 {
     match number_in(matches, id) {
         Some(number) => match u8::try_from(number) {
@@ -74,7 +79,8 @@ fn small_in(matches: &ArgMatches<'_>, id: &str) -> Option<u8>
 impl<'a> AskArguments<'a> {
     /// What the matches give. `clap` has refused numbers out of range and arguments that are missing.
     pub(crate) fn of(matches: &ArgMatches<'a>) -> Option<AskArguments<'a>>
-        ensures { IfSome result (AreAskArguments (rows_of (found_of matches.now))) }
+        ensures some { IfSome result (AreAskArguments (rows_of (found_of matches.now))) }
+        ensures none { result ≡ None → names_node (rows_of (found_of matches.now)) ≡ false }
     {
         let Some(to) = value_in(matches, "to") else {
             return None;
@@ -103,7 +109,7 @@ impl<'a> AskArguments<'a> {
 
 /// What a source that can't be read gives: of a file 40.
 fn unread(name: &str, fault: InputFault) -> Outcome
-    ensures { IsUnasked result }
+    ensures { IsUnread name.now result }
 {
     match fault {
         InputFault::Memory => Outcome::Memory,
@@ -124,7 +130,7 @@ fn text_for<T: Sources, R: Read>(
 ) -> Result<Vec<u8>, Outcome>
     ensures text { IfOk result (λ text. IsNamed (option_map (λ n. n.now) named.entry)
         (IsText (T.has sources.now) (R.remaining reader.old)) text.items) }
-    ensures why { IfErr result IsUnasked }
+    ensures why { IfErr result (HasNoText (option_map (λ n. n.now) named.entry)) }
 {
     let Some(name) = named else {
         return Ok(Vec::new(alloc));
@@ -139,7 +145,8 @@ fn text_for<T: Sources, R: Read>(
 fn change_in(alloc: Global, matches: &ArgMatches<'_>, text: &[u8]) -> Result<Command, Outcome>
     ensures change { IfOk result (λ command. asked (given_in (rows_of (found_of matches.now))) text.now ≡
         Ok (Change (command_value command))) }
-    ensures refused { IfErr result IsUnasked }
+    ensures refused { IfErr result (IsRefusedWith (unasked_code (asked (given_in (rows_of (found_of matches.now)))
+        text.now))) }
 {
     match from_matches(alloc, matches, text) {
         Ok(Action::Change(command)) => Ok(command),
@@ -151,30 +158,55 @@ fn change_in(alloc: Global, matches: &ArgMatches<'_>, text: &[u8]) -> Result<Com
     }
 }
 
-/// Who makes a client's wire, once.
+/// Who makes a client's wires. One can't be dropped: it is closed.
 pub trait Client {
-    type Wire: Wire + Drop;
+    type Wire: Wire;
+
+    // what came and went over the wires that were closed
+    ghost went: { Self → List WireEvent → Type 0 };
 
     // this wire reaches who listens at this address
     ghost reaches: { Self → (to : List ℕ) → Self.Wire → Type 0 };
 
+    // there is no wire to this address
+    ghost is_unreached: { Self → (to : List ℕ) → Type 0 };
+
     /// A wire to this address: 82 where there is none.
-    fn bind(self, alloc: Global, to: &str) -> Result<Self::Wire, Outcome>
-        ensures refused { IfErr result IsUnasked }
-        ensures reaches { IfOk result (reaches self to.now) };
+    fn bind(&mut self, alloc: Global, to: &str) -> Result<Self::Wire, Outcome>
+        ensures refused { OnErr result ((result ≡ Err Memory) ⊎ ((result ≡ Err (Refused 82)) ×
+            is_unreached self.old to.now)) }
+        ensures reaches { IfOk result (reaches self.old to.now) }
+        ensures quiet { IsQuiet (went self.old) (went self.new) };
+
+    /// Closes a wire.
+    fn close(&mut self, wire: Self::Wire)
+        ensures { IsLeft Self.Wire.traffic (Adds (went self.old) (went self.new)) wire };
 }
 
 impl Client for HostRuntime {
     type Wire = UdpWire<UdpSocket, HostRuntime>;
 
+    // no contract states what the system's sockets give, nor when there is none
+    ghost went = { λ _ _. ⊤ };
+
     ghost reaches = { λ _ to w. (me_of w ≡ CLIENT) × AreFound (to ∷ []) (peers_of w) };
 
-    fn bind(self, alloc: Global, to: &str) -> Result<UdpWire<UdpSocket, HostRuntime>, Outcome> {
-        match UdpWire::bind(&self, alloc, &[to], CLIENT, WAIT_MS) {
+    ghost is_unreached = { λ _ _. ⊤ };
+
+    fn bind(
+        &mut self,
+        alloc: Global,
+        to: &str,
+    ) -> Result<UdpWire<UdpSocket, HostRuntime>, Outcome> {
+        match UdpWire::bind(&*self, alloc, &[to], CLIENT, WAIT_MS) {
             Ok(wire) => Ok(wire),
             Err(BindFault::Memory) => Err(Outcome::Memory),
             Err(BindFault::NoSocket) => Err(Outcome::Refused(82)),
         }
+    }
+
+    fn close(&mut self, wire: UdpWire<UdpSocket, HostRuntime>) {
+        drop(wire);
     }
 }
 
@@ -209,22 +241,23 @@ fn membership(arguments: AskArguments<'_>) -> Option<Membership>
 }
 
 /// What `ask` gives: 40 of its numbers, the faults of the action, and 82, in this order; then the answer.
-pub(crate) fn ask_outcome<T: Sources, C: Client + Drop, R: Read>(
+pub(crate) fn ask_outcome<T: Sources, C: Client, R: Read>(
     sources: &T,
-    client: C,
+    client: &mut C,
     alloc: Global,
     arguments: AskArguments<'_>,
     matches: &ArgMatches<'_>,
     reader: &mut R,
 ) -> Outcome
-    ensures place { has_place arguments.entry.node arguments.entry.members ≡ false → result ≡ Refused 40 }
-    ensures asked { IsUnasked result ⊎ AsksOver C.Wire.traffic (C.reaches client)
-        (IsText (T.has sources.now) (R.remaining reader.old)) matches.now arguments.entry result }
+    ensures { AsksNode C.Wire.traffic (C.reaches client.old) (C.is_unreached client.old)
+        (Adds (C.went client.old) (C.went client.new)) (IsText (T.has sources.now) (R.remaining reader.old))
+        (rows_of (found_of matches.now)) arguments.entry (has_place arguments.entry.node arguments.entry.members)
+        result }
 {
     let Some(m) = membership(arguments) else {
         return Outcome::Refused(40);
     };
-    let text = match text_for(sources, alloc, matches.get_str("file"), reader) {
+    let text = match text_for(sources, alloc, value_in(matches, "file"), reader) {
         Ok(text) => text,
         Err(outcome) => return outcome,
     };
@@ -235,7 +268,9 @@ pub(crate) fn ask_outcome<T: Sources, C: Client + Drop, R: Read>(
     match client.bind(alloc, arguments.to) {
         Ok(wire) => {
             let mut wire = wire;
-            asked_over(alloc, arguments, &m, &command, &mut wire)
+            let outcome = asked_over(alloc, arguments, &m, &command, &mut wire);
+            client.close(wire);
+            outcome
         }
         Err(outcome) => outcome,
     }

@@ -3,26 +3,23 @@
 ghost use Rattle.std.specs.Prelude.{◌≡◌, ◌≢◌, ◌<◌, ◌≤◌, ◌⊎◌, ◌↔◌, Err, false, length, IfSome, OnErr, IsSome, IsTrue};
 ghost use Rattle.std.specs.Prelude.{ℕ, Bool, [], None, Ok, IfOk, map, option_map, option_and_then, is_some};
 ghost use Rattle.std.specs.Prelude.{◌||◌, ◌++◌, codes, string_bytes};
-ghost use Rattle.clap.specs.Words.{found_of, one_text};
-ghost use Rattle.toml.specs.Data.{as_str, get_member};
+ghost use Rattle.clap.specs.Words.{found_of, rows_of};
 ghost use Rattle.px_transport.specs.Wiring.{inner_of, keys_of, sealer_of};
 ghost use Rattle.node_udp.specs.Addresses.{AreFound, shown_address};
 ghost use Rattle.node_udp.specs.Members.{hears_of, me_of, peers_of};
 ghost use Rattle.pf_scripts.specs.Lines.{spaced};
-ghost use Rattle.cli_files.specs.Files.{settings_of};
-ghost use Rattle.cli_files.specs.Settings.{number_of};
 ghost use Rattle.cli_node.specs.declared.outcome.Outcome.TheVariants.{Memory, Refused};
 ghost use Rattle.cli_node.specs.inner.Running.{EndsAs, EndsNew, EndsNode, EndsWith, IsAlone, IsUnrun};
 ghost use Rattle.cli_node.specs.inner.Running.{MadeTurns, RunsHere};
 ghost use Rattle.cli_node.specs.inner.Running.{hears_asks, keys_with, sealer_with};
 ghost use Rattle.cli_node.specs.inner.Outcomes.{ComesTo, ComesOpen, ComesOpenOr, IsWireless};
-ghost use Rattle.cli_node.specs.inner.Given.{AreFigures, AreTurns, IsFlag, IsFlagIn, IsNumberIn, IsPlaced};
+ghost use Rattle.cli_node.specs.inner.Given.{AreFigures, IsPlaced, is_set, number_for, text_for};
 ghost use Rattle.cli_node.specs.inner.Secrets.{AreNamed};
-ghost use Rattle.cli_node.specs.inner.Settled.{AreArguments, is_whole};
+ghost use Rattle.cli_node.specs.inner.Settled.{AreArguments, is_complete, is_whole};
 ghost use Rattle.cli_node.specs.inner.Stores.{HasNone, IsClosedIn, IsFoundAt, IsKeptIn, IsNone, IsStoreless, is_made};
 ghost use Rattle.cli_node.specs.declared.store.Found.{Found};
 ghost use Rattle.cli_node.specs.declared.store.TheConstants.{NO_STORE};
-ghost use Rattle.cli_node.specs.inner.Places.{is_count, has_place, turns_or_all, chosen};
+ghost use Rattle.cli_node.specs.inner.Places.{is_count, has_place, turns_or_all};
 
 use crate::database::Databases;
 use crate::events::{log_end, log_start};
@@ -34,6 +31,7 @@ use crate::sealing::{Sealing, sealing_for};
 use crate::store::{Found, found_at, is_made, record_at};
 use clap::ArgMatches;
 use cli_files::NodeFile;
+use cli_io::{has_flag, number_in, value_in};
 use node_control::{ControlPlace, Observer, run_at_socket, run_sealed_at_socket};
 use node_loop::{Membership, Timer, open_member};
 use node_udp::{Address, BindFault, UdpWire};
@@ -80,39 +78,26 @@ pub struct NodeArguments<'m, 'w, 'a> {
 }
 
 /// The text of an option, that of the file where it isn't given.
-fn text_or<'g: 's, 's>(given: Option<&'g str>, file: &'s NodeFile, name: &str) -> Option<&'s str>
-    ensures { option_map (λ t. t.now) result ≡ chosen (option_map (λ t. t.now) given.entry)
-        (option_and_then as_str (get_member name.now (settings_of file.now))) }
+fn text_for<'g: 's, 's>(matches: &ArgMatches<'g>, file: &'s NodeFile, name: &str) -> Option<&'s str>
+    ensures { option_map (λ t. t.now) result ≡ text_for (rows_of (found_of matches.now)) file.now name.now }
 {
-    match given {
+    match value_in(matches, name) {
         Some(text) => Some(text),
         None => file.text(name),
     }
 }
 
 /// The number of an option, that of the file where it isn't given.
-fn number_or(given: Option<u32>, file: &NodeFile, name: &str) -> Option<u32>
-    ensures given { (n : ℕ) → given ≡ Some n → result ≡ Some n }
-    ensures file { given ≡ None → IfSome result (λ n.
-        option_and_then number_of (get_member name.now (settings_of file.now)) ≡ Some n) }
-    ensures kept { given ≡ None → (n : ℕ) →
-        option_and_then number_of (get_member name.now (settings_of file.now)) ≡ Some n → n ≤ 4294967295 →
-        result ≡ Some n }
+fn number_for(matches: &ArgMatches<'_>, file: &NodeFile, name: &str) -> Option<u32>
+    ensures { result ≡ number_for (rows_of (found_of matches.now)) file.now name.now }
 {
-    if given.is_some() {
-        return given;
+    if let Some(number) = number_in(matches, name) {
+        return Some(number);
     }
     match file.number(name) {
         Some(number) => u32::try_from(number).ok(),
         None => None,
     }
-}
-
-/// The number of an option, that of the file where it isn't given.
-fn number_in(matches: &ArgMatches<'_>, file: &NodeFile, name: &str) -> Option<u32>
-    ensures { IfSome result (IsNumberIn matches.now file.now name.now) }
-{
-    number_or(matches.get_one::<u32>(name), file, name)
 }
 
 /// So many turns, or as many as there can be.
@@ -125,25 +110,11 @@ fn turns_or_all(turns: Option<u32>) -> u64
     }
 }
 
-/// How many turns are made.
-fn turns_in(matches: &ArgMatches<'_>) -> u64
-    ensures { AreTurns (one_text (found_of matches.now) (codes "turns")) result }
-{
-    turns_or_all(matches.get_one::<u32>("turns"))
-}
-
-/// Whether an option without a value is given.
-pub(crate) fn is_given(matches: &ArgMatches<'_>, name: &str) -> bool
-    ensures { IsFlag (one_text (found_of matches.now) name.now) result }
-{
-    matches.get_flag(name)
-}
-
 /// Whether an option without a value is given, or so in the file.
 fn is_set(matches: &ArgMatches<'_>, file: &NodeFile, name: &str) -> bool
-    ensures { IsFlagIn matches.now file.now name.now result }
+    ensures { result ≡ is_set (rows_of (found_of matches.now)) file.now name.now }
 {
-    is_given(matches, name) || file.flag(name)
+    has_flag(matches, name) || file.flag(name)
 }
 
 impl<'m, 'w, 'a> NodeArguments<'m, 'w, 'a> {
@@ -154,33 +125,35 @@ impl<'m, 'w, 'a> NodeArguments<'m, 'w, 'a> {
         file: &'a NodeFile,
         members: &'m [&'w str],
     ) -> Option<NodeArguments<'m, 'w, 'a>>
-        ensures { IfSome result (AreArguments matches.now file.now (map (λ t. t.now) members.now)) }
+        ensures some { IfSome result (AreArguments (rows_of (found_of matches.now)) file.now
+            (map (λ t. t.now) members.now)) }
+        ensures none { result ≡ None → is_complete (rows_of (found_of matches.now)) file.now ≡ false }
     {
-        let Some(me) = number_in(matches, file, "me") else {
+        let Some(me) = number_for(matches, file, "me") else {
             return None;
         };
         let Ok(me) = u8::try_from(me) else {
             return None;
         };
-        let Some(cluster) = number_in(matches, file, "cluster") else {
+        let Some(cluster) = number_for(matches, file, "cluster") else {
             return None;
         };
-        let Some(store) = text_or(matches.get_str("store"), file, "store") else {
+        let Some(store) = text_for(matches, file, "store") else {
             return None;
         };
         Some(NodeArguments {
             me,
             cluster,
             store,
-            is_from_file: matches.get_str("config").is_some(),
-            is_new: is_given(matches, "new"),
-            turns: turns_in(matches),
-            key: text_or(matches.get_str("key"), file, "key"),
-            other_key: text_or(matches.get_str("other-key"), file, "other-key"),
-            makes_starts: is_given(matches, "new-starts"),
+            is_from_file: value_in(matches, "config").is_some(),
+            is_new: has_flag(matches, "new"),
+            turns: turns_or_all(number_in(matches, "turns")),
+            key: text_for(matches, file, "key"),
+            other_key: text_for(matches, file, "other-key"),
+            makes_starts: has_flag(matches, "new-starts"),
             is_unsealed: is_set(matches, file, "unsealed"),
-            control: text_or(matches.get_str("control"), file, "control"),
-            metrics: text_or(matches.get_str("metrics"), file, "metrics"),
+            control: text_for(matches, file, "control"),
+            metrics: text_for(matches, file, "metrics"),
             is_quiet: is_set(matches, file, "quiet"),
             members,
         })

@@ -1,35 +1,33 @@
 //! The subcommand `node` with its file of settings.
 
-ghost use Rattle.std.specs.Prelude.{◌≡◌, ◌≢◌, ◌⊎◌, ℕ, List, Some, false, length, map, option_map, IfOk, IfErr, codes};
-ghost use Rattle.toml.specs.Parse.{parse_document};
-ghost use Rattle.cli_io.specs.Sources.{IsOfFile};
-ghost use Rattle.cli_files.specs.Clusters.{IsClusterKey};
-ghost use Rattle.cli_files.specs.Files.{settings_of};
-ghost use Rattle.cli_node.specs.declared.node.NodeArguments.{NodeArguments};
-ghost use Rattle.cli_node.specs.declared.outcome.Outcome.{Outcome};
+ghost use Rattle.std.specs.Prelude.{◌≡◌, ◌≢◌, ◌⊎◌, ◌∷◌, ℕ, List, [], Some, None, Err, false, length, map};
+ghost use Rattle.std.specs.Prelude.{option_map, codes, IfOk, IfErr, OnErr};
+ghost use Rattle.std.specs.List.{All};
+ghost use Rattle.cli_files.specs.Clusters.{IsClusterKey, IsKeyOfFile};
 ghost use Rattle.cli_node.specs.declared.outcome.Outcome.TheVariants.{Memory, Refused};
-ghost use Rattle.cli_node.specs.declared.settings.TheConstants.{BAD_SETTINGS};
+ghost use Rattle.cli_node.specs.declared.settings.TheConstants.{UNREADABLE};
+ghost use Rattle.cli_node.specs.inner.Doing.{Adds, GaveSo, NodeEvent, Ran, Checked};
 ghost use Rattle.cli_node.specs.inner.Places.{has_place};
 ghost use Rattle.cli_node.specs.inner.Running.{Anything, EndsNode, hears_asks};
 ghost use Rattle.cli_node.specs.inner.Secrets.{AreNamed};
-ghost use Rattle.cli_node.specs.inner.Settled.{AreSettings, IsNode, IsSettled, IsUnread, IsUnsettled, members_in};
-ghost use Rattle.cli_node.specs.inner.Settled.{settings_code};
-ghost use Rattle.clap.specs.Words.{first_value, found_of};
+ghost use Rattle.cli_node.specs.inner.Settled.{AreOfText, AreSettings, IsNode, IsSettled, IsSettledOr, IsUnread};
+ghost use Rattle.cli_node.specs.inner.Settled.{IsUnsettled, members_for, settings_code, settings_outcome};
+ghost use Rattle.clap.specs.Words.{first_of, found_of, rows_of};
 ghost use Rattle.cli_node.specs.inner.Stores.{IsStoreless};
 
 use crate::check::check_outcome;
-use crate::node::{NodeArguments, is_given, run_node};
+use crate::node::{NodeArguments, run_node};
 use crate::outcome::Outcome;
 use clap::ArgMatches;
 use cli_files::{FileFault, NodeFile};
-use cli_io::{InputFault, Shown, open_regular, read_all};
+use cli_io::{InputFault, Shown, Sources, has_flag, number_in, open_regular, value_in};
 use node_loop::TickTimer;
 use px_records::Records;
 use px_store::SqlRecords;
 use sqlite::{File, FileStore};
 use std::alloc::Global;
 use std::fs::Files;
-use std::io::Eprint;
+use std::io::{Eprint, Read};
 
 /// A file that can't be read.
 const UNREADABLE: u8 = 90;
@@ -37,19 +35,20 @@ const UNREADABLE: u8 = 90;
 /// A file of settings that is wrong.
 const BAD_SETTINGS: u8 = 92;
 
-/// The bytes of a file.
-fn bytes_of<RT: Files + Eprint>(rt: &RT, alloc: Global, path: &str) -> Result<Vec<u8>, Outcome>
-    ensures read { IfOk result (λ bytes. IsOfFile RT.File.remaining bytes.items) }
-    ensures refused { IfErr result IsUnread }
+/// The bytes of the file at a path, which is a regular one.
+fn bytes_at<RT: Files + Eprint + Sources>(
+    rt: &RT,
+    alloc: Global,
+    path: &str,
+) -> Result<Vec<u8>, Outcome>
+    ensures read { IfOk result (λ bytes. RT.has rt.now path.now bytes.items) }
+    ensures refused { OnErr result ((result ≡ Err Memory) ⊎ (result ≡ Err (Refused UNREADABLE))) }
 {
-    let mut file = match open_regular(rt, path) {
-        Ok(file) => file,
-        Err(error) => {
-            let _logged = eprintln!(rt; "pfx: error: {}: {error} ({UNREADABLE})", Shown(path));
-            return Err(Outcome::Refused(UNREADABLE));
-        }
-    };
-    match read_all(alloc, &mut file) {
+    if let Err(error) = open_regular(rt, path) {
+        let _logged = eprintln!(rt; "pfx: error: {}: {error} ({UNREADABLE})", Shown(path));
+        return Err(Outcome::Refused(UNREADABLE));
+    }
+    match rt.source_at(alloc, path) {
         Ok(bytes) => Ok(bytes),
         Err(InputFault::Memory) => Err(Outcome::Memory),
         Err(InputFault::Failed | InputFault::TooLong) => {
@@ -64,7 +63,7 @@ fn bytes_of<RT: Files + Eprint>(rt: &RT, alloc: Global, path: &str) -> Result<Ve
 
 /// What a wrong file is refused for, logged on standard error too.
 fn file_refused<RT: Eprint>(rt: &RT, path: &str, fault: FileFault) -> Outcome
-    ensures { IsUnread result }
+    ensures { result ≡ settings_outcome fault }
 {
     if fault == FileFault::Memory {
         return Outcome::Memory;
@@ -86,12 +85,15 @@ fn file_refused<RT: Eprint>(rt: &RT, path: &str, fault: FileFault) -> Outcome
 }
 
 /// The settings in a file.
-fn settings_in<RT: Files + Eprint>(rt: &RT, alloc: Global, path: &str) -> Result<NodeFile, Outcome>
-    ensures settings { IfOk result (λ f. (text : List ℕ) × IsOfFile RT.File.remaining text ×
-        (parse_document text ≡ Some (settings_of f))) }
-    ensures refused { IfErr result IsUnread }
+fn settings_in<RT: Files + Eprint + Sources>(
+    rt: &RT,
+    alloc: Global,
+    path: &str,
+) -> Result<NodeFile, Outcome>
+    ensures settings { IfOk result (λ f. (text : List ℕ) × RT.has rt.now path.now text × AreOfText text f) }
+    ensures refused { IfErr result (IsUnread (RT.has rt.now) path.now) }
 {
-    let bytes = match bytes_of(rt, alloc, path) {
+    let bytes = match bytes_at(rt, alloc, path) {
         Ok(bytes) => bytes,
         Err(outcome) => return Err(outcome),
     };
@@ -102,14 +104,13 @@ fn settings_in<RT: Files + Eprint>(rt: &RT, alloc: Global, path: &str) -> Result
 }
 
 /// The settings in the file that is named; none without one.
-fn settings_for<RT: Files + Eprint>(
+fn settings_for<RT: Files + Eprint + Sources>(
     rt: &RT,
     alloc: Global,
     named: Option<&str>,
 ) -> Result<NodeFile, Outcome>
-    ensures settings { IfOk result (λ f. AreSettings (λ text. IsOfFile RT.File.remaining text)
-        (option_map (λ n. n.now) named.entry) f) }
-    ensures refused { IfErr result (IsUnsettled (option_map (λ n. n.now) named.entry)) }
+    ensures settings { IfOk result (AreSettings (RT.has rt.now) (option_map (λ n. n.now) named.entry)) }
+    ensures refused { IfErr result (IsUnsettled (RT.has rt.now) (option_map (λ n. n.now) named.entry)) }
 {
     match named {
         Some(path) => settings_in(rt, alloc, path),
@@ -119,9 +120,9 @@ fn settings_for<RT: Files + Eprint>(
 
 /// The number with which settings are refused: 92 where a file is named, 40 for arguments alone.
 fn settings_code(matches: &ArgMatches<'_>) -> u8
-    ensures { result ≡ settings_code (first_value (found_of matches.now) (codes "config")) }
+    ensures { result ≡ settings_code (first_of (codes "config") (rows_of (found_of matches.now))) }
 {
-    match matches.get_str("config") {
+    match value_in(matches, "config") {
         Some(_) => BAD_SETTINGS,
         None => 40,
     }
@@ -134,20 +135,20 @@ fn log_missing<RT: Eprint>(rt: &RT, name: &str, code: u8) {
 
 /// What is refused where a setting is missing that no option gives.
 fn lacking<RT: Eprint>(rt: &RT, matches: &ArgMatches<'_>, file: &NodeFile) -> Outcome
-    ensures { result ≡ Refused (settings_code (first_value (found_of matches.now) (codes "config"))) }
+    ensures { result ≡ Refused (settings_code (first_of (codes "config") (rows_of (found_of matches.now)))) }
 {
     let code = settings_code(matches);
-    if matches.get_one::<u32>("me").is_none() && file.number("me").is_none() {
+    if number_in(matches, "me").is_none() && file.number("me").is_none() {
         log_missing(rt, "me is given neither by an option nor in the file", code);
     }
-    if matches.get_one::<u32>("cluster").is_none() && file.number("cluster").is_none() {
+    if number_in(matches, "cluster").is_none() && file.number("cluster").is_none() {
         log_missing(
             rt,
             "cluster is given neither by an option nor in the file",
             code,
         );
     }
-    if matches.get_str("store").is_none() && file.text("store").is_none() {
+    if value_in(matches, "store").is_none() && file.text("store").is_none() {
         log_missing(
             rt,
             "store is given neither by an option nor in the file",
@@ -159,7 +160,7 @@ fn lacking<RT: Eprint>(rt: &RT, matches: &ArgMatches<'_>, file: &NodeFile) -> Ou
 
 /// What is refused where a setting lacks the one that it needs.
 fn halved<RT: Eprint>(rt: &RT, matches: &ArgMatches<'_>) -> Outcome
-    ensures { result ≡ Refused (settings_code (first_value (found_of matches.now) (codes "config"))) }
+    ensures { result ≡ Refused (settings_code (first_of (codes "config") (rows_of (found_of matches.now)))) }
 {
     let code = settings_code(matches);
     log_missing(
@@ -170,57 +171,58 @@ fn halved<RT: Eprint>(rt: &RT, matches: &ArgMatches<'_>) -> Outcome
     Outcome::Refused(code)
 }
 
-/// Who runs a node, or checks whether it could be started, once.
+/// Who runs nodes, or checks whether they could be started.
 pub trait Nodes {
-    // a node with these arguments was run, and gave this
-    ghost ran: { Self → NodeArguments → Outcome → Type 0 };
-
-    // whether a node with these arguments could be started was checked, and gave this
-    ghost checked: { Self → NodeArguments → Outcome → Type 0 };
+    // these were run or checked, and gave this
+    ghost did: { Self → List NodeEvent → Type 0 };
 
     /// Runs a node.
-    fn run(self, alloc: Global, arguments: NodeArguments<'_, '_, '_>) -> Outcome
-        ensures { ran self arguments.entry result };
+    fn run(&mut self, alloc: Global, arguments: NodeArguments<'_, '_, '_>) -> Outcome
+        ensures { Adds (did self.old) (did self.new) (Ran arguments.entry result ∷ []) };
 
     /// Checks whether a node could be started.
-    fn check(self, alloc: Global, arguments: NodeArguments<'_, '_, '_>) -> Outcome
-        ensures { checked self arguments.entry result };
+    fn check(&mut self, alloc: Global, arguments: NodeArguments<'_, '_, '_>) -> Outcome
+        ensures { Adds (did self.old) (did self.new) (Checked arguments.entry result ∷ []) };
 }
 
 impl Nodes for HostRuntime {
     // no contract states what is in a file, or which turns are made by the system's clock
-    ghost ran = { λ _ w outcome. (has_place w.me (length w.members.now) ≡ false → outcome ≡ Refused 40) ×
+    ghost did = { λ _. All (GaveSo
+        (λ w outcome. (has_place w.me (length w.members.now) ≡ false → outcome ≡ Refused 40) ×
         EndsNode ⟦<SqlRecords<FileStore<File>> as Records>⟧
         (λ m. (m.cluster ≡ w.cluster) × (m.me ≡ w.me) × (m.members ≡ length w.members.now))
-        (AreNamed (λ path key. (text : List ℕ) × IsClusterKey text w.cluster (map (λ t. t.now) w.members.now) key)
+        (AreNamed (λ path key. ((text : List ℕ) × IsClusterKey text w.cluster (map (λ t. t.now) w.members.now) key)
+        × IsKeyOfFile ⟦<std::fs::File as Read>⟧.remaining w.cluster (map (λ t. t.now) w.members.now) key)
         (option_map (λ t. t.now) w.key) (option_map (λ t. t.now) w.other_key))
         (λ m. Anything) (hears_asks w.key w.control) (map (λ t. t.now) w.members.now) Anything Anything Anything
-        outcome × (outcome ≢ Refused 80) × IsStoreless w.is_from_file w.is_new outcome };
+        outcome × (outcome ≢ Refused 80) × IsStoreless w.is_from_file w.is_new outcome)
+        (λ w outcome. (has_place w.me (length w.members.now) ≡ false → outcome ≡ Refused 40) ×
+        IsStoreless w.is_from_file w.is_new outcome)) };
 
-    ghost checked = { λ _ w outcome. (has_place w.me (length w.members.now) ≡ false → outcome ≡ Refused 40) ×
-        IsStoreless w.is_from_file w.is_new outcome };
-
-    fn run(self, alloc: Global, arguments: NodeArguments<'_, '_, '_>) -> Outcome {
+    fn run(&mut self, alloc: Global, arguments: NodeArguments<'_, '_, '_>) -> Outcome {
         let mut timer = TickTimer::new(arguments.me);
-        run_node(&self, &self, &self, alloc, arguments, &mut timer)
+        let rt = *self;
+        run_node(&rt, &rt, &rt, alloc, arguments, &mut timer)
     }
 
-    fn check(self, alloc: Global, arguments: NodeArguments<'_, '_, '_>) -> Outcome {
-        let mut inspection = self;
-        check_outcome(&self, &self, &self, &mut inspection, alloc, arguments)
+    fn check(&mut self, alloc: Global, arguments: NodeArguments<'_, '_, '_>) -> Outcome {
+        let rt = *self;
+        let mut inspection = rt;
+        check_outcome(&rt, &rt, &rt, &mut inspection, alloc, arguments)
     }
 }
 
 /// What `node` gives with these settings and members; an option goes before the file's.
-fn outcome_for<'g: 'f, 'f, RT: Eprint, N: Nodes + Drop>(
+fn outcome_for<'g: 'f, 'f, RT: Eprint, N: Nodes>(
     rt: &RT,
-    nodes: N,
+    nodes: &mut N,
     alloc: Global,
     matches: &ArgMatches<'g>,
     file: &'f NodeFile,
     members: &[&str],
 ) -> Outcome
-    ensures { IsSettled (N.ran nodes) (N.checked nodes) matches.now file.now (map (λ t. t.now) members.now) result }
+    ensures { IsSettled (Adds (N.did nodes.old) (N.did nodes.new)) (rows_of (found_of matches.now)) file.now
+        (map (λ t. t.now) members.now) result }
 {
     let Some(arguments) = NodeArguments::of(matches, file, members) else {
         return lacking(rt, matches, file);
@@ -228,7 +230,7 @@ fn outcome_for<'g: 'f, 'f, RT: Eprint, N: Nodes + Drop>(
     if !arguments.is_whole() {
         return halved(rt, matches);
     }
-    if is_given(matches, "check") {
+    if has_flag(matches, "check") {
         nodes.check(alloc, arguments)
     } else {
         nodes.run(alloc, arguments)
@@ -236,15 +238,15 @@ fn outcome_for<'g: 'f, 'f, RT: Eprint, N: Nodes + Drop>(
 }
 
 /// What `node` gives with these settings; the members among the arguments go before the file's.
-fn outcome_with<'g: 'f, 'f, RT: Eprint, N: Nodes + Drop>(
+fn outcome_with<'g: 'f, 'f, RT: Eprint, N: Nodes>(
     rt: &RT,
-    nodes: N,
+    nodes: &mut N,
     alloc: Global,
     matches: &ArgMatches<'g>,
     file: &'f NodeFile,
 ) -> Outcome
-    ensures { (result ≡ Memory) ⊎ IsSettled (N.ran nodes) (N.checked nodes) matches.now file.now
-        (members_in matches.now file.now) result }
+    ensures { IsSettledOr (Adds (N.did nodes.old) (N.did nodes.new)) (rows_of (found_of matches.now)) file.now
+        (members_for (rows_of (found_of matches.now)) file.now) result }
 {
     match matches.get_strs("member") {
         Some(members) => outcome_for(rt, nodes, alloc, matches, file, members),
@@ -257,15 +259,16 @@ fn outcome_with<'g: 'f, 'f, RT: Eprint, N: Nodes + Drop>(
 
 /// What `node` gives: 90 for a file of settings that can't be read, 92 for one that is wrong or where a setting is
 /// missing; then what a node with these settings gives.
-pub(crate) fn settled_outcome<RT: Files + Eprint, N: Nodes + Drop>(
+pub(crate) fn settled_outcome<RT: Files + Eprint + Sources, N: Nodes>(
     rt: &RT,
-    nodes: N,
+    nodes: &mut N,
     alloc: Global,
     matches: &ArgMatches<'_>,
 ) -> Outcome
-    ensures { IsNode (N.ran nodes) (N.checked nodes) (λ text. IsOfFile RT.File.remaining text) matches.now result }
+    ensures { IsNode (Adds (N.did nodes.old) (N.did nodes.new)) (RT.has rt.now) (rows_of (found_of matches.now))
+        result }
 {
-    match settings_for(rt, alloc, matches.get_str("config")) {
+    match settings_for(rt, alloc, value_in(matches, "config")) {
         Ok(file) => outcome_with(rt, nodes, alloc, matches, &file),
         Err(outcome) => outcome,
     }

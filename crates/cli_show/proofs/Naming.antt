@@ -1,5 +1,5 @@
 -- The row that names the owner is the one that is judged: a store isn't refused to its owner as another node's.
-use Rattle.std.proofs.Common.{◌≡◌, ◌∙◌, ℕ, pos, negsuc, List, [], ◌∷◌, ◌++◌, map, cond, Bool, true, false, not, ◌&&◌, ◌||◌, ◌==◌, Option, None, Some, Ok, Err, Result, length, codes, refl, sym, ap, subst, subst₂, arith}
+use Rattle.std.proofs.Common.{◌≡◌, ◌∙◌, ℕ, pos, negsuc, List, [], ◌∷◌, map, cond, Bool, true, false, not, ◌&&◌, ◌||◌, ◌==◌, Option, None, Some, Ok, Err, Result, codes, refl, sym, ap, subst, subst₂, arith}
 use Rattle.std.specs.Prelude.{if◌then◌else◌}
 use Rattle.std.specs.List.{flat_map, list_all}
 use Rattle.std.specs.List.Sorted.{IsPermutation}
@@ -10,17 +10,17 @@ use Rattle.sqlite_value.specs.Order.{Row, column}
 use Rattle.sqlite.specs.Query.{Query, IsAnswer, output, Output, matches, inner, end}
 use Rattle.sqlite.specs.Command.{Command}
 use Rattle.sqlite.specs.Command.TheVariants.{Select}
-use Rattle.sqlite.specs.Term.{Term, lit, col, holds, eval_all}
+use Rattle.sqlite.specs.Term.{lit, col, holds, eval_all}
 use Rattle.sqlite.specs.Program.{overlay}
 use Rattle.sqlite.specs.Tree.{Trees}
 use Rattle.sqlite.specs.Effect.{Database}
 use Rattle.sqlite.specs.Listing.{understood, reads_listing}
-use Rattle.sqlite.specs.State.{State, Shown as Answers}
+use Rattle.sqlite.specs.State.{State}
 use Rattle.sqlite_tied.specs.Compute.{everything}
 use Rattle.sqlite_trees.specs.Tree.{has_rowid}
 use Rattle.sqlite.proofs.Callers.{command_of, reads_as, one_permutation}
 use Rattle.px_store.specs.Tables.{schema_3}
-use Rattle.px_store.specs.Seen.{shown, seen, meta_columns, floor_columns, number_in, rows_at}
+use Rattle.px_store.specs.Seen.{shown, seen, meta_columns, floor_columns, number_in}
 use Rattle.px_store.specs.Formats.{trees_at}
 use Rattle.px_store.specs.Adopting.{Began, IsSame}
 use Rattle.px_store.specs.Judging.{is_owner, says_format, says_member, says_numbers, says_owner, are_floor_rows, row_refusal, refusal_of, reopen_refusal, has_rows}
@@ -28,7 +28,7 @@ use Rattle.px_store.specs.declared.calls.Identity.{Identity}
 use Rattle.px_store.specs.declared.fault.AdoptFault.{AdoptFault}
 use Rattle.px_store.specs.declared.fault.AdoptFault.TheVariants.{StoreVersion, BadStore, WrongNode}
 use Rattle.px_store.specs.declared.formats.Format.TheVariants.{Three}
-use Rattle.cli_show.specs.Owners.{get_owner, owner_of, owner_in, is_three, has_member, member_in, identity_in, AnswersOwner}
+use Rattle.cli_show.specs.Owners.{get_owner, owner_of, owner_in, is_three, has_member, identity_in, AnswersOwner}
 use Rattle.cli_show.proofs.Reading.{owner_plain}
 
 -- ---- what the question shows

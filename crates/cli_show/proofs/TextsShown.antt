@@ -1,5 +1,5 @@
 -- Texts that are shown give the configuration.
-use Rattle.std.proofs.Common.{◌≡◌, ◌∙◌, ℕ, true, false, List, map, Option, Some, Result, Ok, Err, Vec, Global, sym, ap, subst}
+use Rattle.std.proofs.Common.{◌≡◌, ◌∙◌, ℕ, false, List, map, Option, Some, Result, Ok, Err, Vec, Global, sym, ap, subst}
 use Rattle.std.specs.Prelude.{IfOk, IfSome}
 use Rattle.std.proofs.lemmas.Bool.{false≢true}
 use Rattle.pf_config.specs.Map.{Configuration}

@@ -35,6 +35,13 @@ pub record ShowsStore {R : Type 0} (G : Ghosts R) (given : State) (back : R) (w 
   pub same : G.stored back ≡ record_in given.now.trees
   pub shows : ShowsLog (record_in given.now.trees).learned w s
 
+-- The store has an owner: it has format 3, and its row names a member.
+-- Example: one of format 2 hasn't, and isn't shown.
+pub record IsOwned {S : Type 0} (g : store.Ghosts S) (given : Held S) : Type 0 where
+  pub came : Held S
+  pub owner : Identity
+  pub names : AnswersOwner (state g given) (state g came) (Ok owner)
+
 -- ---- refusals
 
 -- what the number of a refusal gives; without one it was out of memory
@@ -98,6 +105,7 @@ pub record ShowsFile {S : Type 0} (g : store.Ghosts S) (G : Ghosts (SqlRecords S
     (holds : Database → (within : Bool) → Type 0) (is_closed : State → Type 0) (w : Wanted) (s : Shown) : Type 0 where
   pub given : Held S
   pub back : SqlRecords S g
+  pub owned : G.is_honest back → IsOwned g given
   pub shows : G.is_honest back → Began Three (state g given) → ShowsStore G (state g given) back w s
   pub leaves : LeavesFile g holds is_closed given (connection_of back)
 

@@ -9,7 +9,7 @@ ghost use Rattle.px_store.specs.View.{connection_of};
 ghost use Rattle.px_store.specs.declared.formats.Format.TheVariants.{Three};
 ghost use Rattle.cli_show.specs.Owners.{identity_of};
 ghost use Rattle.cli_show.specs.Stores.{ShowsStore, LeavesRecord, closed_by, closed_of, closed_for, IsRefusedTo};
-ghost use Rattle.cli_show.specs.Stores.{IsClosed};
+ghost use Rattle.cli_show.specs.Stores.{IsClosed, IsOwned};
 
 use crate::owner::owner_of;
 use crate::showing::show_record;
@@ -103,6 +103,7 @@ pub fn show_store<S: Alter + Drop>(
 ) -> Result<(Shown, SqlRecords<S>), (Closed, Connection<S>)>
     ensures shown { IfOk result (λ r. ⟦<SqlRecords<S> as Records>⟧.is_honest r.1 → Began Three (state S.Store conn) →
         ShowsStore ⟦<SqlRecords<S> as Records>⟧ (state S.Store conn) r.1 wanted.entry r.0) }
+    ensures owned { IfOk result (λ r. ⟦<SqlRecords<S> as Records>⟧.is_honest r.1 → IsOwned S.Store conn) }
     ensures closed { IfErr result (λ e. HasCleanDisk (state S.Store e.1) →
         IsClosed ⟦<SqlRecords<S> as Records>⟧ S.Store conn e.0) }
     ensures stop { IfOk result (λ r. ⟦<SqlRecords<S> as Records>⟧.is_honest r.1 → Began Three (state S.Store conn) →

@@ -6,8 +6,8 @@ ghost use Rattle.cli_io.specs.Status.{code_of};
 
 use crate::batch::run_batch;
 use crate::version::write_version;
-use cli_ask::run_control_ask;
-use cli_follow::run_follow;
+use cli_ask::{Reached, run_control_ask};
+use cli_follow::{SystemFiles, run_follow};
 use cli_io::{REFUSALS, Status, out_of_memory};
 use cli_nft::{asks_nft, run_nft};
 use cli_node::run_net;
@@ -120,6 +120,28 @@ pub(crate) fn lacks_control(arguments: &[&str]) -> bool {
     }
 }
 
+/// `ask` at a control socket of the system.
+fn ask_socket<'x, R: Read, W: Write, E: Write>(
+    rt: &'x HostRuntime,
+    arguments: &'x [&'x str],
+    reader: &mut R,
+    writer: &mut W,
+    errors: &mut E,
+    is_terminal: bool,
+) -> Status {
+    let mut peer = Reached::new(rt);
+    run_control_ask(
+        rt,
+        &mut peer,
+        rt.alloc(),
+        arguments,
+        reader,
+        writer,
+        errors,
+        is_terminal,
+    )
+}
+
 /// Writes the help of `ask`: of the control socket's form, then of the one over UDP.
 fn help_ask<R: Read, W: Write, E: Write>(
     rt: &HostRuntime,
@@ -128,12 +150,20 @@ fn help_ask<R: Read, W: Write, E: Write>(
     writer: &mut W,
     errors: &mut E,
 ) -> Status {
-    let status = run_control_ask(rt, rt, rt.alloc(), arguments, reader, writer, errors, false);
+    let status = ask_socket(rt, arguments, reader, writer, errors, false);
     if status != Status::Usage {
         return status;
     }
     match writer.write_all(b"\nTo a node with neither control socket nor key, over UDP:\n\n") {
-        Ok(()) => run_net(rt, *rt, *rt, rt.alloc(), arguments, reader, writer),
+        Ok(()) => run_net(
+            rt,
+            &mut { *rt },
+            &mut { *rt },
+            rt.alloc(),
+            arguments,
+            reader,
+            writer,
+        ),
         Err(_) => Status::Failed,
     }
 }
@@ -161,19 +191,28 @@ fn run_plain<R: Read, W: Write, E: Write>(
         "ask" if asks_help(arguments) && !has_control(arguments) => {
             help_ask(rt, arguments, reader, writer, errors)
         }
-        "ask" if has_control(arguments) => run_control_ask(
+        "ask" if has_control(arguments) => {
+            ask_socket(rt, arguments, reader, writer, errors, is_terminal)
+        }
+        "node" | "ask" | "key" => run_net(
             rt,
-            rt,
+            &mut { *rt },
+            &mut { *rt },
             alloc,
             arguments,
             reader,
             writer,
-            errors,
-            is_terminal,
         ),
-        "node" | "ask" | "key" => run_net(rt, *rt, *rt, alloc, arguments, reader, writer),
         "show" => run_show(rt, alloc, arguments, writer),
-        "follow" => run_follow(rt, rt, alloc, arguments, writer, errors),
+        "follow" => run_follow(
+            rt,
+            rt,
+            &mut SystemFiles { rt },
+            alloc,
+            arguments,
+            writer,
+            errors,
+        ),
         "check" if asks_nft(arguments) => run_nft(rt, alloc, arguments, reader, writer),
         _ => run(
             rt,

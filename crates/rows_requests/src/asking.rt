@@ -4,8 +4,8 @@ use crate::network::Network;
 use crate::operator::{Operator, Sockets, text_of};
 use crate::scripted::run_steps;
 use crate::serving::SOCKET;
-use cli_ask::run_control_ask;
-use cli_follow::run_follow;
+use cli_ask::{Reached, run_control_ask};
+use cli_follow::{SystemFiles, run_follow};
 use cli_io::Status;
 use std::alloc::{AllocError, Global};
 use std::fs;
@@ -46,32 +46,56 @@ pub(crate) fn print_run(
     Ok(())
 }
 
+/// Runs `ask` at control sockets.
+fn ask_sockets<'x>(
+    alloc: Global,
+    operator: &Operator<'_>,
+    sockets: &'x Sockets<'x>,
+    arguments: &'x [String],
+    input: &str,
+    written: &mut Vec<u8>,
+    said: &mut Vec<u8>,
+) -> Status {
+    let mut peer = Reached::new(sockets);
+    run_control_ask(
+        operator,
+        &mut peer,
+        alloc,
+        arguments,
+        &mut Cursor::new(input.as_bytes()),
+        written,
+        said,
+        false,
+    )
+}
+
 /// Runs the program with these arguments at the control socket.
 fn run(rt: &HostRuntime, operator: &Operator<'_>, words: &str, input: &str) -> io::Result<()> {
     let alloc = rt.alloc();
     let all = words_of(alloc, words, &["--control", SOCKET])?;
-    let sockets = Sockets { operator };
+    let sockets = Sockets {
+        operator: &*operator,
+    };
     let (mut written, mut said) = (Vec::new(alloc), Vec::new(alloc));
     let status = if words.starts_with("follow ") {
         run_follow(
             operator,
             &sockets,
+            &mut SystemFiles { rt: &*operator },
             alloc,
             all.as_slice(),
             &mut written,
             &mut said,
         )
     } else {
-        let mut reader = Cursor::new(input.as_bytes());
-        run_control_ask(
+        ask_sockets(
+            alloc,
             operator,
             &sockets,
-            alloc,
             all.as_slice(),
-            &mut reader,
+            input,
             &mut written,
             &mut said,
-            false,
         )
     };
     // what was sent and isn't waited for is answered too

@@ -4,7 +4,7 @@ ghost use Rattle.std.specs.Prelude.{⊤};
 
 use crate::node::{answered, opened, settle};
 use cli_ask::{AskFault, Reply};
-use cli_follow::{Control, TextFiles, follow};
+use cli_follow::{Control, SystemFiles, TextFiles, follow};
 use node_requests::{Answer, RequestHandler};
 use px_records::MemoryRecords;
 use std::alloc::{AllocError, Global};
@@ -149,6 +149,7 @@ fn run(rt: &HostRuntime, node: &mut FollowedNode<'_>, turns: u64) -> io::Result<
     let interfaces = Vec::from_slice(alloc, b"em0 egress\n")?;
     let ended = follow(
         rt,
+        &mut SystemFiles { rt },
         alloc,
         node,
         turns,

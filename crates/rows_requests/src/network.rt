@@ -104,8 +104,8 @@ impl Network {
         let mut written = Vec::new(alloc);
         let status = run_net(
             rt,
-            *rt,
-            *rt,
+            &mut { *rt },
+            &mut { *rt },
             alloc,
             words.as_slice(),
             &mut io::empty(),

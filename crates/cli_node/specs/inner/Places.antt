@@ -12,6 +12,11 @@ is_count n = nat_le 1 n && nat_le n 15
 abbrev pub has_place : (me n : ℕ) → Bool
 has_place me n = is_count n && nat_lt me n
 
+-- a number is given, and has 8 bits
+abbrev pub has_8_bits : Option ℕ → Bool
+has_8_bits None = false
+has_8_bits (Some n) = nat_le n 255
+
 -- n turns, or as many as there can be
 abbrev pub turns_or_all : Option ℕ → ℕ
 turns_or_all (Some turns) = turns

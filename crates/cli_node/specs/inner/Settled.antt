@@ -1,37 +1,46 @@
 -- What the subcommand `node` does with its arguments and its file of settings.
-use Rattle.std.specs.Prelude.{◌≡◌, ◌⊎◌, ⊤, ℕ, Bool, true, false, ◌&&◌, ◌||◌, not, List, Option, Some, None, map}
+use Rattle.std.specs.Prelude.{◌≡◌, ◌⊎◌, ℕ, Bool, true, false, ◌&&◌, ◌||◌, not, List, [], ◌∷◌, Option, Some, None, map}
 use Rattle.std.specs.Prelude.{option_map, is_some, unwrap_or, codes}
-use Rattle.clap.specs.Words.{found_of, first_value, matched_of, one_text, raw_values}
-use Rattle.clap.specs.declared.parser.matches.ArgMatches.{ArgMatches}
+use Rattle.clap.specs.Words.{Row, Text, all_of, first_of}
 use Rattle.toml.specs.Data.{get_member, no_members}
 use Rattle.toml.specs.Parse.{parse_document}
 use Rattle.cli_files.specs.Files.{settings_of}
-use Rattle.cli_files.specs.Settings.{texts_at}
+use Rattle.cli_files.specs.Settings.{IsRefused, first_wrong, texts_at}
 use Rattle.cli_files.specs.declared.settings.NodeFile.{NodeFile}
+use Rattle.cli_files.specs.declared.settings_fault.FileFault.{FileFault}
+use Rattle.cli_files.specs.declared.settings_fault.FileFault.TheVariants as fault
+use Rattle.cli_io.specs.Given.{is_given}
+use Rattle.cli_io.specs.Numbers.{number_at}
 use Rattle.cli_node.specs.declared.node.NodeArguments.{NodeArguments}
 use Rattle.cli_node.specs.declared.outcome.Outcome.{Outcome}
-use Rattle.cli_node.specs.declared.outcome.Outcome.TheVariants.{Front, Stopped, Asked, Key, Refused, RefusedLine}
-use Rattle.cli_node.specs.declared.outcome.Outcome.TheVariants.{NoAnswer, Sound, Made, Memory, Unread}
+use Rattle.cli_node.specs.declared.outcome.Outcome.TheVariants.{Memory, Refused, RefusedLine}
 use Rattle.cli_node.specs.declared.settings.TheConstants.{UNREADABLE, BAD_SETTINGS}
-use Rattle.cli_node.specs.inner.Given.{AreTurns, IsFlag, IsFlagIn, IsNumberIn, text_in}
+use Rattle.cli_node.specs.inner.Doing.{NodeEvent, Ran, Checked}
+use Rattle.cli_node.specs.inner.Given.{is_set, number_for, text_for}
+use Rattle.cli_node.specs.inner.Places.{has_8_bits, turns_or_all}
 
 -- What the arguments and a file of settings say, with these members: an option goes before the file.
 pub record AreArguments
-    (matches : ArgMatches) (file : NodeFile) (members : List (List ℕ)) (w : NodeArguments) : Type 0 where
-  pub me : IsNumberIn matches file (codes "me") w.me
-  pub cluster : IsNumberIn matches file (codes "cluster") w.cluster
-  pub is_from_file : w.is_from_file ≡ is_some (first_value (found_of matches) (codes "config"))
-  pub is_new : IsFlag (one_text (found_of matches) (codes "new")) w.is_new
-  pub turns : AreTurns (one_text (found_of matches) (codes "turns")) w.turns
-  pub makes_starts : IsFlag (one_text (found_of matches) (codes "new-starts")) w.makes_starts
-  pub is_unsealed : IsFlagIn matches file (codes "unsealed") w.is_unsealed
-  pub is_quiet : IsFlagIn matches file (codes "quiet") w.is_quiet
-  pub store : text_in matches file (codes "store") ≡ Some w.store.now
-  pub key : option_map (λ t. t.now) w.key ≡ text_in matches file (codes "key")
-  pub other_key : option_map (λ t. t.now) w.other_key ≡ text_in matches file (codes "other-key")
-  pub control : option_map (λ t. t.now) w.control ≡ text_in matches file (codes "control")
-  pub metrics : option_map (λ t. t.now) w.metrics ≡ text_in matches file (codes "metrics")
+    (rows : List Row) (file : NodeFile) (members : List (List ℕ)) (w : NodeArguments) : Type 0 where
+  pub me : number_for rows file (codes "me") ≡ Some w.me
+  pub cluster : number_for rows file (codes "cluster") ≡ Some w.cluster
+  pub is_from_file : w.is_from_file ≡ is_some (first_of (codes "config") rows)
+  pub is_new : w.is_new ≡ is_given (first_of (codes "new") rows)
+  pub turns : w.turns ≡ turns_or_all (number_at rows (codes "turns"))
+  pub makes_starts : w.makes_starts ≡ is_given (first_of (codes "new-starts") rows)
+  pub is_unsealed : w.is_unsealed ≡ is_set rows file (codes "unsealed")
+  pub is_quiet : w.is_quiet ≡ is_set rows file (codes "quiet")
+  pub store : text_for rows file (codes "store") ≡ Some w.store.now
+  pub key : option_map (λ t. t.now) w.key ≡ text_for rows file (codes "key")
+  pub other_key : option_map (λ t. t.now) w.other_key ≡ text_for rows file (codes "other-key")
+  pub control : option_map (λ t. t.now) w.control ≡ text_for rows file (codes "control")
+  pub metrics : option_map (λ t. t.now) w.metrics ≡ text_for rows file (codes "metrics")
   pub are_members : map (λ t. t.now) w.members.now ≡ members
+
+-- a member's number, the cluster and the store are given; the number has 8 bits
+abbrev pub is_complete : List Row → NodeFile → Bool
+is_complete rows file = has_8_bits (number_for rows file (codes "me"))
+    && (is_some (number_for rows file (codes "cluster")) && is_some (text_for rows file (codes "store")))
 
 -- each setting has the one that it needs: a second key and new starts a key, figures a control socket
 abbrev pub is_whole : NodeArguments → Bool
@@ -39,59 +48,72 @@ is_whole w = ((not (is_some w.other_key) && not w.makes_starts) || is_some w.key
     && (not (is_some w.metrics) || is_some w.control)
 
 -- the members that the arguments name, else those of the file
-abbrev pub members_in : ArgMatches → NodeFile → List (List ℕ)
-members_in matches file = unwrap_or (option_map raw_values (matched_of (found_of matches) (codes "member")))
-    (texts_at (get_member (codes "members") (settings_of file)))
-
--- a node is checked or run
-abbrev pub IsDone : (ran checked : NodeArguments → Outcome → Type 0) → (is_check : Bool) → NodeArguments → Outcome →
-    Type 0
-IsDone ran checked false w outcome = ran w outcome
-IsDone ran checked true w outcome = checked w outcome
+abbrev pub members_for : List Row → NodeFile → List (List ℕ)
+members_for rows file =
+    unwrap_or (all_of (codes "member") rows) (texts_at (get_member (codes "members") (settings_of file)))
 
 -- the number with which settings are refused: 92 where a file is named, 40 for arguments alone
-abbrev pub settings_code : (named : Option (List ℕ)) → ℕ
+abbrev pub settings_code : (named : Option Text) → ℕ
 settings_code None = 40
 settings_code (Some path) = BAD_SETTINGS
 
--- What these settings give with these members: that refusal, or what the node gives that they describe. It is checked
--- where that is asked for.
-abbrev pub IsSettled : (ran checked : NodeArguments → Outcome → Type 0) → ArgMatches → NodeFile →
-    (members : List (List ℕ)) → Outcome → Type 0
-IsSettled ran checked matches file members outcome =
-    (outcome ≡ Refused (settings_code (first_value (found_of matches) (codes "config"))))
-    ⊎ ((w : NodeArguments) × (is_check : Bool) × AreArguments matches file members w × (is_whole w ≡ true)
-    × IsFlag (one_text (found_of matches) (codes "check")) is_check × IsDone ran checked is_check w outcome)
+-- A node is checked or run, once; it is refused where a setting lacks the one that it needs.
+abbrev pub IsDone : (did : List NodeEvent → Type 0) → (code : ℕ) → (is_whole is_check : Bool) → NodeArguments →
+    Outcome → Type 0
+IsDone did code false is_check w outcome = did [] × (outcome ≡ Refused code)
+IsDone did code true false w outcome = did (Ran w outcome ∷ [])
+IsDone did code true true w outcome = did (Checked w outcome ∷ [])
 
--- why a file gives no settings: out of memory, or it can't be read or is wrong
-abbrev pub IsUnread : Outcome → Type 0
-IsUnread Memory = ⊤
-IsUnread (Refused code) = (code ≡ UNREADABLE) ⊎ (code ≡ BAD_SETTINGS)
-IsUnread (RefusedLine code at) = code ≡ BAD_SETTINGS
-IsUnread (Front front applied) = ⊥
-IsUnread (Stopped front applied) = ⊥
-IsUnread (Asked node number) = ⊥
-IsUnread (Key key) = ⊥
-IsUnread NoAnswer = ⊥
-IsUnread Sound = ⊥
-IsUnread Made = ⊥
-IsUnread Unread = ⊥
+-- What these settings give with these members: a refusal where one is missing, else what the node gives that they
+-- describe. It is checked where that is asked for.
+abbrev pub IsSettled : (did : List NodeEvent → Type 0) → List Row → NodeFile → (members : List (List ℕ)) → Outcome →
+    Type 0
+IsSettled did rows file members outcome =
+    let code = settings_code (first_of (codes "config") rows) in
+    ((is_complete rows file ≡ false) × (did [] × (outcome ≡ Refused code)))
+    ⊎ ((w : NodeArguments) × (AreArguments rows file members w
+    × IsDone did code (is_whole w) (is_given (first_of (codes "check") rows)) w outcome))
+
+-- the same, or no node is run when out of memory
+abbrev pub IsSettledOr : (did : List NodeEvent → Type 0) → List Row → NodeFile → (members : List (List ℕ)) → Outcome →
+    Type 0
+IsSettledOr did rows file members outcome =
+    (did [] × (outcome ≡ Memory)) ⊎ IsSettled did rows file members outcome
+
+-- what a file is refused with whose settings are wrong
+abbrev pub bad_settings : (line : Option ℕ) → Outcome
+bad_settings None = Refused BAD_SETTINGS
+bad_settings (Some at) = RefusedLine BAD_SETTINGS at
+
+abbrev pub settings_outcome : FileFault → Outcome
+settings_outcome fault.Memory = Memory
+settings_outcome (fault.Syntax line) = bad_settings (Some line)
+settings_outcome (fault.Unknown line) = bad_settings line
+settings_outcome (fault.Value line) = bad_settings line
+
+-- why the file at a path gives no settings: out of memory, it can't be read, or is refused for this fault
+abbrev pub IsUnread : (has : (path text : List ℕ) → Type 0) → (path : Text) → Outcome → Type 0
+IsUnread has path outcome = (outcome ≡ Memory) ⊎ ((outcome ≡ Refused UNREADABLE)
+    ⊎ ((text : List ℕ) × (fault : FileFault) × has path text × IsRefused fault text
+    × (outcome ≡ settings_outcome fault)))
 
 -- the same of the file that is named; without one nothing is read
-abbrev pub IsUnsettled : (named : Option (List ℕ)) → Outcome → Type 0
-IsUnsettled None outcome = ⊥
-IsUnsettled (Some path) outcome = IsUnread outcome
+abbrev pub IsUnsettled : (has : (path text : List ℕ) → Type 0) → (named : Option Text) → Outcome → Type 0
+IsUnsettled has None outcome = ⊥
+IsUnsettled has (Some path) outcome = IsUnread has path outcome
+
+-- these are the settings that the bytes of a file have; each key names a setting, and has such a value
+abbrev pub AreOfText : (text : List ℕ) → NodeFile → Type 0
+AreOfText text file = (parse_document text ≡ Some (settings_of file)) × (first_wrong (settings_of file) ≡ None)
 
 -- the settings of the file that the arguments name, none without one
-abbrev pub AreSettings : (is_of_file : (text : List ℕ) → Type 0) → (named : Option (List ℕ)) → NodeFile → Type 0
-AreSettings is_of_file None file = settings_of file ≡ no_members
-AreSettings is_of_file (Some path) file =
-    (text : List ℕ) × is_of_file text × (parse_document text ≡ Some (settings_of file))
+abbrev pub AreSettings : (has : (path text : List ℕ) → Type 0) → (named : Option Text) → NodeFile → Type 0
+AreSettings has None file = settings_of file ≡ no_members
+AreSettings has (Some path) file = (text : List ℕ) × has path text × AreOfText text file
 
--- What `node` gives: its file's refusal, out of memory, or what its settings give.
-abbrev pub IsNode : (ran checked : NodeArguments → Outcome → Type 0) → (is_of_file : (text : List ℕ) → Type 0) →
-    ArgMatches → Outcome → Type 0
-IsNode ran checked is_of_file matches outcome = IsUnsettled (first_value (found_of matches) (codes "config")) outcome
-    ⊎ ((outcome ≡ Memory)
-    ⊎ ((file : NodeFile) × AreSettings is_of_file (first_value (found_of matches) (codes "config")) file
-    × IsSettled ran checked matches file (members_in matches file) outcome))
+-- What `node` gives: its file's refusal, of which no node is run, or what its settings give.
+abbrev pub IsNode : (did : List NodeEvent → Type 0) → (has : (path text : List ℕ) → Type 0) → List Row → Outcome →
+    Type 0
+IsNode did has rows outcome = (did [] × IsUnsettled has (first_of (codes "config") rows) outcome)
+    ⊎ ((file : NodeFile) × (AreSettings has (first_of (codes "config") rows) file
+    × IsSettledOr did rows file (members_for rows file) outcome))

@@ -1,4 +1,4 @@
-use Rattle.std.proofs.Common.{◌≡◌, ◌∙◌, ◌+◌, ap}
+use Rattle.std.proofs.Common.{◌∙◌, ◌+◌, ap}
 use Rattle.cli_follow.specs.inner.Seen.{follower_of, wanted_of, due_in}
 use Rattle.cli_follow.proofs.Runs.{entries_lead, entries_fail, status_leads, status_fails}
 use Rattle.cli_follow.proofs.running.ask.Goals as goal

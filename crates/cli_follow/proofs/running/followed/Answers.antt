@@ -1,5 +1,4 @@
 use Rattle.clap.specs.Words.{found_of, rows_of}
-use Rattle.cli_follow.specs.Files.{WasPut}
 use Rattle.cli_follow.proofs.Endings.{to_places, refused_first, no_memory}
 use Rattle.cli_follow.proofs.running.followed.Goals as goal
 
@@ -9,7 +8,7 @@ returns-in-Ok-Ok g c =
       c.turns_in-turns.result,
       (
         c.turns_in-turns.ensures,
-        to_places (g.C.Control.exchanged c.args.control.now) (g.C.Control.exchanged c.follow_to.new.control) (WasPut g.F.Folders.has g.F.Folders.is_renamed) (g.RT.Sources.has c.args.rt.now)
+        to_places (g.C.Control.exchanged c.args.control.now) (g.C.Control.exchanged c.follow_to.new.control) (g.F.Folders.done c.args.folders.now) (g.F.Folders.done c.follow_to.new.folders) (g.RT.Sources.has c.args.rt.now)
             (rows_of (found_of c.args.matches.now)) c.in-Ok-Ok.places c.turns_in-turns.result c.follow_to.result (g.W.Write.contents c.args.writer.now) (g.W.Write.contents c.follow_to.new.writer)
             wanted c.follow_to.ensures,
       ),
@@ -21,7 +20,7 @@ returns-in-Ok-Err g c =
       c.turns_in-turns.result,
       (
         c.turns_in-turns.ensures,
-        refused_first (g.C.Control.exchanged c.args.control.now) (WasPut g.F.Folders.has g.F.Folders.is_renamed) (g.RT.Sources.has c.args.rt.now)
+        refused_first (g.C.Control.exchanged c.args.control.now) (g.F.Folders.done c.args.folders.now) (g.RT.Sources.has c.args.rt.now)
             (rows_of (found_of c.args.matches.now)) c.turns_in-turns.result c.in-Ok-Err.code c.refused.result (g.W.Write.contents c.args.writer.now) why c.refused.ensures,
       ),
     )
@@ -31,7 +30,7 @@ returns-in-Err g c = (
   c.turns_in-turns.result,
   (
     c.turns_in-turns.ensures,
-    no_memory (g.C.Control.exchanged c.args.control.now) (WasPut g.F.Folders.has g.F.Folders.is_renamed) (g.RT.Sources.has c.args.rt.now)
+    no_memory (g.C.Control.exchanged c.args.control.now) (g.F.Folders.done c.args.folders.now) (g.RT.Sources.has c.args.rt.now)
         (rows_of (found_of c.args.matches.now)) c.turns_in-turns.result c.memory.result (g.W.Write.contents c.args.writer.now) c.memory.ensures,
   ),
 )

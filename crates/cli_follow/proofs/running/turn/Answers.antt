@@ -1,10 +1,9 @@
 use Rattle.std.proofs.Common.{◌≡◌, ◌∙◌, ◌+◌, ap, subst, sym}
 use Rattle.cli_follow.specs.declared.follower.Due.TheVariants as due
-use Rattle.cli_follow.specs.Files.{WasPut}
-use Rattle.cli_follow.specs.Output.{Wanted, Stage, AsksEntries, Stopped, TurnFiled, is_again, written_to}
+use Rattle.cli_follow.specs.Output.{Wanted, Stage, AsksEntries, Stopped, TurnFiled, TurnLeft, is_again, written_to}
 use Rattle.cli_io.specs.Written.{AppendsFront}
 use Rattle.cli_follow.specs.inner.Seen.{follower_of, wanted_of, due_in, stage_in, Leads}
-use Rattle.cli_follow.proofs.Filing.{filed_due, filed_late}
+use Rattle.cli_follow.proofs.Filing.{filed_still, went_still, filed_due, filed_late, left_still, left_due, left_behind, left_late}
 use Rattle.cli_follow.proofs.Runs.{stopped_before, stopped_within, if_err}
 use Rattle.cli_follow.proofs.running.turn.Goals as goal
 
@@ -52,17 +51,82 @@ returns-in_ok-write-in-Write-clause-filed g c =
     let leads : Leads x y w (AsksEntries e) (due_in w f due.Write) = subst (λ d. Leads x y w (AsksEntries e) (due_in w f d)) c.in-Write.is c.in-Ok.ensures.due in
     let at : (written_to w.file f).stage ≡ AsksEntries f2 =
     subst (λ (u : Wanted). (written_to u.file f).stage ≡ AsksEntries f2) c.ask.ensures.wanted (c.in_ok-write-in-Write.ensures.whole (c.args.asks + 1)).0 in
-    filed_due x y (WasPut g.F.Folders.has g.F.Folders.is_renamed) w e f (stage_in f2 c.in-Ok.due) c.args.files.now c.write_texts.new.files leads
-    (at ∙ ap (λ d. stage_in f2 d) (sym c.in-Write.is)) c.in_ok-write_texts-in-Write.ensures
+    filed_due x y (g.F.Folders.done c.args.folders.now) (g.F.Folders.done c.write_texts.new.folders) w e f (stage_in f2 c.in-Ok.due) c.args.files.now c.write_texts.new.files leads
+    (at ∙ ap (λ d. stage_in f2 d) (sym c.in-Write.is)) c.in_ok-write_texts-in-Write.ensures.written
 
 pub returns-in_ok-write_again-in-Rest-clause-filed : goal.returns-in_ok-write_again-in-Rest-clause-filed
 returns-in_ok-write_again-in-Rest-clause-filed g c =
     let x = g.C.Control.exchanged c.args.control.now in
     let y = g.C.Control.exchanged c.ask.new.control in
-    let put = WasPut g.F.Folders.has g.F.Folders.is_renamed in
+    let p = g.F.Folders.done c.args.folders.now in
+    let q = g.F.Folders.done c.write_again.new.folders in
     let w = wanted_of c.args.follower.now in
     let e = follower_of c.args.asks c.args.follower.now in
     let f = follower_of (c.args.asks + 1) c.ask.new.follower in
     let leads : Leads x y w (AsksEntries e) (due_in w f due.Rest) = subst (λ d. Leads x y w (AsksEntries e) (due_in w f d)) c.in-Rest.is c.in-Ok.ensures.due in
-    subst (λ (t : Stage). TurnFiled x y put w e t c.args.files.now c.write_again.new.files) (ap (λ d. stage_in f d) (sym c.in-Rest.is))
-    (filed_late x y put w e f (is_again c.args.asks) c.args.files.now c.write_again.new.files leads c.in_ok-write_again-in-Rest.ensures)
+    subst (λ (t : Stage). TurnFiled x y p q w e t c.args.files.now c.write_again.new.files) (ap (λ d. stage_in f d) (sym c.in-Rest.is))
+    (filed_late x y p q w e f (is_again c.args.asks) c.args.files.now c.write_again.new.files leads c.in_ok-write_again-in-Rest.ensures.written)
+
+pub returns-in_default-clause-left : goal.returns-in_default-clause-left
+returns-in_default-clause-left g c =
+    let x = g.C.Control.exchanged c.args.control.now in
+    let y = g.C.Control.exchanged c.ask.new.control in
+    left_still x y (g.F.Folders.done c.args.folders.now) (wanted_of c.args.follower.now) (follower_of c.args.asks c.args.follower.now) c.args.files.now
+    c.in_default.ensures.failed
+
+pub returns-in_err-write_texts-in-Write-clause-left : goal.returns-in_err-write_texts-in-Write-clause-left
+returns-in_err-write_texts-in-Write-clause-left g c =
+    let x = g.C.Control.exchanged c.args.control.now in
+    let y = g.C.Control.exchanged c.ask.new.control in
+    let p = g.F.Folders.done c.args.folders.now in
+    let q = g.F.Folders.done c.write_texts.new.folders in
+    let w = wanted_of c.args.follower.now in
+    let e = follower_of c.args.asks c.args.follower.now in
+    let f = follower_of (c.args.asks + 1) c.ask.new.follower in
+    let leads : Leads x y w (AsksEntries e) (due_in w f due.Write) = subst (λ d. Leads x y w (AsksEntries e) (due_in w f d)) c.in-Write.is c.in-Ok.ensures.due in
+    if_err c.from_residual.result (TurnLeft x y p q w e c.args.files.now)
+    (left_due x y p q w e f c.args.files.now leads c.in_err-write_texts-in-Write.ensures.left)
+
+pub returns-in_err-write-in-Write-clause-left : goal.returns-in_err-write-in-Write-clause-left
+returns-in_err-write-in-Write-clause-left g c =
+    let x = g.C.Control.exchanged c.args.control.now in
+    let y = g.C.Control.exchanged c.ask.new.control in
+    let p = g.F.Folders.done c.args.folders.now in
+    let q = g.F.Folders.done c.write_texts.new.folders in
+    let w = wanted_of c.args.follower.now in
+    let e = follower_of c.args.asks c.args.follower.now in
+    let f = follower_of (c.args.asks + 1) c.ask.new.follower in
+    let leads : Leads x y w (AsksEntries e) (due_in w f due.Write) = subst (λ d. Leads x y w (AsksEntries e) (due_in w f d)) c.in-Write.is c.in-Ok.ensures.due in
+    if_err c.from_residual-in_err-write-in-Write.result (TurnLeft x y p q w e c.args.files.now)
+    (left_behind x y p q w e f c.args.files.now c.write_texts.new.files leads c.in_ok-write_texts-in-Write.ensures.written)
+
+pub returns-in_err-write_again-in-Rest-clause-left : goal.returns-in_err-write_again-in-Rest-clause-left
+returns-in_err-write_again-in-Rest-clause-left g c =
+    let x = g.C.Control.exchanged c.args.control.now in
+    let y = g.C.Control.exchanged c.ask.new.control in
+    let p = g.F.Folders.done c.args.folders.now in
+    let q = g.F.Folders.done c.write_again.new.folders in
+    let w = wanted_of c.args.follower.now in
+    let e = follower_of c.args.asks c.args.follower.now in
+    let f = follower_of (c.args.asks + 1) c.ask.new.follower in
+    let leads : Leads x y w (AsksEntries e) (due_in w f due.Rest) = subst (λ d. Leads x y w (AsksEntries e) (due_in w f d)) c.in-Rest.is c.in-Ok.ensures.due in
+    if_err c.from_residual-in_err-write_again-in-Rest.result (TurnLeft x y p q w e c.args.files.now)
+    (left_late x y p q w e f (is_again c.args.asks) c.args.files.now leads c.in_err-write_again-in-Rest.ensures.left)
+
+pub returns-in_default-due : goal.returns-in_default-due
+returns-in_default-due g c =
+    let x = g.C.Control.exchanged c.args.control.now in
+    let y = g.C.Control.exchanged c.ask.new.control in
+    let w = wanted_of c.args.follower.now in
+    let e = follower_of c.args.asks c.args.follower.now in
+    let f = follower_of (c.args.asks + 1) c.ask.new.follower in
+    record {
+      went = went_still x y w e f c.in-Ok.due (g.W.Write.contents c.args.writer.now) c.in_default-due.not-Write c.in-Ok.ensures.status c.in-Ok.ensures.due;
+      stopped = tt;
+      filed = filed_still x y (g.F.Folders.done c.args.folders.now) w e f c.in-Ok.due c.args.files.now c.in_default-due.not-Write c.in-Ok.ensures.status c.in-Ok.ensures.due;
+      left = tt;
+      again = λ is. absurd (c.in_default-due.not-Rest is);
+      fault = tt;
+      status = c.in-Ok.ensures.status;
+      wanted = c.ask.ensures.wanted;
+    }

@@ -1,23 +1,43 @@
--- it was asked over the wire that was made
-use Rattle.std.proofs.Common.{codes, inr, subst, sym}
-use Rattle.clap.specs.Words.{first_value, found_of}
+-- it was asked over the wire that was made, or nothing was sent
+use Rattle.std.proofs.Common.{◌≡◌, ℕ, Bool, true, List, codes, inr, subst, sym}
+use Rattle.clap.specs.Words.{Row, first_of, found_of, rows_of}
+use Rattle.px_transport.specs.Wires.{WireEvent}
 use Rattle.cli_io.specs.Sources.{IsNamed, IsText}
+use Rattle.cli_node.specs.declared.ask.AskArguments.{AskArguments}
+use Rattle.cli_node.specs.declared.outcome.Outcome.{Outcome}
+use Rattle.cli_node.specs.inner.Asked.{AsksNode, AsksOver}
+use Rattle.cli_node.specs.inner.Doing.{Adds}
+use Rattle.cli_node.specs.inner.Places.{has_place}
+use Rattle.cli_node.proofs.Endings.{some_of}
 use Rattle.cli_node.proofs.ask.ask_outcome.Goals as goal
 
-pub returns-in-Ok-bind-clause-asked : goal.returns-in-Ok-bind-clause-asked
-returns-in-Ok-bind-clause-asked g c = inr (
-  c.in-Some.m,
-  c.deref.result.now,
-  c.in-Ok-change_in.command,
-  c.in-Ok-bind.wire,
-  c.asked_over.new.wire,
-  c.in-Some.ensures.some.0,
-  c.in-Some.ensures.some.1,
-  subst (λ (t : _). IsNamed (first_value (found_of c.args.matches.now) (codes "file"))
-      (IsText (g.T.Sources.has c.args.sources.now) (g.R.Read.remaining c.args.reader.now)) t) (sym c.deref.ensures.value)
-      (subst (λ (o : _). IsNamed o (IsText (g.T.Sources.has c.args.sources.now) (g.R.Read.remaining c.args.reader.now))
-      c.in-Ok.text.items) c.get_str.ensures c.in-Ok.ensures.text),
-  c.in-Ok-change_in.ensures.change,
-  c.in-Ok-bind.ensures.reaches,
-  c.asked_over.ensures,
-)
+asked_here : {W : Type 0} (traffic : W → List WireEvent → Type 0) (reaches : List ℕ → W → Type 0)
+    (is_unreached : List ℕ → Type 0) (went : List WireEvent → Type 0) (is_text : List ℕ → List ℕ → Type 0)
+    (rows : List Row) (w : AskArguments) (b : Bool) (outcome : Outcome) → b ≡ true →
+    AsksOver traffic reaches went is_text rows w outcome →
+    AsksNode traffic reaches is_unreached went is_text rows w b outcome
+asked_here traffic reaches is_unreached went is_text rows w b outcome e h = rw e (inr h)
+
+pub returns-in-Ok-bind : goal.returns-in-Ok-bind
+returns-in-Ok-bind g c =
+    let rows = rows_of (found_of c.args.matches.now) in
+    let is_text = IsText (g.T.Sources.has c.args.sources.now) (g.R.Read.remaining c.args.reader.now) in
+    let w = c.args.arguments in
+    asked_here g.C.Wire.Wire.traffic (g.C.Client.reaches c.args.client.now) (g.C.Client.is_unreached c.args.client.now)
+    (Adds (g.C.Client.went c.args.client.now) (g.C.Client.went c.close.new.self)) is_text rows w
+    (has_place w.node w.members) c.asked_over-outcome.result
+    (some_of _ c.in-Some.m (has_place w.node w.members) c.membership.ensures.none c.in-Some.is) (
+      c.in-Some.m,
+      c.deref.result.now,
+      c.in-Ok-change_in.command,
+      c.in-Ok-bind.wire,
+      c.asked_over-outcome.new.wire,
+      c.in-Some.ensures.some.0,
+      c.in-Some.ensures.some.1,
+      subst (λ (t : _). IsNamed (first_of (codes "file") rows) is_text t) (sym c.deref.ensures.value)
+          (subst (λ (o : _). IsNamed o is_text c.in-Ok.text.items) c.value_in.ensures c.in-Ok.ensures.text),
+      c.in-Ok-change_in.ensures.change,
+      c.in-Ok-bind.ensures.reaches,
+      c.asked_over-outcome.ensures,
+      λ es h before old. c.close.ensures es h before (c.bind.ensures.quiet before old),
+    )

@@ -7,6 +7,7 @@ pub returns-in-Ok-show_store-clause-shown : goal.returns-in-Ok-show_store-clause
 returns-in-Ok-show_store-clause-shown g c = record {
   given = c.in-Ok.conn;
   back = c.in-Ok-show_store.records;
+  owned = c.in-Ok-show_store.ensures.owned;
   shows = c.in-Ok-show_store.ensures.shown;
   leaves = record {
     held = c.in-Ok.ensures.opened;

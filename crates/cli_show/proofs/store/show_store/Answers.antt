@@ -15,6 +15,13 @@ returns-in-Ok-shown-clause-shown g c =
     c.show_record-shown.result.1 c.args.wanted c.in-Ok-shown.shown c.show_record-shown.result.0 c.in-Ok.ensures.stays
     c.in-Ok-adopted.ensures.clean c.in-Ok-adopted.ensures.rows c.show_record-shown.ensures.shows c.in-Ok-shown.is
 
+pub returns-in-Ok-shown-clause-owned : goal.returns-in-Ok-shown-clause-owned
+returns-in-Ok-shown-clause-owned g c = λ honest. record {
+  came = c.owner_of.new.conn;
+  owner = identity_of c.in-Ok.m;
+  names = c.in-Ok.ensures.owner (c.in-Ok-adopted.ensures.clean (c.show_record-shown.ensures.was honest));
+}
+
 pub returns-in-Err-clause-closed : goal.returns-in-Err-clause-closed
 returns-in-Err-clause-closed g c = λ clean. closed_unowned c.args.conn c.owner_of.new.conn c.in-Err.closed (c.in-Err.ensures.none clean)
 

@@ -1,4 +1,4 @@
-use Rattle.std.proofs.Common.{◌≡◌, ◌+◌, ℕ, false, length, fold}
+use Rattle.std.proofs.Common.{◌≡◌, ◌+◌, ℕ, false, length}
 use Rattle.pf_config.specs.Map.{Configuration}
 use Rattle.pf_scripts.specs.Lines.{lines}
 use Rattle.cli_follow.specs.Following.{after_lines, StopsIn, lines_applied}
