@@ -18,12 +18,6 @@ count_same (Asked l q b ∷ es) limit over = ap (λ (n : ℕ). n + 1) (count_sam
 count_same (Looked l b ∷ es) limit over = count_same es limit over
 count_same (Directed p ∷ es) limit over = count_same es limit over
 
-count_there : (es : List Event) (path : List ℕ) → asked_count (es ++ Directed path ∷ []) ≡ asked_count es
-count_there [] path = refl
-count_there (Asked l q b ∷ es) path = ap (λ (n : ℕ). n + 1) (count_there es path)
-count_there (Looked l b ∷ es) path = count_there es path
-count_there (Directed p ∷ es) path = count_there es path
-
 module _ {D S : Type 0} (dialed : D → ℕ → Type 0) (is_refused : D → Type 0) (is_new : S → Type 0) (contents remaining : S → Option (List ℕ))
     (old new : D) where
   -- a request was made, over one connection at most
@@ -50,17 +44,4 @@ module _ {D S : Type 0} (dialed : D → ℕ → Type 0) (is_refused : D → Type
         counted = so.counted;
         few = omega (arith, e, l);
         each = All-push (IsExchanged is_refused is_new contents remaining) es (Looked limit over) so.each tt;
-      }
-
-  -- requests are made at another socket, of which as many connections were asked for
-  pub exchanged_there : (path : List ℕ) → ((n : ℕ) → dialed old n → dialed new n) →
-      Adds (AreExchanged dialed is_refused is_new contents remaining old) (AreExchanged dialed is_refused is_new contents remaining new) (Directed path ∷ [])
-  exchanged_there path same = λ es so.
-      let e : asked_count (es ++ Directed path ∷ []) ≡ asked_count es = count_there es path in
-      let l : so.count ≤ asked_count es = so.few in
-      record {
-        count = so.count;
-        counted = same so.count so.counted;
-        few = omega (arith, e, l);
-        each = All-push (IsExchanged is_refused is_new contents remaining) es (Directed path) so.each tt;
       }

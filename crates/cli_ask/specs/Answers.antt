@@ -1,5 +1,5 @@
 -- The node's answers: whether what was asked for was done.
-use Rattle.std.specs.Prelude.{ℕ, ◌==◌, ◌&&◌, Bool, List, [], ◌∷◌, not, nat_lt, take, drop, codes, if◌then◌else◌}
+use Rattle.std.specs.Prelude.{ℕ, ◌==◌, ◌&&◌, ◌||◌, Bool, List, [], ◌∷◌, not, nat_lt, take, drop, codes, if◌then◌else◌}
 use Rattle.std.specs.List.{prefix_len, starts_with}
 use Rattle.cli_ask.specs.declared.call.Kind.{Kind}
 use Rattle.cli_ask.specs.declared.call.Kind.TheVariants as kind
@@ -32,6 +32,10 @@ all_match body =
     begins (drop n body) (codes " of ") && (begins (drop 4 (drop n body)) (take n body)
     && begins (drop n (drop 4 (drop n body))) (codes " "))
 
+-- a change was made, or accepted where nothing more was asked; an outcome that isn't known any more is neither
+abbrev pub is_made : (code : ℕ) → (body : List ℕ) → Bool
+is_made code body = (code == 202) || (nat_lt code 300 && begins (outcome_behind body) (codes "ok"))
+
 -- an answer, by HTTP's status and its body, is that what was asked for was done
 abbrev pub is_done : Kind → (code : ℕ) → (body : List ℕ) → Bool
 is_done kind.Read code body = nat_lt code 300
@@ -39,4 +43,4 @@ is_done kind.List code body = nat_lt code 300
 is_done kind.Test code body = nat_lt code 300
 is_done kind.TableTest code body = nat_lt code 300 && all_match body
 is_done kind.Sync code body = nat_lt code 300 && not (begins (outcome_behind body) (codes "refused"))
-is_done kind.Change code body = nat_lt code 300 && not (begins (outcome_behind body) (codes "refused"))
+is_done kind.Change code body = is_made code body

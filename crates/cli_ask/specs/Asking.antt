@@ -12,8 +12,6 @@ use Rattle.cli_ask.specs.declared.call.Kind.TheVariants as kind
 use Rattle.cli_ask.specs.declared.exchange.AskFault.{AskFault}
 use Rattle.cli_ask.specs.declared.exchange.AskFault.TheVariants as fault
 use Rattle.cli_ask.specs.declared.exchange.Reply.{Reply}
-use Rattle.cli_ask.specs.declared.exchange.TheConstants.{PATIENCE}
-use Rattle.cli_ask.specs.declared.verdicts.TheConstants.{BEGINNINGS}
 
 -- an answer, or why there is none
 abbrev pub Answered : Type 0
@@ -270,8 +268,8 @@ pub record AreVerdicts (r : Request) (once : Bool) (limit : ℕ) (es : List Even
   pub rest : List Event
   pub are : es ≡ flat_map (λ begun. begun) anew ++ rest
   pub changed : AreAnew r once limit anew
-  pub ends : ((length anew < BEGINNINGS) × IsBeginning r once limit rest (Some answer))
-      ⊎ ((length anew ≡ BEGINNINGS) × ((rest ≡ []) × (answer ≡ Err fault.BadAnswer)))
+  pub ends : ((length anew < 3) × IsBeginning r once limit rest (Some answer))
+      ⊎ ((length anew ≡ 3) × ((rest ≡ []) × (answer ≡ Err fault.BadAnswer)))
 
 -- ---- any request
 
@@ -282,7 +280,7 @@ IsAskedAs k r once limit es answer = IsAsked r once limit es answer
 
 -- for how many seconds it is waited in all where this is asked for: with 0 it is asked once
 abbrev pub limit_of : (seconds : ℕ) → ℕ
-limit_of seconds = if seconds == 0 then PATIENCE else seconds
+limit_of seconds = if seconds == 0 then 10 else seconds
 
 abbrev pub IsAskedAt : Request → (seconds : ℕ) → List Event → Answered → Type 0
 IsAskedAt r seconds es answer = IsAskedAs r.kind r (seconds == 0) (limit_of seconds) es answer

@@ -12,7 +12,6 @@ use Rattle.cli_ask.specs.Calls.{Request}
 use Rattle.cli_ask.specs.declared.exchange.AskFault.{AskFault}
 use Rattle.cli_ask.specs.declared.exchange.AskFault.TheVariants as fault
 use Rattle.cli_ask.specs.declared.exchange.Reply.{Reply}
-use Rattle.cli_ask.specs.declared.reply.TheConstants.{FIELDS}
 
 -- a request's head, with the body's length (RFC 9112)
 abbrev pub request_head : (method target : List ℕ) → (len : ℕ) → List ℕ
@@ -114,4 +113,4 @@ IsUnanswered {S} is_new is_refused fault.BadAnswer = (new : S) × is_new new
 -- they are none: no head, or one of more than 64 fields, or a body that isn't as long as its head gives
 abbrev pub IsNoAnswer : List ℕ → Type 0
 IsNoAnswer bytes = (head : ResponseHead) → (body : List ℕ) → ReadsResponse bytes head body →
-    length head.fields ≤ FIELDS → has_length (length body) (fields_of head) ≡ false
+    length head.fields ≤ 64 → has_length (length body) (fields_of head) ≡ false

@@ -1,7 +1,5 @@
 -- The messages beside an answer.
 use Rattle.std.specs.Prelude.{ℕ, ◌-◌, List, [], ◌++◌, Option, Some, None, codes, decimal, nat_lt, if◌then◌else◌}
-use Rattle.cli_ask.specs.declared.reporting.TheConstants.{NEAR_THE_END}
-use Rattle.cli_ask.specs.declared.options.TheConstants.{POSITIONS}
 
 abbrev pub count_text : (left : ℕ) → List ℕ
 count_text left = codes "pfx: " ++ decimal left ++ codes " positions left in the log\n"
@@ -9,7 +7,7 @@ count_text left = codes "pfx: " ++ decimal left ++ codes " positions left in the
 -- how many positions are left, once few are
 abbrev pub left_text : (front : Option ℕ) → List ℕ
 left_text None = []
-left_text (Some front) = if nat_lt front NEAR_THE_END then [] else count_text (POSITIONS - front)
+left_text (Some front) = if nat_lt front 900000 then [] else count_text (1000000 - front)
 
 -- at which line a script is
 abbrev pub line_text : (line : ℕ) → List ℕ

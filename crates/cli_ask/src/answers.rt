@@ -1,7 +1,7 @@
 //! The node's answers: whether what was asked for was done.
 
 ghost use Rattle.std.specs.Prelude.{◌≡◌, ◌≤◌, length};
-ghost use Rattle.cli_ask.specs.Answers.{all_match, behind_first, is_done, line_len, outcome_behind, word_len};
+ghost use Rattle.cli_ask.specs.Answers.{all_match, behind_first, is_done, is_made, line_len, outcome_behind, word_len};
 
 use crate::call::Kind;
 
@@ -60,6 +60,13 @@ fn all_match(body: &[u8]) -> bool
     rest.starts_with(b" ")
 }
 
+/// Whether a change was made, or accepted where nothing more was asked: an outcome that isn't known any more is neither.
+fn is_made(code: u16, body: &[u8]) -> bool
+    ensures { result ≡ is_made code body.now }
+{
+    code == 202 || code < 300 && outcome_behind(body).starts_with(b"ok")
+}
+
 /// Whether an answer, by HTTP's status and its body, is that what was asked for was done.
 pub(crate) fn is_done(kind: Kind, code: u16, body: &[u8]) -> bool
     ensures { result ≡ is_done kind code body.now }
@@ -70,6 +77,6 @@ pub(crate) fn is_done(kind: Kind, code: u16, body: &[u8]) -> bool
         Kind::Test => code < 300,
         Kind::TableTest => code < 300 && all_match(body),
         Kind::Sync => code < 300 && !outcome_behind(body).starts_with(b"refused"),
-        Kind::Change => code < 300 && !outcome_behind(body).starts_with(b"refused"),
+        Kind::Change => is_made(code, body),
     }
 }

@@ -1,6 +1,6 @@
 //! How often it is asked at a control socket: once, or until what was asked is there.
 
-ghost use Rattle.std.specs.Prelude.{◌≡◌};
+ghost use Rattle.std.specs.Prelude.{◌≡◌, ◌≤◌};
 ghost use Rattle.cli_ask.specs.Calls.{call_value};
 ghost use Rattle.cli_ask.specs.Replies.{reply_value};
 ghost use Rattle.cli_ask.specs.Asking.{answer_value, is_open, is_last, in_time, OrMemory, AskedOn, FollowedUp};
@@ -25,28 +25,26 @@ const AT_ONCE: u64 = 16;
 /// How long it is waited between two requests after these, in milliseconds.
 const PAUSE: u64 = 5;
 
-/// Waits for that many milliseconds: for what never comes over a stream of its own.
-pub fn pause<RT: Net>(rt: &RT, milliseconds: u64) {
-    if let Ok((mut near, _far)) = UnixStream::pair(rt) {
-        if near
-            .set_read_timeout(Some(Duration::from_millis(milliseconds)))
-            .is_ok()
-        {
-            let mut room = [0u8; 1];
-            let _nothing = near.read(&mut room);
-        }
-    }
-}
-
-/// What waits between two requests, and does nothing else: a caller that is generic over it reaches nobody by it.
+/// What waits between two requests, and does nothing else: a caller that is generic over it reaches nobody by it. No
+/// wait is so short that both ends are busy with it, or so long that somebody notices.
 pub trait Pauses {
     /// Waits for that many milliseconds.
-    fn pause(&self, milliseconds: u64);
+    fn pause(&self, milliseconds: u64)
+        requires { (5 ≤ milliseconds) × (milliseconds ≤ 50) };
 }
 
 impl<RT: Net> Pauses for RT {
+    /// It waits for what never comes over a stream of its own.
     fn pause(&self, milliseconds: u64) {
-        pause(self, milliseconds)
+        if let Ok((mut near, _far)) = UnixStream::pair(self) {
+            if near
+                .set_read_timeout(Some(Duration::from_millis(milliseconds)))
+                .is_ok()
+            {
+                let mut room = [0u8; 1];
+                let _nothing = near.read(&mut room);
+            }
+        }
     }
 }
 

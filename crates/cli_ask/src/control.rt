@@ -1,4 +1,4 @@
-//! Whoever answers at a control socket.
+//! The peer at a control socket.
 
 ghost use Rattle.std.specs.Prelude.{◌≡◌, ◌⊎◌, ℕ, ◌+◌, List, [], ◌∷◌, Some, Err, IfOk, string_bytes};
 ghost use Rattle.cli_ask.specs.Calls.{call_value};
@@ -99,7 +99,7 @@ impl<D: Dial, RT: Clock> Control for Reached<'_, D, RT> {
 }
 
 impl<'a, RT: Net + Clock> Reached<'a, ControlSocket<'a, RT>, RT> {
-    /// Whoever answers at the system's control sockets, at none before it is directed to one.
+    /// The peer at the system's control sockets, at none before it is directed to one.
     pub fn new(rt: &'a RT) -> Reached<'a, ControlSocket<'a, RT>, RT>
         ensures { ⟦<Reached<'a, ControlSocket<'a, RT>, RT> as Control>⟧.exchanged result [] }
     {

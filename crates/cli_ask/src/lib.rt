@@ -50,7 +50,7 @@ mod showing;
 mod target;
 mod verdicts;
 
-pub use asking::{Pauses, pause};
+pub use asking::Pauses;
 pub use cli_io::Status;
 pub use control::{Control, ControlSockets, Direct, Reached, read_at};
 pub use exchange::{AskFault, Reply};

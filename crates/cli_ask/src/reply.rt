@@ -47,10 +47,7 @@ pub(crate) fn request_bytes(alloc: Global, call: &Call) -> Result<Vec<u8>, Alloc
 pub(crate) fn text_in(bytes: &[u8]) -> Option<&str>
     ensures { option_map (λ s. s.now) result ≡ text_of bytes.now }
 {
-    match std::str::from_utf8(bytes) {
-        Ok(text) => Some(text),
-        Err(_) => None,
-    }
+    std::str::from_utf8(bytes).ok()
 }
 
 /// The number that digits write, perhaps behind a plus, none from 2^32 on.

@@ -49,17 +49,17 @@ fn salt<R: RandomBytes>(source: &R) -> io::Result<u32>
 
 /// A clock that reports the time in seconds since 1970.
 trait Seconds {
-    // it may return this time
-    ghost tells: { Self → ℕ → Type 0 };
+    // it may report this time
+    ghost reports: { Self → ℕ → Type 0 };
 
     /// The time, 0 where the system has none.
     fn seconds(&self) -> u64
-        ensures { tells self.now result };
+        ensures { reports self.now result };
 }
 
 impl<C: Clock> Seconds for C {
     // no contract states what the system's clock reports
-    ghost tells = { λ _ _. ⊤ };
+    ghost reports = { λ _ _. ⊤ };
 
     fn seconds(&self) -> u64 {
         match SystemTime::now(self) {
@@ -83,7 +83,7 @@ fn raise_with<P: StartsPlace, C: Seconds, R: RandomBytes>(
     may_be_made: bool,
 ) -> Result<Start, RaiseFault>
     requires here { me < members }
-    ensures raised { IfOk result (λ start. (seconds : ℕ) × C.tells clock.now seconds × (bytes : List ℕ) ×
+    ensures raised { IfOk result (λ start. (seconds : ℕ) × C.reports clock.now seconds × (bytes : List ℕ) ×
         R.gives random.now bytes × Raises (P.has place.old) (P.has place.new) members me may_be_made seconds
         (from_be_bytes w32 bytes) start) }
     ensures started { IfOk result (λ start. 0 < start.number) }

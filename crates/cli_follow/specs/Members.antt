@@ -9,7 +9,6 @@ use Rattle.node_udp.specs.Addresses.{shown_address}
 use Rattle.pf_scripts.specs.Lines.{ScriptLine, lines, words_in, spaced}
 use Rattle.nft_rules.specs.declared.guard.Member.{Member}
 use Rattle.cli_nft.specs.Options.{member_at, members_in}
-use Rattle.cli_nft.specs.declared.members.TheConstants.{MEMBERS_MAX}
 
 -- strings, if there are some
 abbrev pub some_texts : List (List ℕ) → Option (List (List ℕ))
@@ -46,8 +45,8 @@ IsAddress a = FitsAddr a.ip × (1 ≤ a.port) × (a.port ≤ 65535)
 abbrev pub members_line : List Address → List ℕ
 members_line addresses = spaced (codes "members" ∷ map shown_address addresses)
 
--- Behind the line of these addresses, at which 1 to MEMBERS_MAX members listen, whatever follows: these members are
+-- Behind the line of these addresses, at which 1 to 15 members listen, whatever follows: these members are
 -- read.
 abbrev pub AreRead : List Address → Type 0
-AreRead addresses = AllByRecursion IsAddress addresses → 1 ≤ length addresses → length addresses ≤ MEMBERS_MAX →
+AreRead addresses = AllByRecursion IsAddress addresses → 1 ≤ length addresses → length addresses ≤ 15 →
     (text : List ℕ) → members_reported (members_line addresses ++ 10 ∷ text) ≡ Some (map member_at addresses)

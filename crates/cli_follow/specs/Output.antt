@@ -13,9 +13,7 @@ use Rattle.cli_ask.specs.declared.exchange.AskFault.{AskFault}
 use Rattle.cli_ask.specs.declared.exchange.Reply.{Reply}
 use Rattle.cli_nft.specs.Outputs.{Written, config_output}
 use Rattle.cli_io.specs.Written.{AppendsFront}
-use Rattle.node_requests.specs.declared.entries.TheConstants.{ENTRIES_MAX, ENTRIES_BYTES}
 use Rattle.cli_follow.specs.declared.files.TextFiles.{TextFiles}
-use Rattle.cli_follow.specs.declared.follower.TheConstants.{AGAIN}
 use Rattle.cli_follow.specs.declared.follower.WriteFault.{WriteFault}
 use Rattle.cli_follow.specs.declared.follower.WriteFault.TheVariants as fault
 use Rattle.cli_follow.specs.Exchanges.{Question, Entries, Status, Exchange, Adds}
@@ -125,7 +123,7 @@ written_if w wanted f = if wanted then written_to w.file f else silent f
 
 -- the first ask of a series: of 20
 abbrev pub is_again : (asks : ℕ) → Bool
-is_again asks = asks % AGAIN == 0
+is_again asks = asks % 20 == 0
 
 -- all that is applied is there: it is written where it moved, and behind a guard once the members are known
 abbrev pub caught_up : Wanted → (again : Bool) → Follower → Reached
@@ -135,7 +133,7 @@ caught_up w again f =
 
 -- entries that weren't all: 1,000 lines, or 262,144 bytes
 abbrev pub is_more : (from to : ℕ) → List ℕ → Bool
-is_more from to body = not (nat_lt (to - from) ENTRIES_MAX) || not (nat_lt (length body) ENTRIES_BYTES)
+is_more from to body = not (nat_lt (to - from) 1000) || not (nat_lt (length body) 262144)
 
 -- the lines of an answer were taken
 abbrev pub after_reply : Wanted → Follower → List ℕ → LinesApplied → Reached

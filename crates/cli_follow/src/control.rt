@@ -12,7 +12,7 @@ use std::io::Write;
 use std::net::Net;
 use std::time::Clock;
 
-/// Whoever answers as a node does at its control socket.
+/// A peer that answers as a node does at its control socket.
 pub trait Control {
     // this was asked and answered so far, in order
     ghost exchanged: { Self → List Exchange → Type 0 };
@@ -76,13 +76,13 @@ impl<'a, RT: Net + Clock, S: cli_ask::ControlSockets<'a>> Control for ControlSoc
 
 /// Where control sockets are.
 pub trait ControlSockets<'a> {
-    /// Whoever answers at one.
+    /// The peer at one.
     type Peer: Control + Drop;
 
     // this one answers at the control socket at this path
     ghost answers_at: { Self → (path : List ℕ) → Self.Peer → Type 0 };
 
-    /// Whoever answers at the control socket at a path.
+    /// The peer at the control socket at a path.
     fn peer_at(&'a self, path: &'a str) -> Self::Peer
         ensures { answers_at self.now path.now result };
 }

@@ -3,7 +3,7 @@
 //! # Organization
 //!
 //! - [`run_follow`]: the subcommand, over any writers, at the node that control sockets ([`ControlSockets`]) have at a
-//!   path; [`follow`]: its loop, over whoever answers as a node does ([`Control`]), and wherever files are written
+//!   path; [`follow`]: its loop, over a peer that answers as a node does ([`Control`]), and wherever files are written
 //!   ([`Folders`]): what it writes, and does with files, is what the answers lead to.
 //! - [`FollowedConfiguration`]: the configuration after the first entries of a log, as a control socket's lines give
 //!   them.

@@ -19,13 +19,12 @@ use crate::options::command;
 use crate::places::{Places, places_for};
 use clap::error::ErrorKind;
 use clap::{ArgMatches, Error};
-use cli_ask::{AskFault, pause};
+use cli_ask::{AskFault, Pauses};
 use cli_io::{Sources, Status, given_in, misused, value_in};
 use std::alloc::{AllocError, Global};
 use std::convert::AsStr;
 use std::fs::Files;
 use std::io::Write;
-use std::net::Net;
 
 /// How long it waits between two asks, but for entries that weren't all, in milliseconds.
 const PAUSE: u64 = 50;
@@ -181,7 +180,7 @@ fn is_another(due: Due) -> bool
 }
 
 /// Says once that there is no answer, and waits before entries are asked for again, but for some that weren't all.
-fn rest<RT: Net, C: Control, E: Write>(
+fn rest<RT: Pauses, C: Control, E: Write>(
     rt: &RT,
     control: &C,
     errors: &mut E,
@@ -192,11 +191,11 @@ fn rest<RT: Net, C: Control, E: Write>(
         Due::More => *said = None,
         Due::Nothing(fault) => {
             log_refusal(control, errors, fault, said);
-            pause(rt, PAUSE);
+            rt.pause(PAUSE);
         }
         _ => {
             *said = None;
-            pause(rt, PAUSE);
+            rt.pause(PAUSE);
         }
     }
 }
@@ -205,7 +204,7 @@ fn rest<RT: Net, C: Control, E: Write>(
 /// nft(8) is to load goes to the writer, for the interfaces that a file lists, if there is one, with the members' guard
 /// or without; rulesets for pfctl(8) go into files, where they are wanted: for the system's files `folders` is
 /// [`SystemFiles`]. Refusals go to `errors`.
-pub fn follow<RT: Net, F: Folders, C: Control, W: Write, E: Write>(
+pub fn follow<RT: Pauses, F: Folders, C: Control, W: Write, E: Write>(
     rt: &RT,
     folders: &mut F,
     alloc: Global,
@@ -291,7 +290,7 @@ fn closed<E: Write>(errors: &mut E) -> Status
 }
 
 /// Follows the log to these places, and logs on standard error how that ended.
-fn follow_to<RT: Net, F: Folders, C: Control, W: Write, E: Write>(
+fn follow_to<RT: Pauses, F: Folders, C: Control, W: Write, E: Write>(
     rt: &RT,
     folders: &mut F,
     alloc: Global,
@@ -342,7 +341,7 @@ fn turns_in(matches: &ArgMatches<'_>) -> u64
 }
 
 /// Follows the log at a control socket as the matches ask for.
-fn followed<RT: Files + Net + Sources, F: Folders, C: Control, W: Write, E: Write>(
+fn followed<RT: Files + Pauses + Sources, F: Folders, C: Control, W: Write, E: Write>(
     rt: &RT,
     folders: &mut F,
     alloc: Global,
@@ -388,7 +387,7 @@ fn refuse<W: Write, E: Write>(
 /// one that `sockets` has at the path of `--control`: for the system's control sockets they are `rt`.
 pub fn run_follow<
     'a,
-    RT: Files + Net + Sources,
+    RT: Files + Pauses + Sources,
     C: ControlSockets<'a>,
     F: Folders,
     S: AsStr,

@@ -3,10 +3,11 @@
 ghost use Rattle.std.specs.Prelude.{ℕ, List, IfOk};
 ghost use Rattle.cli_io.specs.Sources.{IsOfFile, IsText};
 
+use crate::files::open_regular;
 use crate::input::{InputFault, read_all};
 use std::alloc::Global;
 use std::fs::{self, Files};
-use std::io::Read;
+use std::io::{self, Error, ErrorKind, Read};
 
 /// Where the sources are that options name by their paths.
 pub trait Sources {
@@ -15,6 +16,10 @@ pub trait Sources {
 
     /// The text at a path. `Failed` where it can't be opened too.
     fn source_at(&self, alloc: Global, path: &str) -> Result<Vec<u8>, InputFault>
+        ensures { IfOk result (λ text. has self.now path.now text.items) };
+
+    /// The text of the regular file at a path, or why there is none: `OutOfMemory`, or what the system reports.
+    fn file_at(&self, alloc: Global, path: &str) -> io::Result<Vec<u8>>
         ensures { IfOk result (λ text. has self.now path.now text.items) };
 }
 
@@ -27,6 +32,17 @@ impl<F: Files> Sources for F {
             return Err(InputFault::Failed);
         };
         read_all(alloc, &mut file)
+    }
+
+    fn file_at(&self, alloc: Global, path: &str) -> io::Result<Vec<u8>> {
+        let mut file = open_regular(self, path)?;
+        match read_all(alloc, &mut file) {
+            Ok(text) => Ok(text),
+            Err(InputFault::Memory) => Err(Error::from(ErrorKind::OutOfMemory)),
+            Err(InputFault::Failed | InputFault::TooLong) => {
+                Err(Error::new(ErrorKind::InvalidData, "a read failed"))
+            }
+        }
     }
 }
 

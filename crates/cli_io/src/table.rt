@@ -335,7 +335,8 @@ pub const REFUSALS: [Explanation; 44] = [
         name: "bad file of settings",
         meaning: "a node's settings: the file isn't TOML, or has an unknown setting or a\n         \
             value of another type; me, cluster or store is given neither there nor\n         \
-            by an option; other-key without a key, metrics without a control socket",
+            by an option; other-key or new-starts without a key, metrics without a\n         \
+            control socket",
         after: "No node is started.",
         remedy: "See standard error, which names the line and the reason, and the\n         \
             example in pfx-node(8).",

@@ -7,12 +7,11 @@ use Rattle.pf_rules.specs.Words.{is_interface_text}
 use Rattle.pf_rules.specs.Names.{Name}
 use Rattle.pf_eval.specs.PacketTexts.{words}
 use Rattle.nft_rules.specs.Rendering.{Machine, known}
-use Rattle.cli_nft.specs.declared.machines.TheConstants.{INTERFACES_MAX}
 
 -- whether the machine may have one more, of this name: no interface is listed twice
 -- Example: 9em is no name.
 abbrev pub may_have : Machine → Name → Bool
-may_have m name = nat_lt (length m) INTERFACES_MAX && not (list_any (λ n. bytes_eq n name) (known m))
+may_have m name = nat_lt (length m) 1024 && not (list_any (λ n. bytes_eq n name) (known m))
 
 -- strings, if each is spelled as the name of an interface is
 abbrev pub names_if : List (List ℕ) → Option (List Name)

@@ -10,7 +10,6 @@ use Rattle.nft_rules.specs.declared.guard.Member.{Member}
 use Rattle.cli_io.specs.Given.{program_of, given_with}
 use Rattle.cli_io.specs.Numbers.{number_at}
 use Rattle.cli_io.specs.Options.{flag_rule, needed_rule, u32_rule}
-use Rattle.cli_nft.specs.declared.members.TheConstants.{MEMBERS_MAX}
 
 -- ---- members
 
@@ -29,9 +28,9 @@ abbrev pub members_at : List Text → Option (List Member)
 members_at [] = Some []
 members_at (text ∷ texts) = and_member (address_of text) (members_at texts)
 
--- the same of a cluster, which has MEMBERS_MAX members at most
+-- the same of a cluster, which has 15 members at most
 unfoldable pub members_in : List Text → Option (List Member)
-members_in texts = if nat_lt MEMBERS_MAX (length texts) then None else members_at texts
+members_in texts = if nat_lt 15 (length texts) then None else members_at texts
 
 -- ---- arguments
 

@@ -20,7 +20,8 @@ const MEMBERS: &str =
 const POSITION: &str = "The position of the ruleset, which names contain; 0 by default";
 
 const BELOW: &str =
-    "Reads a ruleset from standard input, as check does. Prints three lines, for nft -f one after the other: the sets; all
+    "Reads a ruleset from standard input, as check does. Prints three lines, for nft -f one after the other: the \
+     sets; all
 rules, in place of those loaded before; and, to be kept until another position's rules are loaded, the deletion of these
 sets and chains. Never use a position for two rulesets; with another members' guard its sets are the same. Refusals are
 those of check, and

@@ -38,43 +38,43 @@ given_parsed a arguments m same kinds matches =
 
 -- ---- arguments that clap refuses, and out of memory
 
-pub given_refused : (runs_none asks_none : Type 0) (node key ask : List Row → Outcome → Type 0) (a : App) (arguments : List Text) (e : Error) (s : Status)
-    (old new : Option (List ℕ)) → runs_none → asks_none → a ≡ net_app (not (names_config arguments)) →
+pub given_refused : (runs_none asks_none makes_none : Type 0) (node key ask : List Row → Outcome → Type 0) (a : App) (arguments : List Text) (e : Error) (s : Status)
+    (old new : Option (List ℕ)) → runs_none → asks_none → makes_none → a ≡ net_app (not (names_config arguments)) →
     (is_simple_and_free a ≡ true → HasKind (fault_of a arguments) e) → IsMisused s old new → (kind_of e ≡ OutOfMemory → s ≡ status.Usage → ⊥) →
     (kind_of e ≡ OutOfMemory → s ≡ status.Failed → AppendsFront old new (line (codes "memory"))) →
-    Ran runs_none asks_none node key ask (given_of arguments) s old new
-given_refused runs_none asks_none node key ask a arguments e s old new r q same kinds h none failed =
+    Ran runs_none asks_none makes_none node key ask (given_of arguments) s old new
+given_refused runs_none asks_none makes_none node key ask a arguments e s old new r q t same kinds h none failed =
     let is_needed = not (names_config arguments) in
-    parsed.subcommand_refused (λ given. Ran runs_none asks_none node key ask given s old new) (net_app is_needed) arguments e
-    (parsed.kinds_of (net_app is_needed) a arguments e (simple_and_free is_needed) same kinds) (inr (None, ((r, q), h)))
-    (λ m given. inl ((r, q), parsed.out_of_misuse s old new h (none m) (failed m)))
+    parsed.subcommand_refused (λ given. Ran runs_none asks_none makes_none node key ask given s old new) (net_app is_needed) arguments e
+    (parsed.kinds_of (net_app is_needed) a arguments e (simple_and_free is_needed) same kinds) (inr (None, ((r, (q, t)), h)))
+    (λ m given. inl ((r, (q, t)), parsed.out_of_misuse s old new h (none m) (failed m)))
 
 -- ---- the subcommands
 
-pub node_given : (runs_none asks_none : Type 0) (node key ask : List Row → Outcome → Type 0) (of_node of_key of_ask : Option (List Row)) (rows : List Row) (o : Outcome) →
-    of_node ≡ Some rows → asks_none → node rows o → OutcomeBy runs_none asks_none node key ask of_node of_key of_ask (Some o)
-node_given runs_none asks_none node key ask of_node of_key of_ask rows o e q h = rw e (q, h)
+pub node_given : (runs_none asks_none makes_none : Type 0) (node key ask : List Row → Outcome → Type 0) (of_node of_key of_ask : Option (List Row)) (rows : List Row) (o : Outcome) →
+    of_node ≡ Some rows → asks_none → makes_none → node rows o → OutcomeBy runs_none asks_none makes_none node key ask of_node of_key of_ask (Some o)
+node_given runs_none asks_none makes_none node key ask of_node of_key of_ask rows o e q t h = rw e ((q, t), h)
 
-pub key_given : (runs_none asks_none : Type 0) (node key ask : List Row → Outcome → Type 0) (of_node of_key of_ask : Option (List Row)) (rows : List Row) (o : Outcome) →
+pub key_given : (runs_none asks_none makes_none : Type 0) (node key ask : List Row → Outcome → Type 0) (of_node of_key of_ask : Option (List Row)) (rows : List Row) (o : Outcome) →
     of_node ≡ None → of_key ≡ Some rows → runs_none → asks_none → key rows o →
-    OutcomeBy runs_none asks_none node key ask of_node of_key of_ask (Some o)
-key_given runs_none asks_none node key ask of_node of_key of_ask rows o e f r q h = rw (e, f) ((r, q), h)
+    OutcomeBy runs_none asks_none makes_none node key ask of_node of_key of_ask (Some o)
+key_given runs_none asks_none makes_none node key ask of_node of_key of_ask rows o e f r q h = rw (e, f) ((r, q), h)
 
-pub ask_given : (runs_none asks_none : Type 0) (node key ask : List Row → Outcome → Type 0) (of_node of_key of_ask : Option (List Row)) (rows : List Row) (o : Outcome) →
-    of_node ≡ None → of_key ≡ None → of_ask ≡ Some rows → runs_none → ask rows o →
-    OutcomeBy runs_none asks_none node key ask of_node of_key of_ask (Some o)
-ask_given runs_none asks_none node key ask of_node of_key of_ask rows o e f g r h = rw (e, f, g) (r, h)
+pub ask_given : (runs_none asks_none makes_none : Type 0) (node key ask : List Row → Outcome → Type 0) (of_node of_key of_ask : Option (List Row)) (rows : List Row) (o : Outcome) →
+    of_node ≡ None → of_key ≡ None → of_ask ≡ Some rows → runs_none → makes_none → ask rows o →
+    OutcomeBy runs_none asks_none makes_none node key ask of_node of_key of_ask (Some o)
+ask_given runs_none asks_none makes_none node key ask of_node of_key of_ask rows o e f g r t h = rw (e, f, g) ((r, t), h)
 
-pub none_given : (runs_none asks_none : Type 0) (node key ask : List Row → Outcome → Type 0) (of_node of_key of_ask : Option (List Row)) → of_node ≡ None →
-    of_key ≡ None → of_ask ≡ None → runs_none → asks_none → OutcomeBy runs_none asks_none node key ask of_node of_key of_ask None
-none_given runs_none asks_none node key ask of_node of_key of_ask e f g r q = rw (e, f, g) (r, q)
+pub none_given : (runs_none asks_none makes_none : Type 0) (node key ask : List Row → Outcome → Type 0) (of_node of_key of_ask : Option (List Row)) → of_node ≡ None →
+    of_key ≡ None → of_ask ≡ None → runs_none → asks_none → makes_none → OutcomeBy runs_none asks_none makes_none node key ask of_node of_key of_ask None
+none_given runs_none asks_none makes_none node key ask of_node of_key of_ask e f g r q t = rw (e, f, g) (r, (q, t))
 
 -- what was given is written
-pub written : (runs_none asks_none : Type 0) (node key ask : List Row → Outcome → Type 0) (given subcommand : Option (Text × List Row)) (o : Outcome) (s : Status)
-    (old new : Option (List ℕ)) → given ≡ subcommand → IsOutcome runs_none asks_none node key ask subcommand (Some o) → Wrote s o old new →
-    Ran runs_none asks_none node key ask given s old new
-written runs_none asks_none node key ask given subcommand o s old new e h w = rw e (inr (Some o, (h, w)))
+pub written : (runs_none asks_none makes_none : Type 0) (node key ask : List Row → Outcome → Type 0) (given subcommand : Option (Text × List Row)) (o : Outcome) (s : Status)
+    (old new : Option (List ℕ)) → given ≡ subcommand → IsOutcome runs_none asks_none makes_none node key ask subcommand (Some o) → Wrote s o old new →
+    Ran runs_none asks_none makes_none node key ask given s old new
+written runs_none asks_none makes_none node key ask given subcommand o s old new e h w = rw e (inr (Some o, (h, w)))
 
-pub unwritten : (runs_none asks_none : Type 0) (node key ask : List Row → Outcome → Type 0) (given subcommand : Option (Text × List Row)) (old : Option (List ℕ)) →
-    given ≡ subcommand → IsOutcome runs_none asks_none node key ask subcommand None → Ran runs_none asks_none node key ask given status.Usage old old
-unwritten runs_none asks_none node key ask given subcommand old e h = rw e (inr (None, (h, tt)))
+pub unwritten : (runs_none asks_none makes_none : Type 0) (node key ask : List Row → Outcome → Type 0) (given subcommand : Option (Text × List Row)) (old : Option (List ℕ)) →
+    given ≡ subcommand → IsOutcome runs_none asks_none makes_none node key ask subcommand None → Ran runs_none asks_none makes_none node key ask given status.Usage old old
+unwritten runs_none asks_none makes_none node key ask given subcommand old e h = rw e (inr (None, (h, tt)))

@@ -10,10 +10,10 @@ use Rattle.node_loop.specs.declared.ended.Ended.TheVariants as ended
 use Rattle.cli_node.specs.declared.outcome.Outcome.{Outcome}
 use Rattle.cli_node.specs.declared.outcome.Outcome.TheVariants.{Front, Stopped, Asked, Key, Refused, RefusedLine, NoAnswer}
 use Rattle.cli_node.specs.declared.outcome.Outcome.TheVariants.{Sound, Made, Memory, Unread}
-use Rattle.cli_node.specs.inner.Outcomes.{outcome_of, ending_of, ended_outcome, first_of, checked, is_refused}
-use Rattle.cli_node.specs.inner.Outcomes.{ComesOpenOr, IsWireless}
-use Rattle.cli_node.specs.inner.Running.{RunsHere, EndsAs, EndsWith, EndsNew, EndsNode, Anything}
-use Rattle.cli_node.specs.inner.Stores.{IsRefusal, IsStoreless}
+use Rattle.cli_node.specs.Endings.{outcome_of, ending_of, ended_outcome, first_of, checked, is_refused}
+use Rattle.cli_node.specs.Endings.{ComesOpenOr, IsWireless}
+use Rattle.cli_node.specs.MemberRuns.{RunsHere, EndsAs, EndsWith, EndsNew, EndsNode, Anything}
+use Rattle.cli_node.specs.Stores.{IsRefusal, IsStoreless}
 use Rattle.cli_node.specs.declared.key.Keys.{Keys}
 use Rattle.cli_node.specs.declared.sealing.Sealing.{Sealing}
 use Rattle.px_packet.specs.declared.start.Start.{Start}

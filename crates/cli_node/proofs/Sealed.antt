@@ -6,7 +6,7 @@ use Rattle.px_wire.specs.declared.membership.Membership.{Membership}
 use Rattle.node_udp.specs.Sockets.{SocketEvent}
 use Rattle.node_control.specs.Sockets.{RunsSealedHearing}
 use Rattle.cli_node.specs.declared.sealing.Sealing.{Sealing}
-use Rattle.cli_node.specs.inner.Running.{RunsWith}
+use Rattle.cli_node.specs.MemberRuns.{RunsWith}
 
 -- the wire's keys and its sealer are these
 pub as_sealed : {R : Type 0} (G : Ghosts R) (m : Membership) (hears : Bool) (given back : R) (events : List SocketEvent)

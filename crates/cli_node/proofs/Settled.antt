@@ -9,8 +9,8 @@ use Rattle.cli_files.specs.declared.settings.NodeFile.{NodeFile}
 use Rattle.cli_node.specs.declared.node.NodeArguments.{NodeArguments}
 use Rattle.cli_node.specs.declared.outcome.Outcome.{Outcome}
 use Rattle.cli_node.specs.declared.outcome.Outcome.TheVariants.{Refused}
-use Rattle.cli_node.specs.inner.Doing.{Adds, GaveSo, NodeEvent, Ran, Checked}
-use Rattle.cli_node.specs.inner.Settled.{AreSettings, IsDone, IsNode, IsSettledOr, members_for}
+use Rattle.cli_node.specs.Doing.{Adds, GaveSo, NodeEvent, Ran, Checked}
+use Rattle.cli_node.specs.Settled.{AreSettings, IsDone, IsNode, IsSettledOr, members_for}
 
 -- what is given goes before what else there is
 pub given_first : {A B : Type 0} (f : B → A) (P : A → Type 0) (r : Option B) (x : B) (given : Option A) (other : A) →

@@ -1,6 +1,6 @@
 -- What keeps a node from its store.
 use Rattle.std.proofs.Common.{◌≡◌, ◌≢◌, ◌⊎◌, Bool, true, false, ℕ, Result, Ok, Err, refl, sym, subst, ◌∙◌, inl, inr, arith}
-use Rattle.std.specs.Prelude.{IfErr, OnErr, if◌then◌else◌}
+use Rattle.std.specs.Prelude.{IfOk, IfErr, OnErr, if◌then◌else◌}
 use Rattle.px_store.specs.declared.fault.AdoptFault.{AdoptFault}
 use Rattle.px_store.specs.declared.fault.AdoptFault.TheVariants as adopt
 use Rattle.cli_node.specs.declared.outcome.Outcome.{Outcome}
@@ -9,8 +9,8 @@ use Rattle.cli_node.specs.declared.store.Found.{Found}
 use Rattle.cli_node.specs.declared.store.Found.TheVariants as found
 use Rattle.cli_node.specs.declared.store.Opening.{Opening}
 use Rattle.cli_node.specs.declared.store.Opening.TheVariants.{Opens, Makes, Refuses}
-use Rattle.cli_node.specs.inner.Outcomes.{adopt_outcome}
-use Rattle.cli_node.specs.inner.Stores.{IsNone, IsRefused, IsOpening, IsRefusal, IsStoreless, IsUnmade}
+use Rattle.cli_node.specs.Endings.{adopt_outcome}
+use Rattle.cli_node.specs.Stores.{IsNone, IsRefused, IsOpening, IsRefusal, IsStoreless, IsUnmade, MayRun}
 
 -- refusals of one outcome have one number
 pub same_number : (a b : ℕ) → Refused a ≡ Refused b → a ≡ b
@@ -239,3 +239,29 @@ pub none_at : (file new : Bool) (f : Found) (o : Opening) (code : ℕ) → IsOpe
     Refused code ≡ Refused 93 → IsNone f
 none_at file new f o code is opens e =
     none_refused file new f code (is.refused code opens) (same_number code 93 e)
+
+-- ---- where a store is opened or made a node may run over it
+
+opened : (file new : Bool) (f : Found) (o : Opening) → IsOpening file new f o → o ≡ Opens → MayRun file new f
+opened file true f o is e = let held : o ≡ Refuses 94 = is.held refl (is.opened e) in absurd (cc)
+opened file false f o is e = inr (is.opened e, refl)
+
+made : (file new : Bool) (f : Found) (o : Opening) → IsOpening file new f o → o ≡ Makes → MayRun file new f
+made file true found.Nothing o is e = inl refl
+made false false found.Nothing o is e = inl refl
+made true false found.Nothing o is e = absurd (is.kept refl refl e)
+made file true found.Empty o is e = inl refl
+made false false found.Empty o is e = inl refl
+made true false found.Empty o is e = absurd (is.kept refl refl e)
+made file new found.Store o is e = absurd (no_store (is.made e))
+made file new found.Other o is e = absurd (no_other (is.made e))
+
+pub may_open : {C : Type 0} (file new : Bool) (f : Found) (o : Opening) (r : Result C Outcome) → IsOpening file new f o →
+    o ≡ Opens → IfOk r (λ c. MayRun file new f)
+may_open file new f o (Ok c) is e = opened file new f o is e
+may_open file new f o (Err x) is e = tt
+
+pub may_make : {C : Type 0} (file new : Bool) (f : Found) (o : Opening) (r : Result C Outcome) → IsOpening file new f o →
+    o ≡ Makes → IfOk r (λ c. MayRun file new f)
+may_make file new f o (Ok c) is e = made file new f o is e
+may_make file new f o (Err x) is e = tt

@@ -7,7 +7,6 @@ use Rattle.clap.specs.declared.builder.action.ArgAction.TheVariants.{Append, Set
 use Rattle.pf_arguments.specs.Options.{with_pfctl}
 use Rattle.cli_io.specs.Given.{subcommand_given}
 use Rattle.cli_io.specs.Options.{flag_rule, needed_rule, number_rule, u32_rule, u8_rule, value_rule}
-use Rattle.cli_node.specs.declared.options.TheConstants.{WAIT_MAX}
 
 -- an option that has to be given, or needn't be
 abbrev pub needed_if : Bool → Rule → Rule
@@ -73,7 +72,7 @@ with_member app =
 
 -- ask, with these options, [--wait S] and pfctl's options
 abbrev pub ask_app : App
-ask_app = with_pfctl (with_rule (with_member (new_app (codes "ask"))) (number_rule (codes "wait") 0 WAIT_MAX))
+ask_app = with_pfctl (with_rule (with_member (new_app (codes "ask"))) (number_rule (codes "wait") 0 3600))
 
 -- key [FILE]
 abbrev pub key_app : App

@@ -1,4 +1,13 @@
 pub mod Arguments
+pub mod Asked
+pub mod Doing
+pub mod Endings
+pub mod Given
+pub mod Keeping
+pub mod MemberRuns
 pub mod Outcomes
+pub mod Places
 pub mod Running
-pub mod inner
+pub mod Secrets
+pub mod Settled
+pub mod Stores

@@ -9,15 +9,15 @@ use Rattle.cli_node.specs.Outcomes.{Ends}
 use Rattle.cli_node.specs.declared.ask.AskArguments.{AskArguments}
 use Rattle.cli_node.specs.declared.outcome.Outcome.{Outcome}
 use Rattle.cli_node.specs.declared.outcome.Outcome.TheVariants.{Refused}
-use Rattle.cli_node.specs.inner.Asked.{AreAskArguments, AsksNode, names_node}
-use Rattle.cli_node.specs.inner.Keeping.{IsNewKey}
-use Rattle.cli_node.specs.inner.Places.{has_place}
+use Rattle.cli_node.specs.Asked.{AreAskArguments, AsksNode, names_node}
+use Rattle.cli_node.specs.Doing.{FileEvent}
+use Rattle.cli_node.specs.Keeping.{IsNewKey}
+use Rattle.cli_node.specs.Places.{has_place}
 
 -- ---- what each subcommand gives
 
-abbrev pub KeyGives : {F : Type 0} → (gives : (key : List ℕ) → Type 0) → (contents : F → Option (List ℕ)) →
-    List Row → Outcome → Type 0
-KeyGives gives contents rows outcome = IsNewKey gives contents (first_of (codes "file") rows) outcome
+abbrev pub KeyGives : (gives : (key : List ℕ) → Type 0) → (made : List FileEvent → Type 0) → List Row → Outcome → Type 0
+KeyGives gives made rows outcome = IsNewKey gives made (first_of (codes "file") rows) outcome
 
 -- 40 where an option is missing or too large
 abbrev pub AskGives : {W : Type 0} → (traffic : W → List WireEvent → Type 0) → (reaches : (to : List ℕ) → W → Type 0) →
@@ -30,26 +30,30 @@ AskGives traffic reaches is_unreached went is_text rows outcome =
 
 -- ---- a run
 
--- the outcome of the subcommand that is given, none of another one; only `node` runs or checks a node, and only `ask`
--- asks one
-abbrev pub OutcomeBy : (runs_none asks_none : Type 0) → (node key ask : List Row → Outcome → Type 0) →
+-- the outcome of the subcommand that is given, none of another one; only `node` runs or checks a node, only `ask` asks
+-- one, and only `key` makes a file
+abbrev pub OutcomeBy : (runs_none asks_none makes_none : Type 0) → (node key ask : List Row → Outcome → Type 0) →
     (of_node of_key of_ask : Option (List Row)) → Option Outcome → Type 0
-OutcomeBy runs_none asks_none node key ask (Some rows) of_key of_ask (Some outcome) = asks_none × node rows outcome
-OutcomeBy runs_none asks_none node key ask None (Some rows) of_ask (Some outcome) =
+OutcomeBy runs_none asks_none makes_none node key ask (Some rows) of_key of_ask (Some outcome) =
+    (asks_none × makes_none) × node rows outcome
+OutcomeBy runs_none asks_none makes_none node key ask None (Some rows) of_ask (Some outcome) =
     (runs_none × asks_none) × key rows outcome
-OutcomeBy runs_none asks_none node key ask None None (Some rows) (Some outcome) = runs_none × ask rows outcome
-OutcomeBy runs_none asks_none node key ask None None None None = runs_none × asks_none
-OutcomeBy runs_none asks_none node key ask of_node of_key of_ask outcome = ⊥
+OutcomeBy runs_none asks_none makes_none node key ask None None (Some rows) (Some outcome) =
+    (runs_none × makes_none) × ask rows outcome
+OutcomeBy runs_none asks_none makes_none node key ask None None None None = runs_none × (asks_none × makes_none)
+OutcomeBy runs_none asks_none makes_none node key ask of_node of_key of_ask outcome = ⊥
 
-abbrev pub IsOutcome : (runs_none asks_none : Type 0) → (node key ask : List Row → Outcome → Type 0) →
+abbrev pub IsOutcome : (runs_none asks_none makes_none : Type 0) → (node key ask : List Row → Outcome → Type 0) →
     (subcommand : Option (Text × List Row)) → Option Outcome → Type 0
-IsOutcome runs_none asks_none node key ask subcommand outcome = OutcomeBy runs_none asks_none node key ask
+IsOutcome runs_none asks_none makes_none node key ask subcommand outcome =
+    OutcomeBy runs_none asks_none makes_none node key ask
     (given_in (codes "node") subcommand) (given_in (codes "key") subcommand) (given_in (codes "ask") subcommand) outcome
 
 -- What a run did that ended so, by the subcommand that is given. It is misused only where that is none: arguments that
 -- aren't understood. Else it wrote what the subcommand gave, or was out of memory before that.
-abbrev pub Ran : (runs_none asks_none : Type 0) → (node key ask : List Row → Outcome → Type 0) →
+abbrev pub Ran : (runs_none asks_none makes_none : Type 0) → (node key ask : List Row → Outcome → Type 0) →
     (subcommand : Option (Text × List Row)) → Status → (old new : Option (List ℕ)) → Type 0
-Ran runs_none asks_none node key ask subcommand ending old new = ((runs_none × asks_none) × RanOut ending old new)
-    ⊎ ((outcome : Option Outcome) × (IsOutcome runs_none asks_none node key ask subcommand outcome
+Ran runs_none asks_none makes_none node key ask subcommand ending old new =
+    ((runs_none × (asks_none × makes_none)) × RanOut ending old new)
+    ⊎ ((outcome : Option Outcome) × (IsOutcome runs_none asks_none makes_none node key ask subcommand outcome
     × Ends ending outcome old new))

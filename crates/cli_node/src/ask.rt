@@ -8,14 +8,14 @@ ghost use Rattle.pf_entry.specs.Owned.{command_value};
 ghost use Rattle.pf_arguments.specs.Asked.{asked, given_in, Change};
 ghost use Rattle.px_transport.specs.Wires.{IsQuiet, WireEvent};
 ghost use Rattle.node_udp.specs.Addresses.{AreFound};
-ghost use Rattle.node_udp.specs.Members.{me_of, peers_of};
+ghost use Rattle.node_udp.specs.Members.{me_of, peers_of, wait_of};
 ghost use Rattle.cli_node.specs.declared.outcome.Outcome.TheVariants.{Memory, Refused};
-ghost use Rattle.cli_node.specs.inner.Places.{has_8_bits, has_place, waits_of};
+ghost use Rattle.cli_node.specs.Places.{has_8_bits, has_place, waits_of};
 ghost use Rattle.cli_io.specs.Sources.{IsNamed, IsText};
 ghost use Rattle.cli_io.specs.Numbers.{number_at};
-ghost use Rattle.cli_node.specs.inner.Asked.{AreAskArguments, AsksNode, HasNoText, IsAsked, IsRefusedWith, IsUnread};
-ghost use Rattle.cli_node.specs.inner.Doing.{Adds, IsLeft};
-ghost use Rattle.cli_node.specs.inner.Asked.{is_wait, names_node, unasked_code};
+ghost use Rattle.cli_node.specs.Asked.{AreAskArguments, AsksNode, HasNoText, IsAsked, IsRefusedWith, IsUnread};
+ghost use Rattle.cli_node.specs.Doing.{Adds, IsLeft};
+ghost use Rattle.cli_node.specs.Asked.{is_wait, names_node, unasked_code};
 ghost use Rattle.cli_node.specs.declared.ask.TheConstants.{CLIENT};
 
 use crate::outcome::{Outcome, answer_outcome, fault_outcome};
@@ -68,10 +68,7 @@ fn small_in(matches: &ArgMatches<'_>, id: &str) -> Option<u8>
     ensures none { result ≡ None → has_8_bits (number_at (rows_of (found_of matches.now)) id.now) ≡ false }
 {
     match number_in(matches, id) {
-        Some(number) => match u8::try_from(number) {
-            Ok(number) => Some(number),
-            Err(_) => None,
-        },
+        Some(number) => u8::try_from(number).ok(),
         None => None,
     }
 }
@@ -82,21 +79,11 @@ impl<'a> AskArguments<'a> {
         ensures some { IfSome result (AreAskArguments (rows_of (found_of matches.now))) }
         ensures none { result ≡ None → names_node (rows_of (found_of matches.now)) ≡ false }
     {
-        let Some(to) = value_in(matches, "to") else {
-            return None;
-        };
-        let Some(cluster) = number_in(matches, "cluster") else {
-            return None;
-        };
-        let Some(members) = small_in(matches, "members") else {
-            return None;
-        };
-        let Some(node) = small_in(matches, "node") else {
-            return None;
-        };
-        let Some(waits) = waits_in(matches) else {
-            return None;
-        };
+        let to = value_in(matches, "to")?;
+        let cluster = number_in(matches, "cluster")?;
+        let members = small_in(matches, "members")?;
+        let node = small_in(matches, "node")?;
+        let waits = waits_in(matches)?;
         Some(AskArguments {
             to,
             cluster,
@@ -189,7 +176,7 @@ impl Client for HostRuntime {
     // no contract states what the system's sockets give, nor when there is none
     ghost went = { λ _ _. ⊤ };
 
-    ghost reaches = { λ _ to w. (me_of w ≡ CLIENT) × AreFound (to ∷ []) (peers_of w) };
+    ghost reaches = { λ _ to w. (me_of w ≡ CLIENT) × AreFound (to ∷ []) (peers_of w) × (wait_of w ≡ 200000000) };
 
     ghost is_unreached = { λ _ _. ⊤ };
 

@@ -10,12 +10,12 @@ ghost use Rattle.px_store.specs.Judging.{reopen_refusal};
 ghost use Rattle.px_store.specs.declared.formats.Format.{Format};
 ghost use Rattle.cli_node.specs.declared.outcome.Outcome.{Outcome};
 ghost use Rattle.cli_node.specs.declared.outcome.Outcome.TheVariants.{Memory, Refused, Sound};
-ghost use Rattle.cli_node.specs.inner.Outcomes.{checked, first_of};
-ghost use Rattle.cli_node.specs.inner.Places.{has_place};
-ghost use Rattle.cli_node.specs.inner.Secrets.{IsNamed};
+ghost use Rattle.cli_node.specs.Endings.{checked, first_of};
+ghost use Rattle.cli_node.specs.Places.{has_place};
+ghost use Rattle.cli_node.specs.Secrets.{IsNamed};
 ghost use Rattle.px_wire.specs.declared.membership.Membership.{Membership};
 ghost use Rattle.cli_node.specs.declared.store.Found.{Found};
-ghost use Rattle.cli_node.specs.inner.Stores.{IsFit, IsFoundAt, IsSoundAt, IsStoreless, identity_at};
+ghost use Rattle.cli_node.specs.Stores.{IsFit, IsFoundAt, IsSoundAt, IsStoreless, identity_at};
 
 use crate::database::{Databases, Inspection};
 use crate::faults::{log_closed, log_metrics, log_place, log_storeless, log_unknown};
@@ -207,10 +207,7 @@ fn of_store<RT: Files + Eprint, I: Inspection>(
 fn found_of<D: Databases>(dbs: &D, alloc: Global, path: &str) -> Option<Found>
     ensures { IfSome result (IsFoundAt (D.is_seen dbs.now) path.now) }
 {
-    match found_at(dbs, alloc, path) {
-        Ok(found) => Some(found),
-        Err(_) => None,
-    }
+    found_at(dbs, alloc, path).ok()
 }
 
 /// What is refused of the file of starts beside a store, where this was found; where none is, a start makes both or is
@@ -292,7 +289,7 @@ fn of_addresses(rt: &HostRuntime, arguments: NodeArguments<'_, '_, '_>) -> Outco
 /// What a start with these arguments would be refused for, as far as settings, keys, addresses, sockets and store show:
 /// all is logged on standard error, and the first answered, in the order of a start: 40, 83, 93, 94, the store's
 /// refusals, 95, 82, 84.
-pub(crate) fn check_outcome<F: NodeFiles, D: Databases, I: Inspection>(
+pub fn check_node<F: NodeFiles, D: Databases, I: Inspection>(
     rt: &HostRuntime,
     files: &F,
     dbs: &D,

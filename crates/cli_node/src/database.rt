@@ -183,7 +183,7 @@ pub(crate) fn open_database(
 
 /// What the system reports of a path.
 #[derive(Clone, Copy)]
-pub(crate) enum Seen {
+pub enum Seen {
     /// A regular file of this size.
     File(u64),
     /// Something else of this size.
@@ -195,7 +195,7 @@ pub(crate) enum Seen {
 }
 
 /// Where a node's store is found, opened and closed.
-pub(crate) trait Databases {
+pub trait Databases {
     // this is seen at this path
     ghost is_seen: { Self → (path : List ℕ) → Seen → Type 0 };
 
@@ -254,7 +254,7 @@ impl Databases for HostRuntime {
 }
 
 /// Where a database is opened to be looked at, and left as it is.
-pub(crate) trait Inspection {
+pub trait Inspection {
     // none is open, and the last one was left as it was found, unless the disk failed
     ghost is_over: { Self → Type 0 };
 

@@ -13,7 +13,7 @@ use std::random::RandomSource;
 use std::time::Clock;
 
 /// Where the files are of a node beside its store.
-pub(crate) trait NodeFiles {
+pub trait NodeFiles {
     // the secret in the file at this path makes this key of the datagrams of a cluster with this number and these
     // members' addresses
     ghost makes: { Self → (cluster : ℕ) → (members : List (List ℕ)) → (path key : List ℕ) → Type 0 };

@@ -1,13 +1,15 @@
 //! The keys that the arguments of `node` name, and new ones.
 
-ghost use Rattle.std.specs.Prelude.{◌≡◌, ◌⊎◌, ◌==◌, ◌/◌, Ok, Err, OnErr, IfOk, option_map};
+ghost use Rattle.std.specs.List.{All};
+ghost use Rattle.std.specs.Prelude.{◌≡◌, ◌⊎◌, ◌==◌, ◌/◌, ◌∷◌, ℕ, List, [], Ok, Err, OnErr, IfOk, IfErr, option_map};
 ghost use Rattle.std.specs.Prelude.{OnOk, map, is_some};
 ghost use Rattle.cli_files.specs.KeyTexts.{key_text};
 ghost use Rattle.node_udp.specs.Addresses.{address_of};
 ghost use Rattle.cli_node.specs.declared.outcome.Outcome.TheVariants.{Memory, Refused};
-ghost use Rattle.cli_node.specs.inner.Keeping.{IsKeptKey, IsNewKey, IsWritten};
-ghost use Rattle.cli_node.specs.inner.Places.{is_loopback, is_loopback_ip};
-ghost use Rattle.cli_node.specs.inner.Secrets.{IsNamed, AreNamed};
+ghost use Rattle.cli_node.specs.Doing.{Adds, FileEvent, Written, Unwritten};
+ghost use Rattle.cli_node.specs.Keeping.{IsKeptKey, IsNewKey, IsWritten, IsWrittenIn};
+ghost use Rattle.cli_node.specs.Places.{is_loopback, is_loopback_ip};
+ghost use Rattle.cli_node.specs.Secrets.{IsNamed, AreNamed};
 
 use crate::files::NodeFiles;
 use crate::node::NodeArguments;
@@ -168,26 +170,52 @@ pub(crate) fn warn_unsealed(rt: &HostRuntime, arguments: NodeArguments<'_, '_, '
     );
 }
 
-/// Writes a key into a new file, which its owner alone may read.
-fn write_key<F: Files>(rt: &F, path: &str, text: &str) -> io::Result<()>
+/// Where files are made that their owner alone may read and write.
+pub trait NewFiles {
+    // these were to be made
+    ghost made: { Self → List FileEvent → Type 0 };
+
+    /// Makes a file with this text. Where something is there, a link too, it is refused with `AlreadyExists`.
+    fn make(&mut self, path: &str, text: &str) -> io::Result<()>
+        ensures written { IfOk result (λ done. Adds (made self.old) (made self.new) (Written path.now text.now ∷ [])) }
+        ensures refused { IfErr result (λ e. Adds (made self.old) (made self.new) (Unwritten path.now ∷ [])) };
+}
+
+/// Writes bytes into a new file, which its owner alone may read and write; none is left where they can't be written.
+fn write_private<F: Files>(files: &F, path: &str, text: &str) -> io::Result<()>
     ensures { OnOk result (IsWritten F.File.contents text.now) }
 {
-    let mut file = make_private(rt, path)?;
+    let mut file = make_private(files, path)?;
     let written = file.write_all(text.as_bytes());
     if written.is_err() {
-        let _gone = fs::remove_file(rt, path);
+        let _gone = fs::remove_file(files, path);
     }
     written
 }
 
+impl<F: Files> NewFiles for F {
+    // no contract ties a file to its path
+    ghost made = { λ _. All (IsWrittenIn F.File.contents) };
+
+    fn make(&mut self, path: &str, text: &str) -> io::Result<()> {
+        write_private(&*self, path, text)
+    }
+}
+
 /// What is given for a new key that is to be in a file: 94 where one is there, 83 where the system refuses it.
-fn kept<RT: Files + Eprint>(rt: &RT, alloc: Global, path: &str, key: &[u8; 32]) -> Outcome
-    ensures { IsKeptKey RT.File.contents key.now result }
+fn kept<RT: Eprint, F: NewFiles>(
+    rt: &RT,
+    files: &mut F,
+    alloc: Global,
+    path: &str,
+    key: &[u8; 32],
+) -> Outcome
+    ensures { IsKeptKey (Adds (F.made files.old) (F.made files.new)) path.now key.now result }
 {
     let Ok(text) = key_text(alloc, key) else {
         return Outcome::Memory;
     };
-    match write_key(rt, path, text.as_str()) {
+    match files.make(path, text.as_str()) {
         Ok(()) => Outcome::Made,
         Err(error) => {
             let _logged = eprintln!(rt; "pfx: error: key {}: {error}", Shown(path));
@@ -200,19 +228,21 @@ fn kept<RT: Files + Eprint>(rt: &RT, alloc: Global, path: &str, key: &[u8; 32]) 
     }
 }
 
-/// A new key, of the next bytes of a random source: written out, or in a file where one is named.
-pub(crate) fn key_outcome<R: RandomBytes + Files + Eprint>(
+/// A new key, of the next bytes of a random source: written out, or in a new file where one is named.
+pub(crate) fn key_outcome<R: RandomBytes + Eprint, F: NewFiles>(
     rt: &R,
+    files: &mut F,
     alloc: Global,
     file: Option<&str>,
 ) -> Outcome
-    ensures { IsNewKey (R.gives rt.now) R.File.contents (option_map (λ f. f.now) file.entry) result }
+    ensures { IsNewKey (R.gives rt.now) (Adds (F.made files.old) (F.made files.new))
+        (option_map (λ f. f.now) file.entry) result }
 {
     let Ok(key) = new_key(rt) else {
         return Outcome::Unread;
     };
     match file {
-        Some(path) => kept(rt, alloc, path, &key),
+        Some(path) => kept(rt, files, alloc, path, &key),
         None => Outcome::Key(key),
     }
 }

@@ -2,7 +2,10 @@
 //!
 //! # Organization
 //!
-//! - [`run_net`]: the subcommands, over any reader and writer.
+//! - [`run_net`]: the subcommands, over any reader and writer, and over who runs nodes ([`Nodes`]), makes wires
+//!   ([`Client`]) and files ([`NewFiles`]).
+//! - [`run_node`]: a run of a node, over its files ([`NodeFiles`]) and databases ([`Databases`]). [`check_node`]: whether
+//!   it could be started, with who opens its database to look at it ([`Inspection`]).
 //!
 //! Within: `options` has the arguments as `clap` reads them, `settings` those of a node's file, `node`, `ask` and `key`
 //! what each gives, and `check` what `node` with `--check`; `store` opens or makes a node's store, and `database` the
@@ -55,8 +58,12 @@ mod sockets;
 mod store;
 
 pub use ask::{AskArguments, Client};
+pub use check::check_node;
 pub use cli_io::Status;
-pub use node::NodeArguments;
+pub use database::{Databases, Inspection, Seen};
+pub use files::NodeFiles;
+pub use key::NewFiles;
+pub use node::{NodeArguments, run_node};
 pub use outcome::Outcome;
 pub use running::run_net;
 pub use settings::Nodes;

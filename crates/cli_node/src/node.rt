@@ -9,17 +9,17 @@ ghost use Rattle.node_udp.specs.Addresses.{AreFound, shown_address};
 ghost use Rattle.node_udp.specs.Members.{hears_of, me_of, peers_of};
 ghost use Rattle.pf_scripts.specs.Lines.{spaced};
 ghost use Rattle.cli_node.specs.declared.outcome.Outcome.TheVariants.{Memory, Refused};
-ghost use Rattle.cli_node.specs.inner.Running.{EndsAs, EndsNew, EndsNode, EndsWith, IsAlone, IsUnrun};
-ghost use Rattle.cli_node.specs.inner.Running.{MadeTurns, RunsHere};
-ghost use Rattle.cli_node.specs.inner.Running.{hears_asks, keys_with, sealer_with};
-ghost use Rattle.cli_node.specs.inner.Outcomes.{ComesTo, ComesOpen, ComesOpenOr, IsWireless};
-ghost use Rattle.cli_node.specs.inner.Given.{AreFigures, IsPlaced, is_set, number_for, text_for};
-ghost use Rattle.cli_node.specs.inner.Secrets.{AreNamed};
-ghost use Rattle.cli_node.specs.inner.Settled.{AreArguments, is_complete, is_whole};
-ghost use Rattle.cli_node.specs.inner.Stores.{HasNone, IsClosedIn, IsFoundAt, IsKeptIn, IsNone, IsStoreless, is_made};
+ghost use Rattle.cli_node.specs.MemberRuns.{EndsAs, EndsNew, EndsNode, EndsWith, IsAlone, IsUnrun};
+ghost use Rattle.cli_node.specs.MemberRuns.{MadeTurns, RunsHere};
+ghost use Rattle.cli_node.specs.MemberRuns.{hears_asks, keys_with, sealer_with};
+ghost use Rattle.cli_node.specs.Endings.{ComesTo, ComesOpen, ComesOpenOr, IsWireless};
+ghost use Rattle.cli_node.specs.Given.{AreFigures, IsPlaced, is_set, number_for, text_for};
+ghost use Rattle.cli_node.specs.Secrets.{AreNamed};
+ghost use Rattle.cli_node.specs.Settled.{AreArguments, is_complete, is_whole};
+ghost use Rattle.cli_node.specs.Stores.{HasNone, IsClosedIn, IsFoundAt, IsKeptIn, IsNone, IsStoreless, IsRunOver, is_made};
 ghost use Rattle.cli_node.specs.declared.store.Found.{Found};
 ghost use Rattle.cli_node.specs.declared.store.TheConstants.{NO_STORE};
-ghost use Rattle.cli_node.specs.inner.Places.{is_count, has_place, turns_or_all};
+ghost use Rattle.cli_node.specs.Places.{is_count, has_place, turns_or_all};
 
 use crate::database::Databases;
 use crate::events::{log_end, log_start};
@@ -129,18 +129,10 @@ impl<'m, 'w, 'a> NodeArguments<'m, 'w, 'a> {
             (map (λ t. t.now) members.now)) }
         ensures none { result ≡ None → is_complete (rows_of (found_of matches.now)) file.now ≡ false }
     {
-        let Some(me) = number_for(matches, file, "me") else {
-            return None;
-        };
-        let Ok(me) = u8::try_from(me) else {
-            return None;
-        };
-        let Some(cluster) = number_for(matches, file, "cluster") else {
-            return None;
-        };
-        let Some(store) = text_for(matches, file, "store") else {
-            return None;
-        };
+        let me = number_for(matches, file, "me")?;
+        let me = u8::try_from(me).ok()?;
+        let cluster = number_for(matches, file, "cluster")?;
+        let store = text_for(matches, file, "store")?;
         Some(NodeArguments {
             me,
             cluster,
@@ -196,9 +188,7 @@ pub(crate) fn membership(arguments: NodeArguments<'_, '_, '_>) -> Option<Members
     ensures none { IsSome result ↔
         IsTrue (has_place arguments.entry.me (length arguments.entry.members.now)) }
 {
-    let Some(members) = count(arguments.members) else {
-        return None;
-    };
+    let members = count(arguments.members)?;
     if arguments.me >= members {
         return None;
     }
@@ -578,9 +568,10 @@ fn run_new<F: NodeFiles, D: Databases, T: Timer>(
     }
 }
 
-/// What `node` evaluates to with this timer: 40 of its numbers, 83, 93, 94, the store's refusals, 95, 82, 84, and the
-/// first refusal of a turn, in this order.
-pub(crate) fn run_node<F: NodeFiles, D: Databases, T: Timer>(
+/// What a run of a node gives with these files, databases and timer: 40 of its numbers, 83, 93, 94, the store's
+/// refusals, 95, 82, 84, and the first refusal of a turn, in this order. It runs over a store only where one was seen, or
+/// where none was and one may be made.
+pub fn run_node<F: NodeFiles, D: Databases, T: Timer>(
     rt: &HostRuntime,
     files: &F,
     dbs: &D,
@@ -598,7 +589,8 @@ pub(crate) fn run_node<F: NodeFiles, D: Databases, T: Timer>(
         F.raises files.now (arguments.entry.store.now ++ codes "-starts") m.members m.me
         (is_made arguments.entry.is_from_file arguments.entry.is_new found || arguments.entry.makes_starts) start)
         (hears_asks arguments.entry.key arguments.entry.control) (map (λ t. t.now) arguments.entry.members.now)
-        (IsKeptIn ⟦<FileStore<File> as Store>⟧ (D.holds dbs.now arguments.entry.store.now))
+        (λ r. IsRunOver (D.is_seen dbs.now) arguments.entry.store.now arguments.entry.is_from_file
+        arguments.entry.is_new × IsKeptIn ⟦<FileStore<File> as Store>⟧ (D.holds dbs.now arguments.entry.store.now) r)
         (IsClosedIn ⟦<FileStore<File> as Store>⟧ (D.closed dbs.now))
         (MadeTurns arguments.entry.turns (T.timer_events timer.old) (T.timer_events timer.new)) result }
     ensures ending { result ≢ Refused 80 }

@@ -43,7 +43,7 @@ const OTHER_KEY: &str = "A file with a second key, accepted too while the cluste
 const NEW_STARTS: &str =
     "Creates a missing file of starts beside a store that isn't new: it was lost, or the node had no key";
 
-const QUIET: &str = "Prints only warnings and errors on standard error";
+const QUIET: &str = "Prints only warnings, errors and changes of health on standard error";
 
 const UNSEALED: &str =
     "Doesn't warn of a missing key: IPsec, WireGuard or the like authenticates datagrams";

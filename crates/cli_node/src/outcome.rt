@@ -3,7 +3,7 @@
 ghost use Rattle.std.specs.Prelude.{◌≡◌, ◌≢◌, IfOk, string_bytes};
 ghost use Rattle.cli_node.specs.declared.outcome.Outcome.TheVariants.{Front, Asked, Refused, RefusedLine};
 ghost use Rattle.cli_node.specs.Outcomes.{line_of, status_of, Wrote};
-ghost use Rattle.cli_node.specs.inner.Outcomes.{numbered, outcome_of, ending_of, answer_outcome, ended_outcome};
+ghost use Rattle.cli_node.specs.Endings.{numbered, outcome_of, ending_of, answer_outcome, ended_outcome};
 
 use cli_files::key_text;
 use cli_io::{Status, out_of_memory, write_bytes};

@@ -3,7 +3,7 @@
 ghost use Rattle.std.specs.Prelude.{◌≡◌, ◌⊎◌, ◌||◌, ◌<◌, ◌++◌, Ok, Err, Some, true, codes};
 ghost use Rattle.std.specs.Prelude.{OnErr, IfOk, IfSome, option_map, is_some};
 ghost use Rattle.cli_node.specs.declared.outcome.Outcome.TheVariants.{Memory, Refused, Sound};
-ghost use Rattle.cli_node.specs.inner.Stores.{is_made};
+ghost use Rattle.cli_node.specs.Stores.{is_made};
 
 use crate::faults::log_unusable;
 use crate::files::NodeFiles;

@@ -6,28 +6,27 @@ ghost use Rattle.std.specs.List.{All};
 ghost use Rattle.cli_files.specs.Clusters.{IsClusterKey, IsKeyOfFile};
 ghost use Rattle.cli_node.specs.declared.outcome.Outcome.TheVariants.{Memory, Refused};
 ghost use Rattle.cli_node.specs.declared.settings.TheConstants.{UNREADABLE};
-ghost use Rattle.cli_node.specs.inner.Doing.{Adds, GaveSo, NodeEvent, Ran, Checked};
-ghost use Rattle.cli_node.specs.inner.Places.{has_place};
-ghost use Rattle.cli_node.specs.inner.Running.{Anything, EndsNode, hears_asks};
-ghost use Rattle.cli_node.specs.inner.Secrets.{AreNamed};
-ghost use Rattle.cli_node.specs.inner.Settled.{AreOfText, AreSettings, IsNode, IsSettled, IsSettledOr, IsUnread};
-ghost use Rattle.cli_node.specs.inner.Settled.{IsUnsettled, members_for, settings_code, settings_outcome};
+ghost use Rattle.cli_node.specs.Doing.{Adds, GaveSo, NodeEvent, Ran, Checked};
+ghost use Rattle.cli_node.specs.Places.{has_place};
+ghost use Rattle.cli_node.specs.MemberRuns.{Anything, EndsNode, hears_asks};
+ghost use Rattle.cli_node.specs.Secrets.{AreNamed};
+ghost use Rattle.cli_node.specs.Settled.{AreOfText, AreSettings, IsNode, IsSettled, IsSettledOr, IsUnread};
+ghost use Rattle.cli_node.specs.Settled.{IsUnsettled, members_for, settings_code, settings_outcome};
 ghost use Rattle.clap.specs.Words.{first_of, found_of, rows_of};
-ghost use Rattle.cli_node.specs.inner.Stores.{IsStoreless};
+ghost use Rattle.cli_node.specs.Stores.{IsStoreless};
 
-use crate::check::check_outcome;
+use crate::check::check_node;
 use crate::node::{NodeArguments, run_node};
 use crate::outcome::Outcome;
 use clap::ArgMatches;
 use cli_files::{FileFault, NodeFile};
-use cli_io::{InputFault, Shown, Sources, has_flag, number_in, open_regular, value_in};
+use cli_io::{Shown, Sources, has_flag, number_in, value_in};
 use node_loop::TickTimer;
 use px_records::Records;
 use px_store::SqlRecords;
 use sqlite::{File, FileStore};
 use std::alloc::Global;
-use std::fs::Files;
-use std::io::{Eprint, Read};
+use std::io::{Eprint, ErrorKind, Read};
 
 /// A file that can't be read.
 const UNREADABLE: u8 = 90;
@@ -35,27 +34,18 @@ const UNREADABLE: u8 = 90;
 /// A file of settings that is wrong.
 const BAD_SETTINGS: u8 = 92;
 
-/// The bytes of the file at a path, which is a regular one.
-fn bytes_at<RT: Files + Eprint + Sources>(
-    rt: &RT,
-    alloc: Global,
-    path: &str,
-) -> Result<Vec<u8>, Outcome>
+/// The bytes of the regular file at a path; why there are none is logged on standard error.
+fn bytes_at<RT: Eprint + Sources>(rt: &RT, alloc: Global, path: &str) -> Result<Vec<u8>, Outcome>
     ensures read { IfOk result (λ bytes. RT.has rt.now path.now bytes.items) }
     ensures refused { OnErr result ((result ≡ Err Memory) ⊎ (result ≡ Err (Refused UNREADABLE))) }
 {
-    if let Err(error) = open_regular(rt, path) {
-        let _logged = eprintln!(rt; "pfx: error: {}: {error} ({UNREADABLE})", Shown(path));
-        return Err(Outcome::Refused(UNREADABLE));
-    }
-    match rt.source_at(alloc, path) {
+    match rt.file_at(alloc, path) {
         Ok(bytes) => Ok(bytes),
-        Err(InputFault::Memory) => Err(Outcome::Memory),
-        Err(InputFault::Failed | InputFault::TooLong) => {
-            let _logged = eprintln!(rt;
-                "pfx: error: {}: a read failed ({UNREADABLE})",
-                Shown(path)
-            );
+        Err(error) => {
+            if error.kind() == ErrorKind::OutOfMemory {
+                return Err(Outcome::Memory);
+            }
+            let _logged = eprintln!(rt; "pfx: error: {}: {error} ({UNREADABLE})", Shown(path));
             Err(Outcome::Refused(UNREADABLE))
         }
     }
@@ -85,7 +75,7 @@ fn file_refused<RT: Eprint>(rt: &RT, path: &str, fault: FileFault) -> Outcome
 }
 
 /// The settings in a file.
-fn settings_in<RT: Files + Eprint + Sources>(
+fn settings_in<RT: Eprint + Sources>(
     rt: &RT,
     alloc: Global,
     path: &str,
@@ -104,7 +94,7 @@ fn settings_in<RT: Files + Eprint + Sources>(
 }
 
 /// The settings in the file that is named; none without one.
-fn settings_for<RT: Files + Eprint + Sources>(
+fn settings_for<RT: Eprint + Sources>(
     rt: &RT,
     alloc: Global,
     named: Option<&str>,
@@ -208,7 +198,7 @@ impl Nodes for HostRuntime {
     fn check(&mut self, alloc: Global, arguments: NodeArguments<'_, '_, '_>) -> Outcome {
         let rt = *self;
         let mut inspection = rt;
-        check_outcome(&rt, &rt, &rt, &mut inspection, alloc, arguments)
+        check_node(&rt, &rt, &rt, &mut inspection, alloc, arguments)
     }
 }
 
@@ -259,7 +249,7 @@ fn outcome_with<'g: 'f, 'f, RT: Eprint, N: Nodes>(
 
 /// What `node` gives: 90 for a file of settings that can't be read, 92 for one that is wrong or where a setting is
 /// missing; then what a node with these settings gives.
-pub(crate) fn settled_outcome<RT: Files + Eprint + Sources, N: Nodes>(
+pub(crate) fn settled_outcome<RT: Eprint + Sources, N: Nodes>(
     rt: &RT,
     nodes: &mut N,
     alloc: Global,

@@ -9,10 +9,10 @@ ghost use Rattle.px_store.specs.Adopting.{Began, IsVerdict, IsSame, LeavesOld};
 ghost use Rattle.px_store.specs.View.{connection_of, IsOpened};
 ghost use Rattle.cli_node.specs.declared.outcome.Outcome.TheVariants.{Memory, Refused};
 ghost use Rattle.cli_node.specs.declared.store.TheConstants.{NO_STORE, FILE_IS_THERE};
-ghost use Rattle.cli_node.specs.inner.Outcomes.{adopt_outcome};
-ghost use Rattle.cli_node.specs.inner.Stores.{identity_at, IsKeptIn, IsOpening, IsRefusal, IsStoreless, IsUnmade};
-ghost use Rattle.cli_node.specs.inner.Stores.{is_made};
-ghost use Rattle.cli_node.specs.inner.Stores.{IsFoundAt, IsNone, found_by, has_no_byte};
+ghost use Rattle.cli_node.specs.Endings.{adopt_outcome};
+ghost use Rattle.cli_node.specs.Stores.{identity_at, IsKeptIn, IsOpening, IsRefusal, IsStoreless, IsUnmade};
+ghost use Rattle.cli_node.specs.Stores.{MayRun, is_made};
+ghost use Rattle.cli_node.specs.Stores.{IsFoundAt, IsNone, found_by, has_no_byte};
 
 use crate::database::{Databases, Seen};
 use crate::faults::{log_closed, log_judged, log_storeless, why_closed};
@@ -240,7 +240,7 @@ pub(crate) fn is_made(is_from_file: bool, is_new: bool, found: Found) -> bool
 }
 
 /// The database where a store is named, by what becomes of what is there.
-#[tactic(auto, using(crate::proofs::Stores::by_opening, crate::proofs::Stores::by_file, crate::proofs::Stores::by_making, crate::proofs::Stores::none_opened, crate::proofs::Stores::none_made, crate::proofs::Stores::none_at))]
+#[tactic(auto, using(crate::proofs::Stores::by_opening, crate::proofs::Stores::by_file, crate::proofs::Stores::by_making, crate::proofs::Stores::none_opened, crate::proofs::Stores::none_made, crate::proofs::Stores::none_at, crate::proofs::Stores::may_open, crate::proofs::Stores::may_make))]
 fn open_store<D: Databases>(
     rt: &HostRuntime,
     dbs: &D,
@@ -255,6 +255,7 @@ fn open_store<D: Databases>(
         (state ⟦<FileStore<File> as Store>⟧ c).in_transaction) }
     ensures lost { arguments.entry.is_from_file ≡ true → arguments.entry.is_new ≡ false →
         (found ≡ Found.Nothing) ⊎ (found ≡ Found.Empty) → result ≡ Err (Refused NO_STORE) }
+    ensures may { IfOk result (λ c. MayRun arguments.entry.is_from_file arguments.entry.is_new found) }
     ensures held { arguments.entry.is_new ≡ true → found ≡ Found.Store → result ≡ Err (Refused FILE_IS_THERE) }
     ensures none { result ≡ Err (Refused NO_STORE) → IsNone found }
     ensures unfailed { OnErr result (result ≢ Err (Refused 80)) }
@@ -305,6 +306,7 @@ pub(crate) fn record_at<D: Databases>(
     ensures begins { IfOk result (λ r. ⟦<SqlRecords<FileStore<File>> as Records>⟧.failed r ≡ 0) }
     ensures rows { IfOk result
         (IsKeptIn ⟦<FileStore<File> as Store>⟧ (D.holds dbs.now arguments.entry.store.now)) }
+    ensures may { IfOk result (λ r. MayRun arguments.entry.is_from_file arguments.entry.is_new found) }
     ensures refused { IfErr result (IsStoreless arguments.entry.is_from_file arguments.entry.is_new) }
     ensures kind { IfErr result IsRefusal }
     ensures none { result ≡ Err (Refused NO_STORE) → IsNone found }

@@ -4,7 +4,6 @@ use Rattle.clap.specs.Words.{App, Row, Text, new_app, with_rule}
 use Rattle.pf_arguments.specs.Options.{with_pfctl}
 use Rattle.cli_io.specs.Given.{program_of, given_with}
 use Rattle.cli_io.specs.Options.{flag_rule, needed_rule, number_rule, value_rule}
-use Rattle.cli_show.specs.declared.arguments.TheConstants.{POSITIONS}
 
 -- --store FILE [--nft --interfaces FILE] [--pf]
 abbrev pub with_store : App → App
@@ -18,8 +17,8 @@ with_store app =
 abbrev pub with_log : App → App
 with_log app =
     let script = with_rule app (flag_rule (codes "script")) in
-    let from = with_rule script (number_rule (codes "from") 0 POSITIONS) in
-    with_rule from (number_rule (codes "count") 0 POSITIONS)
+    let from = with_rule script (number_rule (codes "from") 0 1000000) in
+    with_rule from (number_rule (codes "count") 0 1000000)
 
 -- show --store FILE, with these options and pfctl's
 abbrev pub show_app : App

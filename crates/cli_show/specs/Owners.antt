@@ -9,7 +9,6 @@ use Rattle.px_wire.specs.declared.membership.Membership.{Membership}
 use Rattle.px_store.specs.Seen.{is_number, number_in}
 use Rattle.px_store.specs.Judging.{is_member_of}
 use Rattle.px_store.specs.declared.calls.Identity.{Identity}
-use Rattle.cli_show.specs.declared.owner.TheConstants.{FORMAT, TABLES}
 use Rattle.cli_show.specs.declared.store.Closed.{Closed}
 use Rattle.cli_show.specs.declared.store.Closed.TheVariants as closed
 
@@ -21,7 +20,7 @@ identity_of m = record { cluster = m.cluster; members = m.members; node = m.me }
 
 -- the store has format 3
 abbrev pub is_three : Row → Bool
-is_three r = is_number (column r 0) && nat_eq (number_in (column r 0)) FORMAT
+is_three r = is_number (column r 0) && nat_eq (number_in (column r 0)) 3
 
 abbrev pub identity_in : Row → Identity
 identity_in r =
@@ -77,5 +76,5 @@ IsUnanswered given came (closed.Refused code) =
 -- The owner isn't known: 73 where there aren't four tables, else as the database answers.
 abbrev pub IsUnowned : (given came : State) → Closed → Type 0
 IsUnowned given came closed.Memory = Unit {0}
-IsUnowned given came (closed.Refused code) = ((code ≡ 73) × (length given.now.schema.tables ≢ TABLES))
+IsUnowned given came (closed.Refused code) = ((code ≡ 73) × (length given.now.schema.tables ≢ 4))
     ⊎ (IsUnanswered given came (closed.Refused code) ⊎ AnswersOwner given came (Err code))

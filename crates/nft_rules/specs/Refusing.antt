@@ -7,7 +7,6 @@ use Rattle.nft_rules.specs.Subset.{ChainName, Base, Statement, Ends, Jump, NftRu
 use Rattle.nft_rules.specs.Evaluation.{is_chain, rules_in}
 use Rattle.nft_rules.specs.Rendering.{Machine, rendered}
 use Rattle.nft_rules.specs.Deciding.{some_leads_back}
-use Rattle.nft_rules.specs.declared.rendering.TheConstants.{ASKED_MAX}
 -- a rule leads back to the anchor that holds it; a packet would be asked of too many rules; out of memory
 pub use Rattle.nft_rules.specs.declared.rendering.RenderFault.{RenderFault}
 pub use Rattle.nft_rules.specs.declared.rendering.RenderFault.TheVariants.{LeadsBack, Costly, Memory}
@@ -32,11 +31,11 @@ most_asked (suc depth) r name = asked_in (most_asked depth r) (rules_in (find (i
 
 -- from the hook on; jumps nest less than 10 deep
 abbrev pub is_costly : NftRuleset → Bool
-is_costly r = nat_lt ASKED_MAX (most_asked 10 r Base)
+is_costly r = nat_lt 100000 (most_asked 10 r Base)
 
 -- ---- what is rendered
 
--- the ruleset, or a refusal where a packet may be asked of more than ASKED_MAX rules
+-- the ruleset, or a refusal where a packet may be asked of more than 100000 rules
 -- Example: 100,000 rules aren't too many.
 abbrev pub unless_costly : NftRuleset → Result NftRuleset RenderFault
 unless_costly r = if is_costly r then Err Costly else Ok r

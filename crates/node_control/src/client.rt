@@ -65,6 +65,11 @@ impl Client {
     pub(crate) fn new(alloc: Global, keys: RandomState, stream: Stream, now: u64) -> Client
         ensures times { (result.moved ≡ now) × (result.began ≡ Some now) × (result.served ≡ 0) }
         ensures body { (config_of result.connection).max_body_len ≡ BODY }
+        ensures head { ((config_of result.connection).limits.max_head_len ≡ 16384) ×
+            ((config_of result.connection).limits.max_extensions_len ≡ 16384) ×
+            ((config_of result.connection).limits.max_trailers_len ≡ 16384) }
+        ensures pending { (config_of result.connection).max_pending ≡ 0 }
+        ensures read { (config_of result.connection).read_size ≡ READ }
     {
         let config = Config {
             max_body_len: BODY,

@@ -87,6 +87,7 @@ struct Entrance {
 }
 
 /// The control socket of a node.
+#[derive(Drop)]
 pub struct ControlSocket {
     operators: Entrance,
     figures: Option<Entrance>,
@@ -96,19 +97,6 @@ pub struct ControlSocket {
     is_figures_first: bool,
     /// The node's health as it was reported last.
     health: Health,
-}
-
-impl Drop for ControlSocket {
-    fn drop(self) {
-        let ControlSocket {
-            operators: _,
-            figures: _,
-            poll: _,
-            events: _,
-            is_figures_first: _,
-            health: _,
-        } = self;
-    }
 }
 
 /// What is at the paths of control sockets.

@@ -33,7 +33,7 @@
 //! - **Metrics over TCP are a second entrance of the same control socket** (`--metrics`), at an address of this machine
 //!   alone and with clients of its own, so those who connect there keep no operator out. The request handler sees what
 //!   comes there only if it is a read of one of three paths, so nothing changes there. Without `--control` there is no
-//!   such port (status 2).
+//!   such port, and `--metrics` is refused.
 //! - **A node that hears no majority warns on standard error by the observer**, with a control socket and without one,
 //!   from the heads of what the node accepted; the health is `alone` then. The same reports when it has caught up, and,
 //!   by the positions of others' datagrams, that the log nears its end: a cluster of one doesn't report that, but its

@@ -10,7 +10,7 @@ ghost use Rattle.node_requests.specs.Routing.{routed_value};
 ghost use Rattle.node_control.specs.inner.Answering.{standing_fields, answer_fields, content_type};
 ghost use Rattle.node_control.specs.inner.Asking.{accepts_json, asked_for, is_of_figures};
 ghost use Rattle.node_control.specs.inner.Handling.{Says, IsAnswered, IsKept, IsTurnedAway, IsPassedOn, HandledAs};
-ghost use Rattle.node_control.specs.inner.Handling.{IsHandled};
+ghost use Rattle.node_control.specs.inner.Handling.{IsHandled, counted_as};
 ghost use Rattle.node_control.specs.inner.Handling.{is_served, is_urgent, is_change, is_read};
 ghost use Rattle.node_control.specs.inner.Handling.{waiting, no_text, not_found};
 
@@ -250,6 +250,7 @@ impl<R: Records> HttpService<R> {
 
     /// Counts an answer.
     pub(crate) fn count(&mut self, status: u16)
+        ensures counted { self.new.counters ≡ counted_as self.old.is_scraped status self.old.counters }
         ensures handler { self.new.handler ≡ self.old.handler }
         ensures scraped { self.new.is_scraped ≡ self.old.is_scraped }
         ensures kept { IsKept self.old self.new }

@@ -36,11 +36,14 @@ impl Stream {
         }
     }
 
-    /// Reads and writes don't wait from now on.
+    /// Reads and writes don't wait from now on, and what is written goes at once.
     fn hasten(&self) -> io::Result<()> {
         match self {
             Stream::Local(stream) => stream.set_nonblocking(true),
-            Stream::Tcp(stream) => stream.set_nonblocking(true),
+            Stream::Tcp(stream) => {
+                stream.set_nonblocking(true)?;
+                stream.set_nodelay(true)
+            }
         }
     }
 

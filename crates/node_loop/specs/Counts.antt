@@ -8,7 +8,6 @@ use Rattle.px_replica.specs.declared.datagram.Datagram.{Datagram}
 use Rattle.px_wire.specs.Message.{Group}
 use Rattle.node_loop.specs.Resending.{IsOutside}
 use Rattle.node_loop.specs.declared.counts.RoundCounts.{RoundCounts}
-use Rattle.node_loop.specs.declared.packet.TheConstants.{MEMBERS}
 
 -- one more, up to 2^32 - 1
 abbrev pub one_more : ℕ → ℕ
@@ -22,7 +21,7 @@ nothing_of me = record {
   dropped = 0;
   answered = 0;
   unsent = 0;
-  sent = replicate MEMBERS 0;
+  sent = replicate 15 0;
   longest = 0;
 }
 
@@ -49,7 +48,7 @@ handed_to false to n c = c
 -- one of n bytes was handed over, and was sent or not
 abbrev pub one_out : (to bytes : ℕ) → (is_sent : Bool) → RoundCounts → RoundCounts
 one_out to n is_sent c =
-    handed_to (nat_lt to MEMBERS) to n (record c { unsent = if is_sent then c.unsent else one_more c.unsent })
+    handed_to (nat_lt to 15) to n (record c { unsent = if is_sent then c.unsent else one_more c.unsent })
 
 -- the counts without those that weren't sent
 abbrev pub but_unsent : RoundCounts → RoundCounts

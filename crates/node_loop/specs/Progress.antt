@@ -1,7 +1,7 @@
 -- What is seen of the other members' progress. The timer is given the time, the node's state, and this; so a
 -- datagram that is nobody's changes nothing of it.
-use Rattle.std.specs.Prelude.{◌≡◌, ◌⊎◌, ℕ, zero, suc, ◌+◌, ◌==◌, true, false}
-use Rattle.std.specs.Prelude.{List, Option, Some, None, min, max, replicate, slice_set, if◌then◌else◌}
+use Rattle.std.specs.Prelude.{◌≡◌, ◌⊎◌, ℕ, zero, suc, ◌+◌, ◌-◌, ◌==◌, ◌&&◌, true, false, nat_le, nat_lt}
+use Rattle.std.specs.Prelude.{List, Option, Some, None, min, max, replicate, slice_get, slice_set, if◌then◌else◌}
 use Rattle.px_model.specs.Spelling.{Bytes}
 use Rattle.px_records.specs.declared.records.Records.{Ghosts}
 use Rattle.px_wire.specs.Message.{Message, group, DatagramBytes}
@@ -36,6 +36,14 @@ heads_in buffers = buffers.heads.items
 -- what went over the wire in the last round
 abbrev pub counts_in : TurnBuffers → RoundCounts
 counts_in buffers = buffers.counts
+
+-- the position from which on a member is to be sent what it lacks, where it lacks any below the front
+abbrev pub lacked_at : (front : ℕ) → Option ℕ → Option ℕ
+lacked_at front None = None
+lacked_at front (Some next) = if nat_lt 0 next && nat_le next front then Some (next - 1) else None
+
+abbrev pub lacked : (member front : ℕ) → PeerProgress → Option ℕ
+lacked member front s = lacked_at front (slice_get s.lacking member)
 
 -- ---- what a message shows of its sender
 
@@ -99,6 +107,10 @@ noted_if h (Some p) s = noted h p s
 -- what is seen once a message with this head has come: how far its sender is, and what it shows besides
 abbrev pub shown_by : Head → PeerProgress → PeerProgress
 shown_by h s = noted_if h h.position (reaching (learned_below h) s)
+
+-- nothing was seen
+abbrev pub unseen : PeerProgress
+unseen = record { reached = 0; has_learned = false; accepting = 0; lacking = replicate 15 0 }
 
 -- what was seen, once it was looked at: how far others are stays
 abbrev pub looked : PeerProgress → PeerProgress

@@ -20,6 +20,10 @@ me_of r = r.me
 abbrev pub members_of : Resender → ℕ
 members_of r = r.members
 
+-- the time that it was told last
+abbrev pub time_of : Resender → ℕ
+time_of r = r.now
+
 -- what may be handed over again: the accept requests and votes of the last proposal, and the votes before
 abbrev pub kept_of : Resender → List Addressed
 kept_of r = sent_in r.latest ++ votes_in r.votes

@@ -1,9 +1,10 @@
 //! When a node's clock ticks.
 
-ghost use Rattle.std.specs.Prelude.{◌≡◌, ◌≤◌, ◌<◌, ◌+◌, ◌/◌, false, max};
+ghost use Rattle.std.specs.Prelude.{◌≡◌, ◌⊎◌, ◌≤◌, ◌<◌, ◌+◌, ◌/◌, true, false, max, nat_le, nat_lt};
 ghost use Rattle.node_loop.specs.Pacing.{AreTimes, IfTicks, IfWaits, answer_of, front_of, hold_of, is_listening, later};
 ghost use Rattle.node_loop.specs.Timing.{IsShort};
-ghost use Rattle.node_loop.specs.Pacing.{IsStarted, latest_of, moved_of, patience_of, rest_of, ticked_of};
+ghost use Rattle.node_loop.specs.Pacing.{IsAsBefore, IsStarted, answered, is_behind_of, is_ending_of, is_proposing_of};
+ghost use Rattle.node_loop.specs.Pacing.{latest_of, moved_of, patience_of, repeat_at, rest_of, ticked_of};
 
 use crate::tick_timer::TickTimer;
 use crate::timer::{Action, Timer, View};
@@ -86,6 +87,7 @@ impl TickTimer {
     /// The accept requests of an attempt were sent.
     fn accept(&mut self, now: u64)
         ensures times { AreTimes self.old self.new }
+        ensures as_before { IsAsBefore self.old self.new }
         ensures me { self.new.me ≡ self.old.me }
         ensures measured { (self.new.trip ≡ self.old.trip) × (self.new.answer ≡ self.old.answer) }
         ensures asks { self.new.asks ≡ self.old.asks }
@@ -97,7 +99,9 @@ impl TickTimer {
     }
 
     /// When what was sent is sent again.
-    fn next_repeat(&self) -> u64 {
+    fn next_repeat(&self) -> u64
+        ensures { result ≡ repeat_at self.now }
+    {
         if self.repeats >= REPEATS {
             return u64::MAX;
         }
@@ -112,6 +116,7 @@ impl TickTimer {
     /// Nothing that was sent so far is to be sent again.
     fn forget(&mut self)
         ensures times { AreTimes self.old self.new }
+        ensures as_before { IsAsBefore self.old self.new }
         ensures me { self.new.me ≡ self.old.me }
     {
         self.repeats = REPEATS;
@@ -121,6 +126,7 @@ impl TickTimer {
     /// The front moved: whatever was attempted led to something.
     fn end_attempt(&mut self, now: u64)
         ensures times { AreTimes self.old self.new }
+        ensures as_before { IsAsBefore self.old self.new }
     {
         if self.is_proposing {
             self.succeed(now);
@@ -136,6 +142,7 @@ impl TickTimer {
         ensures moved { self.new.moved ≡ now }
         ensures ticked { self.new.ticked ≡ self.old.ticked }
         ensures front { self.new.front ≡ front }
+        ensures as_before { IsAsBefore self.old self.new }
     {
         self.front = front;
         self.moved = now;
@@ -158,6 +165,9 @@ impl TickTimer {
         ensures ticked { self.new.ticked ≡ self.old.ticked }
         ensures front { self.new.front ≡ view.front }
         ensures rest { view.front ≡ self.old.front → self.new.rest ≡ self.old.rest }
+        ensures kept { (self.old.is_proposing ≡ false) ⊎ (view.is_attempting ≡ true) → self.new.hold ≤ self.old.hold }
+        ensures moves { view.front ≡ self.old.front → self.new.moved ≡ self.old.moved }
+        ensures as_before { IsAsBefore self.old self.new }
     {
         if view.front != self.front {
             self.end_attempt(now);
@@ -176,6 +186,7 @@ impl TickTimer {
     /// was lost before.
     fn promised(&mut self, now: u64)
         ensures times { AreTimes self.old self.new }
+        ensures as_before { IsAsBefore self.old self.new }
     {
         self.time_answer(now.saturating_sub(self.ticked));
         self.accept(now);
@@ -188,6 +199,9 @@ impl TickTimer {
         ensures rest { self.new.rest ≡ self.old.rest }
         ensures ticked { self.new.ticked ≡ self.old.ticked }
         ensures front { self.new.front ≡ self.old.front }
+        ensures behind { self.new.is_behind ≡ nat_lt view.front view.reached }
+        ensures ending { self.new.is_ending ≡ self.old.is_ending }
+        ensures moves { self.old.is_behind ≡ true → self.new.moved ≡ self.old.moved }
     {
         let is_behind = view.reached > view.front;
         if is_behind && !self.is_behind {
@@ -199,6 +213,7 @@ impl TickTimer {
     /// The time of an attempt: a longer one counts half, a shorter one an eighth.
     fn measure(&mut self, now: u64)
         ensures times { AreTimes self.old self.new }
+        ensures as_before { IsAsBefore self.old self.new }
     {
         let sample = now.saturating_sub(self.ticked).max(TRIPS.0).min(TRIPS.1);
         if sample > self.trip {
@@ -210,7 +225,9 @@ impl TickTimer {
 
     /// The time that an answer took which was asked for once: it counts half.
     fn time_answer(&mut self, time: u64)
+        ensures answer { self.new.answer ≡ answered time self.old.answer }
         ensures times { AreTimes self.old self.new }
+        ensures as_before { IsAsBefore self.old self.new }
     {
         let sample = time.max(TRIPS.0).min(TRIPS.1);
         self.answer = self.answer / 2 + sample / 2;
@@ -221,6 +238,7 @@ impl TickTimer {
     /// answer took to what was sent again.
     fn succeed(&mut self, now: u64)
         ensures times { AreTimes self.old self.new }
+        ensures as_before { IsAsBefore self.old self.new }
     {
         if self.is_timed {
             self.time_answer(now.saturating_sub(self.accepting));
@@ -234,6 +252,7 @@ impl TickTimer {
     /// An attempt failed.
     fn lose(&mut self)
         ensures times { AreTimes self.old self.new }
+        ensures as_before { IsAsBefore self.old self.new }
         ensures me { self.new.me ≡ self.old.me }
         ensures measured { (self.new.trip ≡ self.old.trip) × (self.new.answer ≡ self.old.answer) }
     {
@@ -247,6 +266,7 @@ impl TickTimer {
         ensures ticked { self.new.ticked ≡ self.old.ticked }
         ensures front { self.new.front ≡ self.old.front }
         ensures rest { self.new.rest ≡ self.old.rest }
+        ensures as_before { IsAsBefore self.old self.new }
     {
         self.drawn = self.draw(now);
         self.is_refused = true;
@@ -377,6 +397,7 @@ impl TickTimer {
         ensures front { self.new.front ≡ self.old.front }
         ensures ticked { self.new.ticked ≡ now }
         ensures rest { self.new.rest ≡ later now (self.new.answer / 5) }
+        ensures as_before { IsAsBefore self.old self.new }
     {
         let asks = now.saturating_add(IDLE);
         let rest = now.saturating_add(self.answer / TICKS);
@@ -388,6 +409,7 @@ impl TickTimer {
     /// What was seen as it ticked, and whether it proposes, is noted.
     fn note(&mut self, view: View)
         ensures times { AreTimes self.old self.new }
+        ensures as_before { IsAsBefore self.old self.new }
     {
         self.is_first = !view.is_attempting;
         self.is_proposing = view.waiting > 0;
@@ -400,6 +422,7 @@ impl TickTimer {
     /// An attempt that was under way is given up.
     fn give_up(&mut self, view: View)
         ensures times { AreTimes self.old self.new }
+        ensures as_before { IsAsBefore self.old self.new }
     {
         if view.is_attempting {
             self.lose();
@@ -410,6 +433,7 @@ impl TickTimer {
     /// Whether accept requests go out with this tick is noted.
     fn begin(&mut self, now: u64, view: View)
         ensures times { AreTimes self.old self.new }
+        ensures as_before { IsAsBefore self.old self.new }
     {
         if view.waiting > 0 && self.is_leading {
             self.accept(now);
@@ -425,6 +449,7 @@ impl TickTimer {
         ensures front { self.new.front ≡ self.old.front }
         ensures ticked { self.new.ticked ≡ now }
         ensures rest { self.new.rest ≡ later now (self.new.answer / 5) }
+        ensures as_before { IsAsBefore self.old self.new }
     {
         self.give_up(view);
         self.note(view);
@@ -454,6 +479,13 @@ impl Timer for TickTimer {
         ensures ticked { IfTicks result (ticked_of self.new ≡ now) }
         ensures waits { IfWaits result (view.front ≡ front_of self.old → rest_of self.new ≡ rest_of self.old) }
         ensures still { IfWaits result (ticked_of self.new ≡ ticked_of self.old) }
+        // Commands are accepted again once the front is there, and a hold begins with a refusal alone.
+        ensures behind { is_behind_of self.new ≡ nat_lt view.front view.reached }
+        ensures ending { is_ending_of self.new ≡ is_ending_of self.old }
+        ensures moves { view.front ≡ front_of self.old → is_behind_of self.old ≡ true →
+            moved_of self.new ≡ moved_of self.old }
+        ensures kept { (is_proposing_of self.old ≡ false) ⊎ (view.is_attempting ≡ true) →
+            hold_of self.new ≤ hold_of self.old }
     {
         self.look(now, view);
         self.compare(now, view);
@@ -469,6 +501,7 @@ impl Timer for TickTimer {
 
     fn sent(&mut self, now: u64)
         ensures times { AreTimes self.old self.new }
+        ensures as_before { IsAsBefore self.old self.new }
     {
         self.repeated = now;
         self.repeats = 0;
@@ -476,7 +509,9 @@ impl Timer for TickTimer {
     }
 
     fn repeats(&mut self, now: u64) -> bool
+        ensures due { result ≡ nat_le (repeat_at self.old) now }
         ensures times { AreTimes self.old self.new }
+        ensures as_before { IsAsBefore self.old self.new }
     {
         if now < self.next_repeat() {
             return false;
@@ -490,6 +525,8 @@ impl Timer for TickTimer {
 
     fn end(&mut self)
         ensures times { AreTimes self.old self.new }
+        ensures ended { is_ending_of self.new ≡ true }
+        ensures behind { is_behind_of self.new ≡ is_behind_of self.old }
     {
         self.is_ending = true;
     }

@@ -1,7 +1,8 @@
 //! What messages show of how far other members are.
 
 ghost use Rattle.std.specs.Prelude.{◌≡◌};
-ghost use Rattle.node_loop.specs.Progress.{shown_by, noted, looked, reaching, lacking, with_learned, accepting};
+ghost use Rattle.node_loop.specs.Progress.{shown_by, noted, looked, reaching, lacking, lacked, with_learned, accepting};
+ghost use Rattle.node_loop.specs.Progress.{unseen};
 
 use px_wire::{Head, Kind};
 
@@ -22,7 +23,9 @@ pub(crate) struct PeerProgress {
 
 impl PeerProgress {
     /// Nothing was seen.
-    pub(crate) fn new() -> PeerProgress {
+    pub(crate) fn new() -> PeerProgress
+        ensures { result ≡ unseen }
+    {
         PeerProgress {
             reached: 0,
             has_learned: false,
@@ -44,7 +47,9 @@ impl PeerProgress {
     }
 
     /// The position from which on this member is to be sent what it lacks, if it lacks any of those below the front.
-    pub(crate) fn lacks(&self, member: u8, front: u32) -> Option<u32> {
+    pub(crate) fn lacks(&self, member: u8, front: u32) -> Option<u32>
+        ensures { result ≡ lacked member front self.now }
+    {
         match self.lacking.get(usize::from(member)) {
             Some(&next) => {
                 if next > 0 && next <= front {

@@ -8,7 +8,7 @@ ghost use Rattle.px_wire.specs.Heads.{head_of};
 ghost use Rattle.px_wire.specs.Message.{Group, Message, DatagramBytes};
 ghost use Rattle.node_loop.specs.Proposals.{proposal_of};
 ghost use Rattle.node_loop.specs.Resends.{HandsVote, IsBounded, kept_of, latest_of, me_of, members_of, position_of};
-ghost use Rattle.node_loop.specs.Resends.{requests_of};
+ghost use Rattle.node_loop.specs.Resends.{requests_of, time_of};
 
 use crate::state::{Latest, Votes};
 use px_transport::Wire;
@@ -29,6 +29,7 @@ use std::alloc::{AllocError, Global};
 /// accepts: those that it wasn't sent again yet where it comes on, and all where it doesn't, or comes on by just one
 /// three times in a row, each 20 ms at most. The votes that the member sent to itself are among these, since it drops
 /// those outside its window: [`Resender::repeat_own`] hands it those again that its window has reached.
+#[derive(Drop)]
 pub struct Resender {
     me: u8,
     members: u8,
@@ -38,23 +39,12 @@ pub struct Resender {
     votes: Votes,
 }
 
-impl Drop for Resender {
-    fn drop(self) {
-        let Resender {
-            me: _,
-            members: _,
-            now: _,
-            latest: _,
-            votes: _,
-        } = self;
-    }
-}
-
 impl Resender {
     /// Keeps nothing yet, of a member of a group of that many. Allocates nothing.
     pub fn new(alloc: Global, members: u8, me: u8) -> Resender
         ensures kept { kept_of result ≡ [] }
         ensures request { requests_of result ≡ [] }
+        ensures of { (me_of result ≡ me) × (members_of result ≡ members) }
     {
         Resender {
             me,
@@ -69,6 +59,8 @@ impl Resender {
     pub fn set_time(&mut self, now: u64)
         ensures kept { kept_of self.new ≡ kept_of self.old }
         ensures request { requests_of self.new ≡ requests_of self.old }
+        ensures of { (me_of self.new ≡ me_of self.old) × (members_of self.new ≡ members_of self.old) }
+        ensures time { time_of self.new ≡ now }
     {
         self.now = now;
     }

@@ -4,7 +4,7 @@ ghost use Rattle.std.specs.Prelude.{◌≡◌, ◌≤◌, ◌+◌, ℕ, Bool, Li
 ghost use Rattle.px_replica.specs.Faults.{fault_of};
 ghost use Rattle.px_transport.specs.Wires.{Adds, Moves, WireEvent};
 ghost use Rattle.node_loop.specs.Again.{HandsAgain};
-ghost use Rattle.node_loop.specs.Resends.{kept_of, requests_of};
+ghost use Rattle.node_loop.specs.Resends.{kept_of, requests_of, time_of};
 ghost use Rattle.pf_node.specs.Nodes.{applied_of, replica_of, state_in};
 ghost use Rattle.node_loop.specs.Counting.{CountsRound, CountsTickedIf};
 ghost use Rattle.node_loop.specs.Counts.{nothing_of};
@@ -188,6 +188,7 @@ fn begin(buffers: &mut TurnBuffers, now: u64)
     ensures hears { buffers.new.hears_asks ≡ buffers.old.hears_asks }
     ensures unseen { seen_in buffers.new ≡ seen_in buffers.old }
     ensures counts { counts_in buffers.new ≡ nothing_of (counts_in buffers.old).me }
+    ensures time { time_of buffers.new.resender ≡ now }
 {
     buffers.counts = buffers.counts.next();
     buffers.resender.set_time(now);

@@ -28,10 +28,7 @@ impl<C: Clock> Stopwatch for SystemClock<'_, C> {
     ghost readings = { λ _ _. ⊤ };
 
     fn read(&mut self) -> Option<Instant> {
-        match Instant::now(self.clock) {
-            Ok(now) => Some(now),
-            Err(_) => None,
-        }
+        Instant::now(self.clock).ok()
     }
 }
 

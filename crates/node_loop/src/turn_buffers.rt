@@ -2,7 +2,7 @@
 
 ghost use Rattle.std.specs.Prelude.{◌≡◌, [], IfOk, length};
 ghost use Rattle.node_loop.specs.Counts.{nothing_of};
-ghost use Rattle.node_loop.specs.Resends.{kept_of, requests_of};
+ghost use Rattle.node_loop.specs.Resends.{kept_of, me_of, members_of, requests_of};
 
 use crate::counts::RoundCounts;
 use crate::peer_progress::PeerProgress;
@@ -54,6 +54,7 @@ impl TurnBuffers {
     pub fn new(alloc: Global, m: &Membership, hears_asks: bool) -> Result<TurnBuffers, AllocError>
         ensures kept { IfOk result (λ r. kept_of r.resender ≡ []) }
         ensures requests { IfOk result (λ r. requests_of r.resender ≡ []) }
+        ensures of { IfOk result (λ r. (me_of r.resender ≡ m.now.me) × (members_of r.resender ≡ m.now.members)) }
         ensures hears { IfOk result (λ r. r.hears_asks ≡ hears_asks) }
         ensures counts { IfOk result (λ r. r.counts ≡ nothing_of m.now.me) }
     {

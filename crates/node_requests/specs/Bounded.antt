@@ -6,7 +6,6 @@ use Rattle.pf_rules.specs.Names.{begins_below}
 use Rattle.pf_rules.specs.Items.{AnyRule, FilterRule, AnchorRule, Target}
 use Rattle.pf_config.specs.Map.{Configuration, Path, rules_at, kids, followed_by}
 use Rattle.pf_config.specs.Trees.{last_name}
-use Rattle.node_requests.specs.declared.bounded.TheConstants.{DEEPEST, MET_MAX, NESTED}
 use Rattle.node_requests.specs.Answers.{AnswerValue, refused, verdicts}
 
 -- a rule counts one, and an anchor rule also all that its target has
@@ -19,10 +18,10 @@ abbrev pub met_in : (within : Target → ℕ) → List AnyRule → ℕ
 met_in within [] = 0
 met_in within (rule ∷ rules) = met_by within rule + met_in within rules
 
--- what an anchor has, nothing where its path is deeper than DEEPEST names, which are 8
+-- what an anchor has, nothing where its path is deeper than 8 names
 -- Example: main with 16 rules anchor "a", and a with 16 rules: 272.
 abbrev pub met_at : (Path → ℕ) → Path → ℕ
-met_at at p = if nat_le (length p) DEEPEST then at p else 0
+met_at at p = if nat_le (length p) 8 then at p else 0
 
 -- an attached anchor counts one, and what it has, but for an unnamed block
 abbrev pub met_member : (Path → ℕ) → Path → ℕ
@@ -47,10 +46,10 @@ unfoldable pub most_met : (depth : ℕ) → Configuration → Path → ℕ
 most_met zero c p = 0
 most_met (suc depth) c p = met_in (met_target (most_met depth c) c p) (rules_at c p)
 
--- how many verdicts meet at most MET_MAX rules together
+-- how many verdicts meet at most 10000 rules together
 -- Example: where a verdict meets 4,000, two packets are answered.
 abbrev pub fitting : Configuration → ℕ
-fitting c = MET_MAX / max (most_met NESTED c []) 1
+fitting c = 10000 / max (most_met 9 c []) 1
 
 -- a line for each packet's text in turn, as far as they fit: the others are to be asked again, and it is 88 where not
 -- even one fits

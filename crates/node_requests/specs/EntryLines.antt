@@ -9,7 +9,6 @@ use Rattle.pf_node.specs.Nodes.{learned_by, applied_of, kept_of}
 use Rattle.pf_node.specs.declared.state.Node.{Node}
 use Rattle.node_requests.specs.Answers.{AnswerValue, shown}
 use Rattle.node_requests.specs.Positions.{log_line}
-use Rattle.node_requests.specs.declared.entries.TheConstants.{ENTRIES_MAX, ENTRIES_BYTES}
 use Rattle.node_requests.specs.declared.entries.Show.{Show}
 use Rattle.node_requests.specs.declared.entries.Show.TheVariants.{Command, Entry}
 
@@ -17,7 +16,7 @@ use Rattle.node_requests.specs.declared.entries.Show.TheVariants.{Command, Entry
 abbrev pub lines_before : (line : ℕ → List ℕ) → (end n : ℕ) → List ℕ → List ℕ
 lines_before line end zero text = text
 lines_before line end (suc n) text =
-    if nat_lt (length text) ENTRIES_BYTES then lines_before line end n (text ++ line (end - suc n)) else text
+    if nat_lt (length text) 262144 then lines_before line end n (text ++ line (end - suc n)) else text
 
 -- ---- what the commands did
 
@@ -25,7 +24,7 @@ lines_before line end (suc n) text =
 -- Example: with 412 applied and no from: 392 to 411.
 abbrev pub lines_from : Log Bytes → (applied kept first : ℕ) → List ℕ
 lines_from log applied kept first =
-    let end = min applied (first + ENTRIES_MAX) in lines_before (log_line log applied kept) end (end - first) []
+    let end = min applied (first + 1000) in lines_before (log_line log applied kept) end (end - first) []
 
 -- where no first position is given, the last 20
 abbrev pub log_answer : {R : Type 0} {G : Ghosts R} → Node R G → Option ℕ → AnswerValue
@@ -51,12 +50,12 @@ entries_before log end n text = lines_before (entry_line log) end n text
 -- Example: with 412 applied, from 410 on: two lines.
 abbrev pub entries_from : Log Bytes → (applied first count : ℕ) → List ℕ
 entries_from log applied first count =
-    let end = min applied (first + min count ENTRIES_MAX) in entries_before log end (end - first) []
+    let end = min applied (first + min count 1000) in entries_before log end (end - first) []
 
 -- the lines from a position on, 0 where it isn't given, and that many, 1,000 where that isn't given
 abbrev pub entries_answer : {R : Type 0} {G : Ghosts R} → Node R G → (from count : Option ℕ) → AnswerValue
 entries_answer n from count =
-    shown (entries_from (learned_by n) (applied_of n) (unwrap_or from 0) (unwrap_or count ENTRIES_MAX))
+    shown (entries_from (learned_by n) (applied_of n) (unwrap_or from 0) (unwrap_or count 1000))
 
 -- ---- what is shown of a position
 

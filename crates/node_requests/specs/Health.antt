@@ -8,7 +8,6 @@ use Rattle.pf_node.specs.Nodes.{learned_by, applied_of, membership_of, has_faile
 use Rattle.pf_node.specs.declared.state.Node.{Node}
 use Rattle.node_requests.specs.declared.counters.PeerCounters.{PeerCounters}
 use Rattle.node_requests.specs.declared.counters.Counters.{Counters}
-use Rattle.node_requests.specs.declared.health.TheConstants.{STUCK}
 use Rattle.node_requests.specs.declared.health.Health.{Health}
 use Rattle.node_requests.specs.declared.health.Health.TheVariants.{Works, Behind, Alone, Stuck, Failed}
 use Rattle.pf_scripts.specs.Lines.{line}
@@ -38,7 +37,7 @@ health_by failed stuck few behind =
 
 -- A node's health, by what was counted. Few are fewer of the others than half of the members, rounded down.
 abbrev pub health : {R : Type 0} {G : Ghosts R} → Node R G → Counters → Health
-health n t = health_by (has_failed n) (nat_le STUCK t.stood)
+health n t = health_by (has_failed n) (nat_le 10 t.stood)
     (nat_lt (counted t.peers.items) ((membership_of n).members / 2))
     (nat_lt (applied_of n) (front (learned_by n)) || is_shown (applied_of n) t.peers.items)
 

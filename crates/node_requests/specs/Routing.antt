@@ -19,7 +19,6 @@ use Rattle.node_requests.specs.declared.request.Request.{Request}
 use Rattle.node_requests.specs.declared.request.Request.TheVariants as request
 use Rattle.node_requests.specs.declared.request.Routed.{Routed}
 use Rattle.node_requests.specs.declared.request.Routed.TheVariants as rust
-use Rattle.node_requests.specs.declared.routing.TheConstants.{PACKETS_MAX}
 use Rattle.node_requests.specs.declared.target.Target.{Target}
 use Rattle.node_requests.specs.declared.target.Target.TheVariants as to
 use Rattle.node_requests.specs.Queries.{number_in, parameters, value_of, position_of, are_parameters}
@@ -123,7 +122,7 @@ looked_up given (Some addresses) = asked (on_table given (codes "test") addresse
 abbrev pub test_of : List (Text × Text) → Option (List Text) → RoutedValue
 test_of given None = Unread 40
 test_of given (Some packets) =
-    if nat_lt 0 (length packets) && nat_le (length packets) PACKETS_MAX then reads given (Verdicts packets)
+    if nat_lt 0 (length packets) && nat_le (length packets) 64 then reads given (Verdicts packets)
     else Unread 40
 
 abbrev pub test_asked : List (Text × Text) → (body : List ℕ) → RoutedValue

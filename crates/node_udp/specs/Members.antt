@@ -3,6 +3,7 @@ use Rattle.std.specs.Prelude.{◌≡◌, ◌⊎◌, ℕ, Bool, List, Option, Som
 use Rattle.std.specs.declared.net.socket_addr.SocketAddr.{SocketAddr}
 use Rattle.std.specs.declared.net.ip_addr.IpAddr.{IpAddr}
 use Rattle.std.specs.declared.net.ip_addr.IpAddr.TheVariants as ips
+use Rattle.std.specs.Duration.{as_nanos}
 use Rattle.std.specs.Net.Addr.{ipv4_bits, ipv6_bits}
 use Rattle.std.specs.Net.Socket.{socket_ip, socket_port}
 use Rattle.pf_addr.specs.declared.addr.Addr.{Addr}
@@ -31,6 +32,10 @@ route_of peers me = (map shown_address peers, me)
 -- where the last datagram came from of which it gave any byte
 abbrev pub last_of : {S C : Type 0} → UdpWire S C → Option SocketAddr
 last_of w = w.last
+
+-- how long a wait is, in nanoseconds
+abbrev pub wait_of : {S C : Type 0} → UdpWire S C → ℕ
+wait_of w = as_nanos w.wait
 
 -- whether it hears clients, from wherever they send
 abbrev pub hears_of : {S C : Type 0} → UdpWire S C → Bool

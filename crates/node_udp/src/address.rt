@@ -77,12 +77,8 @@ fn six(text: &[u8]) -> Option<Addr>
 fn with_port(ip: Option<Addr>, port: &[u8]) -> Option<Address>
     ensures { result ≡ joined ip (number_of 5 65535 port.now) }
 {
-    let Some(ip) = ip else {
-        return None;
-    };
-    let Some(port) = parse_decimal(port, 5, u16::MAX) else {
-        return None;
-    };
+    let ip = ip?;
+    let port = parse_decimal(port, 5, u16::MAX)?;
     if port == 0 {
         return None;
     }

@@ -58,9 +58,7 @@ fn host_port(text: &[u8]) -> Option<u16>
 
 /// The first IPv4 address that the system gives for the name, else the first of any kind.
 fn look_up<R: Net>(rt: &R, host: &str, port: u16) -> Option<Addr> {
-    let Ok(found) = (host, port).to_socket_addrs(rt) else {
-        return None;
-    };
+    let found = (host, port).to_socket_addrs(rt).ok()?;
     let mut first = None;
     for address in found {
         let ip = bits_of(address.ip());
@@ -82,9 +80,7 @@ pub(crate) fn find<R: Net>(rt: &R, text: &str) -> Option<Address>
     if let Some(address) = parse_address(text) {
         return Some(address);
     }
-    let Some(port) = host_port(text.as_bytes()) else {
-        return None;
-    };
+    let port = host_port(text.as_bytes())?;
     let Some((host, _)) = text.split_once(':') else {
         return None;
     };

@@ -11,6 +11,7 @@ use std::time::Duration;
 
 /// A socket in memory: to it come the datagrams that it was made with, in order, and it keeps what it is handed as long
 /// as memory holds that. It never waits.
+#[derive(Drop)]
 pub struct MemorySocket {
     coming: Vec<(SocketAddr, Vec<u8>)>,
     /// How many of them came.
@@ -19,18 +20,6 @@ pub struct MemorySocket {
     /// Whether `went` is all that was handed over.
     is_whole: bool,
     alloc: Global,
-}
-
-impl Drop for MemorySocket {
-    fn drop(self) {
-        let MemorySocket {
-            coming: _,
-            next: _,
-            went: _,
-            is_whole: _,
-            alloc: _,
-        } = self;
-    }
 }
 
 impl MemorySocket {

@@ -1,7 +1,7 @@
 //! Datagrams over a UDP socket.
 
-ghost use Rattle.std.specs.Prelude.{◌≡◌, ◌⊎◌, ◌<◌, ◌≤◌, ◌==◌, Some, None, Err, IfOk, IfSome, OnErr, IsTrue};
-ghost use Rattle.std.specs.Prelude.{ℕ, [], ◌∷◌, ◌≢◌, map, length, option_map, take, true, false};
+ghost use Rattle.std.specs.Prelude.{◌≡◌, ◌⊎◌, ◌<◌, ◌≤◌, ◌==◌, ◌*◌, Some, None, Err, IfOk, IfSome, OnErr, IsTrue};
+ghost use Rattle.std.specs.Prelude.{ℕ, ◌&&◌, ◌||◌, [], ◌∷◌, ◌≢◌, map, length, option_map, take, true, false};
 ghost use Rattle.std.specs.List.{list_any};
 ghost use Rattle.pf_entry.specs.declared.limits.TheConstants.{CLIENT};
 ghost use Rattle.px_transport.specs.Identities.{plain, with_route};
@@ -10,7 +10,7 @@ ghost use Rattle.node_udp.specs.declared.udp.BindFault.TheVariants.{Memory};
 ghost use Rattle.node_udp.specs.Addresses.{AreFound, shown_address};
 ghost use Rattle.px_wire.specs.Message.{Group, Message, DatagramBytes};
 ghost use Rattle.node_udp.specs.Members.{socket_of, peers_of, me_of, last_of, hears_of, strangers_of, Drops};
-ghost use Rattle.node_udp.specs.Members.{address_at};
+ghost use Rattle.node_udp.specs.Members.{address_at, wait_of};
 ghost use Rattle.node_udp.specs.Sockets.{GoesTo, HasNoAddress, IsStill, Went, WentOver};
 ghost use Rattle.node_udp.specs.inner.Heard.{last_after, own_of};
 
@@ -142,10 +142,7 @@ fn reading<C: Clock>(clock: &C, me: u8) -> Option<Instant> {
     if me == CLIENT {
         return None;
     }
-    match Instant::now(clock) {
-        Ok(now) => Some(now),
-        Err(_) => None,
-    }
+    Instant::now(clock).ok()
 }
 
 /// Whether a datagram is of a client, by its head.
@@ -182,6 +179,7 @@ impl<R: Net + Clock + Copy> UdpWire<UdpSocket, R> {
         requires wait { 0 < wait_ms }
         ensures peers { IfOk result (λ w. AreFound (map (λ t. t.now) addrs.now) (peers_of w)) }
         ensures me { IfOk result (λ w. me_of w ≡ me) }
+        ensures wait { IfOk result (λ w. wait_of w ≡ wait_ms * 1000000) }
         ensures strangers { IfOk result (λ w. strangers_of w ≡ 0) }
         ensures hears { IfOk result (λ w. hears_of w ≡ true) }
         ensures traffic { IfOk result (λ w. WentOver (⟦<UdpSocket as Socket>⟧.traffic (socket_of w)) w []) }
@@ -218,6 +216,7 @@ impl<S: Socket + Drop, C: Clock + Drop> UdpWire<S, C> {
         requires wait { 0 < wait_ms }
         ensures peers { IfOk result (λ w. peers_of w ≡ peers.items) }
         ensures me { IfOk result (λ w. me_of w ≡ me) }
+        ensures wait { IfOk result (λ w. wait_of w ≡ wait_ms * 1000000) }
         ensures strangers { IfOk result (λ w. strangers_of w ≡ 0) }
         ensures hears { IfOk result (λ w. hears_of w ≡ true) }
         ensures traffic { IfOk result (λ w. S.traffic socket [] → WentOver (S.traffic (socket_of w)) w []) }
@@ -333,8 +332,10 @@ impl<S: Socket, C> UdpWire<S, C> {
     fn is_heard(&self, from: SocketAddr, datagram: &[u8]) -> bool
         ensures member { list_any (λ a. ⟦<Address as PartialEq>⟧.eq a (address_at from)) (peers_of self.now) ≡ true → result ≡ true }
         ensures only { hears_of self.now ≡ false → result ≡ list_any (λ a. ⟦<Address as PartialEq>⟧.eq a (address_at from)) (peers_of self.now) }
-        ensures client { (g : Group) (to : ℕ) (message : Message) → hears_of self.now ≡ true →
-            DatagramBytes g CLIENT to message datagram.now → result ≡ true }
+        ensures message { (g : Group) (sender to : ℕ) (message : Message) →
+            DatagramBytes g sender to message datagram.now →
+            result ≡ (list_any (λ a. ⟦<Address as PartialEq>⟧.eq a (address_at from)) (peers_of self.now)
+            || (hears_of self.now && (sender == CLIENT))) }
     {
         is_among(self.peers.as_slice(), Address::of_socket(from))
             || (self.hears_asks && is_asking(datagram))
@@ -348,6 +349,9 @@ impl<S: Socket, C> UdpWire<S, C> {
             (result ≡ 0) × (strangers_of self.new ≡ one_more (strangers_of self.old)) }
         ensures client { (g : Group) (to : ℕ) (message : Message) → hears_of self.old ≡ true →
             DatagramBytes g CLIENT to message datagram.now → result ≡ length datagram.now }
+        ensures others { (g : Group) (sender to : ℕ) (message : Message) →
+            DatagramBytes g sender to message datagram.now → (sender == CLIENT) ≡ false →
+            list_any (λ a. ⟦<Address as PartialEq>⟧.eq a (address_at from)) (peers_of self.old) ≡ false → result ≡ 0 }
         ensures members { hears_of self.old ≡ false → 0 < result → option_map (λ there.
             list_any (λ a. ⟦<Address as PartialEq>⟧.eq a (address_at there)) (peers_of self.old)) (last_of self.new)
             ≡ Some true }

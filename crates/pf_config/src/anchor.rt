@@ -190,14 +190,10 @@ impl Anchor {
     pub(crate) fn room_after(&self, room: usize) -> Option<usize>
         ensures { result ≡ room_after room (length self.now.anchors) }
     {
-        let Some(first) = own_room(&self.items, self.tables.list(), room) else {
-            return None;
-        };
+        let first = own_room(&self.items, self.tables.list(), room)?;
         let mut left = first;
         for kid in &self.kids {
-            let Some(less) = kid.room_after(left) else {
-                return None;
-            };
+            let less = kid.room_after(left)?;
             left = less;
         }
         Some(left)

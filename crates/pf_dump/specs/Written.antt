@@ -13,8 +13,6 @@ use Rattle.pf_config.specs.Map.{Configuration, Path, path_eq, rules_at, table_na
 use Rattle.pf_entry.specs.Entry.{Command, load}
 use Rattle.pf_command.specs.Arguments.{path_words, table_words, command_words}
 use Rattle.pf_dump.specs.Texts.{Text, text_paths}
-use Rattle.pf_dump.specs.declared.text.TheConstants.{DEPTH}
-use Rattle.pf_dump.specs.declared.script.TheConstants.{TEXT_MAX, ADDRESSES}
 
 -- ---- tables
 
@@ -161,7 +159,7 @@ skip_at c (n ∷ p) = []
 
 -- the skipped interfaces of main, the tables, with their entries if they are listed, and the rules
 abbrev pub path_text : (listed : Bool) → Configuration → Path → List ℕ
-path_text listed c p = skip_at c p ++ (tables_text listed c p ++ rules_text DEPTH false c p)
+path_text listed c p = skip_at c p ++ (tables_text listed c p ++ rules_text 10 false c p)
 
 -- one for each path that a command may load, with the entries of the tables
 abbrev pub text_at : Configuration → Path → Text
@@ -202,12 +200,12 @@ table_command p name word = codes "pfctl " ++ table_words p name word
 abbrev pub addresses_text : Path → Name → (room : ℕ) → List TableEntry → List ℕ
 addresses_text p name room [] = codes "\n"
 addresses_text p name zero (e ∷ es) =
-    codes "\n" ++ table_command p name (codes "add") ++ entry_word e ++ addresses_text p name (ADDRESSES - 1) es
+    codes "\n" ++ table_command p name (codes "add") ++ entry_word e ++ addresses_text p name 1599 es
 addresses_text p name (suc room) (e ∷ es) = entry_word e ++ addresses_text p name room es
 
 -- the commands that give a table its entries: a replacement, and where they are too many additions
 abbrev pub entries_lines : Path → Name → List TableEntry → List ℕ
-entries_lines p name entries = table_command p name (codes "replace") ++ addresses_text p name ADDRESSES entries
+entries_lines p name entries = table_command p name (codes "replace") ++ addresses_text p name 1600 entries
 
 abbrev pub entries_lines_if : Path → Name → Option TableValue → List ℕ
 entries_lines_if p name None = []
@@ -219,7 +217,7 @@ all_entries_lines c p = flat_map (λ (n : Name). entries_lines_if p n (table_at 
 -- the lines of a path: its load, and before it the entries of its tables where the text would be too long with them
 abbrev pub path_lines : Configuration → Path → List ℕ
 path_lines c p =
-    if nat_le (length (path_text true c p)) TEXT_MAX then load_lines p (path_text true c p)
+    if nat_le (length (path_text true c p)) 32000 then load_lines p (path_text true c p)
     else all_entries_lines c p ++ load_lines p (path_text false c p)
 
 -- the script of a configuration, main last

@@ -10,10 +10,10 @@ use Rattle.pf_rules.specs.Words.{decimal_value, is_anchor_byte, is_anchor_text}
 use Rattle.pf_rules.specs.Names.{Name, name_if}
 use Rattle.pf_expansion.specs.Anchors.{given_name}
 
-abbrev IsDigit : ℕ → Type 0
+abbrev pub IsDigit : ℕ → Type 0
 IsDigit b = (48 ≤ b) × (b ≤ 57)
 
-abbrev Digits : List ℕ → Type 0
+abbrev pub Digits : List ℕ → Type 0
 Digits text = AllByRecursion IsDigit text
 
 digits_test : IsDigitsTest Digits
@@ -25,7 +25,7 @@ value_from n text = fold (λ n d. 10 * n + (d - 48)) n text
 folds : FoldsDigits value_from
 folds = record { empty = λ n. refl; more = λ n c cs h. ap (λ (k : ℕ). value_from k cs) (omega arith) }
 
-model : IsNumeralModel Digits decimal_value
+pub model : IsNumeralModel Digits decimal_value
 model = numerals_by_fold Digits digits_test value_from folds
 
 digit_is : (b : ℕ) → IsDigit b → is_anchor_byte b ≡ true
@@ -35,10 +35,10 @@ digits_all : (text : List ℕ) → Digits text → list_all is_anchor_byte text 
 digits_all [] digits = refl
 digits_all (b ∷ text) digits = rw (digit_is b digits.0, digits_all text digits.1) refl
 
-le_is : (m n : ℕ) → m ≤ n → nat_le m n ≡ true
+pub le_is : (m n : ℕ) → m ≤ n → nat_le m n ≡ true
 le_is m n h = grind (arith, nat_tests, h)
 
-lt_is : (m n : ℕ) → m < n → nat_lt m n ≡ true
+pub lt_is : (m n : ℕ) → m < n → nat_lt m n ≡ true
 lt_is m n h = grind (arith, nat_tests, h)
 
 pub given_form : (k : ℕ) → k < 2 ^ 32 → is_anchor_text (given_name k) ≡ true

@@ -1,6 +1,5 @@
 mod Capped
 mod Counting
-mod Families
 pub mod Given
 mod Keeping
 mod Looking

@@ -24,9 +24,9 @@ use std::alloc::{AllocError, Global};
 /// The most rules that a ruleset may give.
 const MOST_RULES: usize = 1_024;
 
-/// Appends the rules.
+/// Appends the rules. A growth that is refused is the error.
 #[tactic(auto, using(crate::proofs::Pushed::items_push))]
-fn push_rules(items: &mut Vec<Item>, rules: Vec<Rule>) -> Result<(), AllocError>
+pub fn push_rules(items: &mut Vec<Item>, rules: Vec<Rule>) -> Result<(), AllocError>
     ensures { OnOk result (items_of items.new.items ≡ items_of items.old.items ++
         map (λ (r : IRule). Filters r) rules.items) }
 {
@@ -36,9 +36,9 @@ fn push_rules(items: &mut Vec<Item>, rules: Vec<Rule>) -> Result<(), AllocError>
     Ok(())
 }
 
-/// Appends the anchor rules.
+/// Appends the anchor rules. A growth that is refused is the error.
 #[tactic(auto, using(crate::proofs::Pushed::items_push))]
-fn push_anchors(items: &mut Vec<Item>, headings: Vec<AnchorHeading>) -> Result<(), AllocError>
+pub fn push_anchors(items: &mut Vec<Item>, headings: Vec<AnchorHeading>) -> Result<(), AllocError>
     ensures { OnOk result (items_of items.new.items ≡ items_of items.old.items ++
         map (λ (h : IHeading). Anchors h) (map heading_of headings.items)) }
 {

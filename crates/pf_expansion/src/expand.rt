@@ -1,12 +1,12 @@
 //! The conditions of each combination of what is listed.
 
-ghost use Rattle.std.specs.Prelude.{◌≡◌, ◌++◌, OnOk, IfOk, is_none};
+ghost use Rattle.std.specs.Prelude.{◌≡◌, ◌++◌, OnOk, IfOk};
 ghost use Rattle.std.specs.Option.{option_copied};
-ghost use Rattle.pf_expansion.specs.inner.Chosen.{combination_of, host_families};
+ghost use Rattle.pf_expansion.specs.inner.Chosen.{combination_of, given_by};
 ghost use Rattle.pf_expansion.specs.Expansion.{addresses_family, host_family, type_family, with_family, occurring};
 ghost use Rattle.pf_expansion.specs.Expansion.{families, number_in, test_in, type_in, conditions_with, conditions_at};
 ghost use Rattle.pf_expansion.specs.Expansion.{by_type, by_destination_port, by_destination, by_source_port, by_source};
-ghost use Rattle.pf_expansion.specs.Expansion.{by_protocol, by_interface, combined};
+ghost use Rattle.pf_expansion.specs.Expansion.{by_protocol, by_interface, nothing_chosen, combined};
 ghost use Rattle.pf_statements.specs.ConditionsSeen.{conditions_of};
 
 use pf_addr::Family;
@@ -14,9 +14,11 @@ use pf_rules::{Addresses, Conditions, FlagTest, Host, Interface, PortTest};
 use pf_statements::{Protocol, WrittenConditions, WrittenPort, WrittenType};
 use std::alloc::{AllocError, Global};
 
-/// What is chosen from each list.
+/// What is chosen from each list of the conditions, where this is asked of the flags.
 #[derive(Clone, Copy)]
 pub(crate) struct Chosen<'a> {
+    pub(crate) test: FlagTest,
+    pub(crate) text: &'a WrittenConditions,
     pub(crate) interface: Option<&'a Interface>,
     pub(crate) protocol: Option<Protocol>,
     pub(crate) source: &'a Host,
@@ -76,22 +78,13 @@ pub(crate) fn with_family(
 }
 
 /// The family that occurs in a combination, if one does; none where two do.
-fn occurring(text: &WrittenConditions, chosen: &Chosen<'_>) -> Option<Option<Family>>
-    ensures { result ≡ occurring (families (conditions_of text.now) (combination_of chosen.now)) }
+fn occurring(chosen: &Chosen<'_>) -> Option<Option<Family>>
+    ensures { result ≡ occurring (families (conditions_of chosen.now.text.now) (combination_of chosen.now)) }
 {
     let icmp = with_family(type_family(chosen.icmp_type), Some(None));
     let destination = with_family(host_family(chosen.destination), icmp);
     let source = with_family(host_family(chosen.source), destination);
-    with_family(text.common.family, source)
-}
-
-/// Whether two families occur among the hosts and what is written.
-fn has_two_families(text: &WrittenConditions, chosen: &Chosen<'_>) -> bool
-    ensures { result ≡ is_none (occurring (host_families (conditions_of text.now) (combination_of chosen.now))) }
-{
-    let destination = with_family(host_family(chosen.destination), Some(None));
-    let source = with_family(host_family(chosen.source), destination);
-    with_family(text.common.family, source).is_none()
+    with_family(chosen.text.common.family, source)
 }
 
 /// The number of the protocol.
@@ -162,16 +155,14 @@ fn copied_host(alloc: Global, host: &Host) -> Result<Host, AllocError>
 /// The conditions of what is chosen, in which this family occurs.
 fn conditions_with(
     alloc: Global,
-    test: FlagTest,
-    text: &WrittenConditions,
     chosen: &Chosen<'_>,
     family: Option<Family>,
 ) -> Result<Conditions, AllocError>
-    ensures { IfOk result (λ c. c ≡ conditions_with test (conditions_of text.now) (combination_of chosen.now)
-        family) }
+    ensures { IfOk result (λ c. c ≡ conditions_with chosen.now.test (conditions_of chosen.now.text.now)
+        (combination_of chosen.now) family) }
 {
     Ok(Conditions {
-        direction: text.direction,
+        direction: chosen.text.direction,
         interface: copied(chosen.interface),
         family,
         protocol: number_in(chosen.protocol),
@@ -179,26 +170,19 @@ fn conditions_with(
         source_port: test_in(chosen.source_port),
         destination: copied_host(alloc, chosen.destination)?,
         destination_port: test_in(chosen.destination_port),
-        flags: test,
+        flags: chosen.test,
         icmp_type: type_in(chosen.icmp_type),
     })
 }
 
 /// The conditions of what is chosen, unless two families occur in it.
 #[tactic(auto, unfolding(crate::specs::Expansion::conditions_at))]
-fn push_chosen(
-    alloc: Global,
-    found: &mut Vec<Conditions>,
-    test: FlagTest,
-    text: &WrittenConditions,
-    chosen: &Chosen<'_>,
-) -> Result<(), AllocError>
-    ensures { OnOk result (found.new.items ≡ found.old.items ++ conditions_at test (conditions_of text.now)
-        (combination_of chosen.now)) }
+fn push_chosen(found: &mut Vec<Conditions>, chosen: &Chosen<'_>) -> Result<(), AllocError>
+    ensures { OnOk result (found.new.items ≡ found.old.items ++ given_by conditions_at chosen.now) }
 {
-    match occurring(text, chosen) {
+    match occurring(chosen) {
         Some(family) => {
-            let conditions = conditions_with(alloc, test, text, chosen, family)?;
+            let conditions = conditions_with(*found.allocator(), chosen, family)?;
             found.push(conditions)?;
             Ok(())
         }
@@ -209,29 +193,17 @@ fn push_chosen(
 /// The conditions with each type of ICMP.
 #[inline(always)]
 #[tactic(auto, unfolding(crate::specs::Expansion::by_type))]
-fn push_types(
-    alloc: Global,
-    found: &mut Vec<Conditions>,
-    test: FlagTest,
-    text: &WrittenConditions,
-    chosen: &Chosen<'_>,
-) -> Result<(), AllocError>
-    ensures { OnOk result (found.new.items ≡ found.old.items ++ by_type test (conditions_of text.now)
-        (combination_of chosen.now)) }
+fn push_types(found: &mut Vec<Conditions>, chosen: &Chosen<'_>) -> Result<(), AllocError>
+    ensures { OnOk result (found.new.items ≡ found.old.items ++ given_by by_type chosen.now) }
 {
-    let Some(types) = &text.types else {
-        let chosen = Chosen {
-            icmp_type: None,
-            ..*chosen
-        };
-        return push_chosen(alloc, found, test, text, &chosen);
+    let mut next = *chosen;
+    let Some(types) = &chosen.text.types else {
+        next.icmp_type = None;
+        return push_chosen(found, &next);
     };
     for icmp_type in &types.items {
-        let chosen = Chosen {
-            icmp_type: Some(*icmp_type),
-            ..*chosen
-        };
-        push_chosen(alloc, found, test, text, &chosen)?;
+        next.icmp_type = Some(*icmp_type);
+        push_chosen(found, &next)?;
     }
     Ok(())
 }
@@ -240,69 +212,33 @@ fn push_types(
 #[inline(always)]
 #[tactic(auto, unfolding(crate::specs::Expansion::by_destination_port))]
 fn push_destination_ports(
-    alloc: Global,
     found: &mut Vec<Conditions>,
-    test: FlagTest,
-    text: &WrittenConditions,
     chosen: &Chosen<'_>,
 ) -> Result<(), AllocError>
-    ensures { OnOk result (found.new.items ≡ found.old.items ++ by_destination_port test (conditions_of text.now)
-        (combination_of chosen.now)) }
+    ensures { OnOk result (found.new.items ≡ found.old.items ++ given_by by_destination_port chosen.now) }
 {
-    let Some(ports) = &text.common.destination.ports else {
-        let chosen = Chosen {
-            destination_port: None,
-            ..*chosen
-        };
-        return push_types(alloc, found, test, text, &chosen);
+    let mut next = *chosen;
+    let Some(ports) = &chosen.text.common.destination.ports else {
+        next.destination_port = None;
+        return push_types(found, &next);
     };
     for destination_port in &ports.items {
-        let chosen = Chosen {
-            destination_port: Some(*destination_port),
-            ..*chosen
-        };
-        push_types(alloc, found, test, text, &chosen)?;
+        next.destination_port = Some(*destination_port);
+        push_types(found, &next)?;
     }
     Ok(())
-}
-
-/// The conditions between the hosts that are chosen, none where two families occur.
-#[inline(always)]
-fn push_between(
-    alloc: Global,
-    found: &mut Vec<Conditions>,
-    test: FlagTest,
-    text: &WrittenConditions,
-    chosen: &Chosen<'_>,
-) -> Result<(), AllocError>
-    ensures { OnOk result (found.new.items ≡ found.old.items ++ by_destination_port test (conditions_of text.now)
-        (combination_of chosen.now)) }
-{
-    if has_two_families(text, chosen) {
-        return Ok(());
-    }
-    push_destination_ports(alloc, found, test, text, chosen)
 }
 
 /// The conditions with each destination.
 #[inline(always)]
 #[tactic(auto, unfolding(crate::specs::Expansion::by_destination))]
-fn push_destinations(
-    alloc: Global,
-    found: &mut Vec<Conditions>,
-    test: FlagTest,
-    text: &WrittenConditions,
-    chosen: &Chosen<'_>,
-) -> Result<(), AllocError>
-    ensures { OnOk result (found.new.items ≡ found.old.items ++ by_destination test (conditions_of text.now)
-        (combination_of chosen.now)) }
+fn push_destinations(found: &mut Vec<Conditions>, chosen: &Chosen<'_>) -> Result<(), AllocError>
+    ensures { OnOk result (found.new.items ≡ found.old.items ++ given_by by_destination chosen.now) }
 {
-    for destination in &text.common.destination.hosts.items {
-        let chosen = Chosen {
-            destination,
-            ..*chosen
-        };
-        push_between(alloc, found, test, text, &chosen)?;
+    let mut next = *chosen;
+    for destination in &chosen.text.common.destination.hosts.items {
+        next.destination = destination;
+        push_destination_ports(found, &next)?;
     }
     Ok(())
 }
@@ -310,29 +246,17 @@ fn push_destinations(
 /// The conditions with each port of the source.
 #[inline(always)]
 #[tactic(auto, unfolding(crate::specs::Expansion::by_source_port))]
-fn push_source_ports(
-    alloc: Global,
-    found: &mut Vec<Conditions>,
-    test: FlagTest,
-    text: &WrittenConditions,
-    chosen: &Chosen<'_>,
-) -> Result<(), AllocError>
-    ensures { OnOk result (found.new.items ≡ found.old.items ++ by_source_port test (conditions_of text.now)
-        (combination_of chosen.now)) }
+fn push_source_ports(found: &mut Vec<Conditions>, chosen: &Chosen<'_>) -> Result<(), AllocError>
+    ensures { OnOk result (found.new.items ≡ found.old.items ++ given_by by_source_port chosen.now) }
 {
-    let Some(ports) = &text.common.source.ports else {
-        let chosen = Chosen {
-            source_port: None,
-            ..*chosen
-        };
-        return push_destinations(alloc, found, test, text, &chosen);
+    let mut next = *chosen;
+    let Some(ports) = &chosen.text.common.source.ports else {
+        next.source_port = None;
+        return push_destinations(found, &next);
     };
     for source_port in &ports.items {
-        let chosen = Chosen {
-            source_port: Some(*source_port),
-            ..*chosen
-        };
-        push_destinations(alloc, found, test, text, &chosen)?;
+        next.source_port = Some(*source_port);
+        push_destinations(found, &next)?;
     }
     Ok(())
 }
@@ -340,19 +264,13 @@ fn push_source_ports(
 /// The conditions with each source.
 #[inline(always)]
 #[tactic(auto, unfolding(crate::specs::Expansion::by_source))]
-fn push_sources(
-    alloc: Global,
-    found: &mut Vec<Conditions>,
-    test: FlagTest,
-    text: &WrittenConditions,
-    chosen: &Chosen<'_>,
-) -> Result<(), AllocError>
-    ensures { OnOk result (found.new.items ≡ found.old.items ++ by_source test (conditions_of text.now)
-        (combination_of chosen.now)) }
+fn push_sources(found: &mut Vec<Conditions>, chosen: &Chosen<'_>) -> Result<(), AllocError>
+    ensures { OnOk result (found.new.items ≡ found.old.items ++ given_by by_source chosen.now) }
 {
-    for source in &text.common.source.hosts.items {
-        let chosen = Chosen { source, ..*chosen };
-        push_source_ports(alloc, found, test, text, &chosen)?;
+    let mut next = *chosen;
+    for source in &chosen.text.common.source.hosts.items {
+        next.source = source;
+        push_source_ports(found, &next)?;
     }
     Ok(())
 }
@@ -360,60 +278,60 @@ fn push_sources(
 /// The conditions with each protocol.
 #[inline(always)]
 #[tactic(auto, unfolding(crate::specs::Expansion::by_protocol))]
-fn push_protocols(
-    alloc: Global,
-    found: &mut Vec<Conditions>,
-    test: FlagTest,
-    text: &WrittenConditions,
-    chosen: &Chosen<'_>,
-) -> Result<(), AllocError>
-    ensures { OnOk result (found.new.items ≡ found.old.items ++ by_protocol test (conditions_of text.now)
-        (combination_of chosen.now)) }
+fn push_protocols(found: &mut Vec<Conditions>, chosen: &Chosen<'_>) -> Result<(), AllocError>
+    ensures { OnOk result (found.new.items ≡ found.old.items ++ given_by by_protocol chosen.now) }
 {
-    let Some(protocols) = &text.common.protocols else {
-        let chosen = Chosen {
-            protocol: None,
-            ..*chosen
-        };
-        return push_sources(alloc, found, test, text, &chosen);
+    let mut next = *chosen;
+    let Some(protocols) = &chosen.text.common.protocols else {
+        next.protocol = None;
+        return push_sources(found, &next);
     };
     for protocol in &protocols.items {
-        let chosen = Chosen {
-            protocol: Some(*protocol),
-            ..*chosen
-        };
-        push_sources(alloc, found, test, text, &chosen)?;
+        next.protocol = Some(*protocol);
+        push_sources(found, &next)?;
     }
     Ok(())
 }
 
 /// The conditions on each interface.
 #[tactic(auto, unfolding(crate::specs::Expansion::by_interface))]
-fn push_interfaces(
-    alloc: Global,
-    found: &mut Vec<Conditions>,
-    test: FlagTest,
-    text: &WrittenConditions,
-    chosen: &Chosen<'_>,
-) -> Result<(), AllocError>
-    ensures { OnOk result (found.new.items ≡ found.old.items ++ by_interface test (conditions_of text.now)
-        (combination_of chosen.now)) }
+fn push_interfaces(found: &mut Vec<Conditions>, chosen: &Chosen<'_>) -> Result<(), AllocError>
+    ensures { OnOk result (found.new.items ≡ found.old.items ++ given_by by_interface chosen.now) }
 {
-    let Some(interfaces) = &text.common.interfaces else {
-        let chosen = Chosen {
-            interface: None,
-            ..*chosen
-        };
-        return push_protocols(alloc, found, test, text, &chosen);
+    let mut next = *chosen;
+    let Some(interfaces) = &chosen.text.common.interfaces else {
+        next.interface = None;
+        return push_protocols(found, &next);
     };
     for interface in &interfaces.items {
-        let chosen = Chosen {
-            interface: Some(interface),
-            ..*chosen
-        };
-        push_protocols(alloc, found, test, text, &chosen)?;
+        next.interface = Some(interface);
+        push_protocols(found, &next)?;
     }
     Ok(())
+}
+
+/// The conditions of all combinations, with this host where none is chosen yet.
+fn push_all<'a>(
+    found: &mut Vec<Conditions>,
+    test: FlagTest,
+    text: &'a WrittenConditions,
+    any: &'a Host,
+) -> Result<(), AllocError>
+    ensures { OnOk result (found.new.items ≡ found.old.items ++ by_interface test (conditions_of text.now)
+        (record nothing_chosen { source = any.now; destination = any.now })) }
+{
+    let nothing = Chosen {
+        test,
+        text,
+        interface: None,
+        protocol: None,
+        source: any,
+        source_port: None,
+        destination: any,
+        destination_port: None,
+        icmp_type: None,
+    };
+    push_interfaces(found, &nothing)
 }
 
 /// The conditions of all combinations, the interface outermost and the type of ICMP innermost (pf.conf(5), lists),
@@ -428,16 +346,6 @@ pub(crate) fn combined(
 {
     // Most rules have no list.
     let mut found = Vec::with_capacity(alloc, 1)?;
-    let any = Host::Any;
-    let nothing = Chosen {
-        interface: None,
-        protocol: None,
-        source: &any,
-        source_port: None,
-        destination: &any,
-        destination_port: None,
-        icmp_type: None,
-    };
-    push_interfaces(alloc, &mut found, test, text, &nothing)?;
+    push_all(&mut found, test, text, &Host::Any)?;
     Ok(found)
 }

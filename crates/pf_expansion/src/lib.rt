@@ -6,6 +6,7 @@
 //!   that refuses it.
 //! - [`judge_anchor`]: the same of an anchor rule.
 //! - [`judge_block`]: the same of an anchor rule with a block.
+//! - [`push_rules`], [`push_anchors`]: what these give, behind the rules of a ruleset so far.
 //! - [`judge_table`]: the table that a table statement defines, or the lowest cause that refuses it. [`DefinedTables`]
 //!   keeps those that a ruleset has defined so far.
 //! - [`is_deep`]: whether too many lists are in one another.
@@ -25,8 +26,7 @@
 //!   lives, and a refused statement changes nothing by its form.
 //! - `finish` is called once a statement has been read, so that the tokens behind the parser aren't gone over
 //!   again.
-//! - **Two families.** Hosts of two families are left before the ports of the destination are gone through; a type
-//!   of ICMP is compared where the rule would be made, before memory is taken for it.
+//! - **Two families** are found where the rule would be made, before memory is taken for it.
 //! - **Number of combinations.** The code's product stops at the greatest number of its type, which is far above
 //!   the limit; a rule with more than 65,536 combinations is never expanded.
 //! - **Empty lists.** The grammar makes no list without elements; the expansion of one has no rule, so it would be
@@ -71,7 +71,7 @@ mod tables;
 
 pub use anchors::judge_anchor;
 pub use block_names::unnamed_in;
-pub use blocks::judge_block;
+pub use blocks::{judge_block, push_anchors, push_rules};
 pub use cause::Cause;
 pub use defined_tables::DefinedTables;
 pub use judge::is_deep;

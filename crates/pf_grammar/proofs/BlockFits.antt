@@ -1,5 +1,5 @@
 -- The rules that a source gives, where no cause is found, are such as are shown and read again.
-use Rattle.std.proofs.Common.{◌≡◌, ℕ, ◌+◌, ◌<◌, ◌≤◌, ◌&&◌, Bool, true, false, not, cond, List, [], ◌∷◌, ◌++◌, length, map, Option, Some, None, is_none, nat_le, refl, sym, ap, subst, ◌∙◌, arith}
+use Rattle.std.proofs.Common.{◌≡◌, ℕ, ◌+◌, ◌<◌, ◌≤◌, ◌&&◌, Bool, true, false, not, cond, List, [], ◌∷◌, ◌++◌, length, map, Option, Some, None, is_none, refl, sym, ap, subst, ◌∙◌, arith}
 use Rattle.std.specs.Prelude.{nat_lt}
 use Rattle.std.specs.List.{AllByRecursion, list_any}
 use Rattle.std.proofs.lemmas.Bool.{false≢true, or_parts}
@@ -22,7 +22,7 @@ use Rattle.pf_expansion.specs.Expansion.{combined, expanded, rule_flags, tested_
 use Rattle.pf_expansion.specs.Causes.{bad_ports, bad_types, has_no_combination, is_too_wide, has_deep_list, is_empty}
 use Rattle.pf_expansion.specs.Anchors.{anchor_flags, given_name, headings, heading_with, is_reserved, is_given, is_misnamed}
 use Rattle.pf_expansion.specs.Blocks.{given_target, next_unnamed, target_or_given, named, unnamed_after, carried, item_values, block_values, both, conditions_judged, ruleset_judged, item_judged, block_judged, nothing_wrong, is_reserved_name, item_misnamed, block_misnamed, is_unnamed, unnamed_with, unnamed_in}
-use Rattle.pf_expansion.proofs.Given.{given_form}
+use Rattle.pf_expansion.proofs.Given.{given_form, le_is}
 use Rattle.pf_grammar.proofs.ShownTokens.{FitsRule}
 use Rattle.pf_grammar.proofs.RuleFits.{text_fits, expanded_fit}
 use Rattle.pf_grammar.proofs.AnchorLine.{FitsHeading}
@@ -110,9 +110,6 @@ next_small u = cases (nat_lt u 65535) refl
     cases : (b : Bool) → nat_lt u 65535 ≡ b → (1 ≤ cond b (u + 1) 65535) × (cond b (u + 1) 65535 ≤ 65535)
     cases true e = let h = lower e in (omega arith, omega (arith, h))
     cases false e = (omega arith, omega arith)
-
-le_is : (m n : ℕ) → m ≤ n → nat_le m n ≡ true
-le_is m n h = grind (arith, nat_tests, h)
 
 -- the name of an unnamed block is given from then on
 given_is : (k : ℕ) → 1 ≤ k → k ≤ 65535 → is_given k (given_name k) ≡ true

@@ -1,34 +1,16 @@
 -- Shown numbers are read again.
-use Rattle.std.proofs.Common.{◌≡◌, ℕ, ◌+◌, ◌-◌, ◌*◌, ◌^◌, ◌<◌, ◌≤◌, ◌==◌, ◌&&◌, Bool, true, false, List, [], ◌∷◌, length, Some, None, refl, ap, arith, nat_le}
-use Rattle.std.specs.Prelude.{decimal, bytes_eq, codes, nat_lt, fold}
-use Rattle.std.specs.List.{AllByRecursion, list_all}
+use Rattle.std.proofs.Common.{◌≡◌, ℕ, ◌^◌, ◌<◌, ◌≤◌, ◌==◌, ◌&&◌, Bool, true, false, List, [], ◌∷◌, length, Some, None, refl, arith}
+use Rattle.std.specs.Prelude.{decimal, bytes_eq, codes, nat_lt}
+use Rattle.std.specs.List.{list_all}
 use Rattle.std.specs.Char.{is_ascii_digit}
 use Rattle.std.proofs.lemmas.Bool.Decides.{nat_tests}
 use Rattle.std.proofs.lemmas.Fmt.{digits_decimal, digits_value-decimal, decimal_nonempty, length-decimal-le}
-use Rattle.std.proofs.lemmas.Str.Parse.{IsNumeralModel, numerals_by_fold, IsDigitsTest, FoldsDigits}
 use Rattle.pf_rules.specs.declared.profile.Profile.{Profile}
 use Rattle.pf_rules.specs.declared.profile.Profile.TheVariants.{One, Two}
 use Rattle.pf_rules.specs.Words.{decimal_value, number_of, Named, named, protocols, protocol_of, services, port_of, icmp_types, icmp_type_of, common_reserved, is_among, is_reserved}
+use Rattle.pf_expansion.proofs.Given.{IsDigit, Digits, model, le_is, lt_is}
 
 -- ---- digits
-
-abbrev pub IsDigit : ℕ → Type 0
-IsDigit b = (48 ≤ b) × (b ≤ 57)
-
-abbrev pub Digits : List ℕ → Type 0
-Digits text = AllByRecursion IsDigit text
-
-digits_test : IsDigitsTest Digits
-digits_test = record { empty = tt; parts = λ c cs p. p; more = λ c cs p q. (p, q) }
-
-abbrev value_from : ℕ → List ℕ → ℕ
-value_from n text = fold (λ n d. 10 * n + (d - 48)) n text
-
-folds : FoldsDigits value_from
-folds = record { empty = λ n. refl; more = λ n c cs h. ap (λ (k : ℕ). value_from k cs) (omega arith) }
-
-model : IsNumeralModel Digits decimal_value
-model = numerals_by_fold Digits digits_test value_from folds
 
 pub decimal_digits : (n : ℕ) → n < 65536 → Digits (decimal n)
 decimal_digits n small = digits_decimal model n (omega (arith, small))
@@ -45,12 +27,6 @@ digits_all (b ∷ text) digits = rw (digit_is b digits.0, digits_all text digits
 
 pub decimal_there : (n : ℕ) → n < 65536 → 0 < length (decimal n)
 decimal_there n small = decimal_nonempty n (omega (arith, small))
-
-le_is : (m n : ℕ) → m ≤ n → nat_le m n ≡ true
-le_is m n h = grind (arith, nat_tests, h)
-
-pub lt_is : (m n : ℕ) → m < n → nat_lt m n ≡ true
-lt_is m n h = grind (arith, nat_tests, h)
 
 pub number_again : (digits most n : ℕ) → 0 < digits → n ≤ most → n < 65536 → n < 10 ^ digits → number_of digits most (decimal n) ≡ Some n
 unfolding number_of

@@ -24,7 +24,7 @@ use Rattle.pf_rules.specs.Words.{decimal_value, is_decimal, number_of, Named, na
 use Rattle.pf_statements.specs.Conditions.{one_port, two_ports, lone_word, lone_test, colon_parts}
 use Rattle.pf_statements.specs.ConditionGrammar.{IsProtocol, ProtocolWord, IsPrefix, WholeAddress, CutAddress, TableSign, IsSet, PrefixSet, RangeSet, TableSet, IsHost, AnyWord, HostIn, HostNotIn, EqualsSign, NotEqualSign, LessSign, LessEqualSign, GreaterSign, GreaterEqualSign, BetweenSign, OutsideSign, IsPort, PortAlone, PortCompared, PortBounds, IsFlags, AnyFlags, NoneOf, SomeOf, IsType, TypeWord}
 use Rattle.pf_show.specs.Shown.{letter, letters}
-use Rattle.pf_grammar.proofs.Numbers.{lt_is}
+use Rattle.pf_expansion.proofs.Given.{lt_is}
 use Rattle.pf_grammar.proofs.ShownTokens.{FitsAddresses, FitsHost, FitsTest, FitsIf, FitsFlags}
 
 -- ---- hosts

@@ -43,9 +43,6 @@ use Rattle.pf_grammar.specs.Reading.{Sofar, judge, macros_of, answered, after_st
 use Rattle.pf_grammar.specs.inner.Gathering.{Judges}
 use Rattle.pf_expansion.specs.Tables.{table_causes}
 
-pub items_push : (is : List Item) (i : Item) → items_of (is ++ i ∷ []) ≡ items_of is ++ item_of i ∷ []
-items_push is i = map-append item_of is (i ∷ [])
-
 pub items_append : (is more : List Item) → items_of (is ++ more) ≡ items_of is ++ items_of more
 items_append is more = map-append item_of is more
 

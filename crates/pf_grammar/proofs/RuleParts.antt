@@ -36,7 +36,8 @@ use Rattle.pf_rules.specs.Words.{is_interface_text, is_interface_name, is_table_
 use Rattle.pf_tokens.specs.ListGrammar.{sign}
 use Rattle.pf_statements.specs.ConditionGrammar.{key}
 use Rattle.pf_show.specs.Shown.{action_parts, direction_parts, quick_parts, negated_part, negated_parts, interface_parts, family_parts, protocol_parts, addresses_parts, host_parts, test_parts, port_parts, end_parts, ends_parts, type_parts, letter, letters, flags_text, flags_parts, state_parts, condition_parts, rule_parts, line as shown_line}
-use Rattle.pf_grammar.proofs.Numbers.{IsDigit, Digits, decimal_digits, decimal_there}
+use Rattle.pf_expansion.proofs.Given.{IsDigit, Digits}
+use Rattle.pf_grammar.proofs.Numbers.{decimal_digits, decimal_there}
 use Rattle.pf_grammar.proofs.ShownTokens.{FitsAddresses, FitsHost, FitsTest, FitsIf, FitsFlags, FitsType, FitsRule, action_tokens, direction_tokens, quick_tokens, negated_tokens, interface_tokens, family_tokens, protocol_tokens, length_tokens, addresses_tokens, host_tokens, test_tokens, port_tokens, end_tokens, both_tokens, ends_tokens, type_tokens, letters_token, test_of_tokens, flags_tokens, state_tokens, option_tokens, rule_tokens, prefix_tokens, table_tokens}
 use Rattle.pf_grammar.proofs.Parts.{lexed, IsPart, word_part, not_part, slash_part, slash_first, equals_part, less_part, greater_part, not_equal_part, less_equal_part, greater_equal_part, between_part, outside_part, AreParts, NoPart, OnePart, parts_append, with_newline, line_lexes, less_lexes, not_less_lexes, word_lexes, at_line}
 

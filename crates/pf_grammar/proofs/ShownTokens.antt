@@ -43,7 +43,8 @@ use Rattle.pf_statements.specs.ConditionGrammar.{key, IsBehind, Missing, Behind,
 use Rattle.pf_statements.specs.Grammar.{DropWord, ReturnWord, IsAction, PassWord, BlockSaid, IsDirection, NoDirection, InWord, OutWord, IsSaid, Unsaid, Said, NoWord, KeepWord, IsOptions, NoOption, FlagsOption, StateOption, TypesOption, IsRule}
 use Rattle.pf_expansion.specs.Expansion.{host_family, type_family, occurring}
 use Rattle.pf_show.specs.Shown.{letters}
-use Rattle.pf_grammar.proofs.Numbers.{lt_is, IsDigit, Digits, BeginsDigit, decimal_digits, decimal_there, protocol_again, port_again, type_again, digit_free, decimal_begins}
+use Rattle.pf_expansion.proofs.Given.{IsDigit, Digits, lt_is}
+use Rattle.pf_grammar.proofs.Numbers.{BeginsDigit, decimal_digits, decimal_there, protocol_again, port_again, type_again, digit_free, decimal_begins}
 use Rattle.pf_statements.proofs.Fronts.{rank}
 use Rattle.pf_statements.proofs.OptionsSpelled.{rule_rank}
 use Rattle.pf_grammar.proofs.FlagLetters.{flags_again, flags_with_again}

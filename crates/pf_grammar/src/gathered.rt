@@ -1,13 +1,10 @@
 //! What the statements of a source so far give, and what one more changes.
 
-ghost use Rattle.std.specs.Prelude.{◌≡◌, ◌++◌, map, OnOk};
-ghost use Rattle.pf_rules.specs.declared.rule.Rule.{Rule as IRule};
-ghost use Rattle.pf_rules.specs.Items.{Anchors, Filters, Heading as IHeading};
-ghost use Rattle.pf_rules.specs.Seen.{heading_of, items_of};
+ghost use Rattle.std.specs.Prelude.{◌≡◌, OnOk};
 ghost use Rattle.pf_grammar.specs.Reading.{nothing};
 ghost use Rattle.pf_grammar.specs.inner.Gathering.{sofar_of, with_change};
 
-use pf_expansion::DefinedTables;
+use pf_expansion::{DefinedTables, push_anchors, push_rules};
 use pf_rules::{AnchorHeading, InterfaceName, Item, Policy, Rule, TableDef};
 use pf_tokens::{Macro, Macros};
 use std::alloc::{AllocError, Global};
@@ -48,51 +45,6 @@ pub(crate) enum Change {
     AddsItems(Vec<Item>),
 }
 
-/// Appends the names.
-fn push_names(skip: &mut Vec<InterfaceName>, names: Vec<InterfaceName>) -> Result<(), AllocError>
-    ensures { OnOk result (skip.new.items ≡ skip.old.items ++ names.items) }
-{
-    for name in names {
-        skip.push(name)?;
-    }
-    Ok(())
-}
-
-/// Appends the rules.
-#[tactic(auto, using(crate::proofs::ReadingSteps::items_push))]
-fn push_rules(items: &mut Vec<Item>, rules: Vec<Rule>) -> Result<(), AllocError>
-    ensures { OnOk result (items_of items.new.items ≡ items_of items.old.items ++
-        map (λ (r : IRule). Filters r) rules.items) }
-{
-    for rule in rules {
-        items.push(Item::filter(rule))?;
-    }
-    Ok(())
-}
-
-/// Appends the anchor rules.
-#[tactic(auto, using(crate::proofs::ReadingSteps::items_push))]
-fn push_anchors(items: &mut Vec<Item>, headings: Vec<AnchorHeading>) -> Result<(), AllocError>
-    ensures { OnOk result (items_of items.new.items ≡ items_of items.old.items ++
-        map (λ (h : IHeading). Anchors h) (map heading_of headings.items)) }
-{
-    for heading in headings {
-        items.push(Item::anchor(heading))?;
-    }
-    Ok(())
-}
-
-/// Appends the rules of any kind.
-#[tactic(auto, using(crate::proofs::ReadingSteps::items_append))]
-fn push_items(items: &mut Vec<Item>, more: Vec<Item>) -> Result<(), AllocError>
-    ensures { OnOk result (items_of items.new.items ≡ items_of items.old.items ++ items_of more.items) }
-{
-    for item in more {
-        items.push(item)?;
-    }
-    Ok(())
-}
-
 impl Gathered {
     /// Before the first statement.
     pub(crate) fn new(alloc: Global) -> Gathered
@@ -110,17 +62,18 @@ impl Gathered {
     }
 
     /// With one statement more.
+    #[tactic(auto, using(crate::proofs::ReadingSteps::items_append))]
     pub(crate) fn add(&mut self, alloc: Global, change: Change) -> Result<(), AllocError>
         ensures { OnOk result (sofar_of self.new ≡ with_change (sofar_of self.old) change) }
     {
         match change {
             Change::Defines(made) => self.macros.push(alloc, made)?,
             Change::Sets(policy) => self.policy = policy,
-            Change::Skips(names) => push_names(&mut self.content.skip, names)?,
+            Change::Skips(mut names) => self.content.skip.append(&mut names)?,
             Change::Tables(table) => self.content.tables.push(alloc, table)?,
             Change::Adds(rules) => push_rules(&mut self.content.items, rules)?,
             Change::AddsAnchors(headings) => push_anchors(&mut self.content.items, headings)?,
-            Change::AddsItems(items) => push_items(&mut self.content.items, items)?,
+            Change::AddsItems(mut items) => self.content.items.append(&mut items)?,
         }
         Ok(())
     }

@@ -74,10 +74,7 @@ pub fn push_bytes(text: &mut Vec<u8>, line: Line<'_>) -> Result<(), AllocError>
 fn text_of(word: &[u8]) -> Option<&str>
     ensures { option_map (λ s. s.now) result ≡ (if is_utf8 word.now then Some word.now else None) }
 {
-    match str::from_utf8(word) {
-        Ok(text) => Some(text),
-        Err(_) => None,
-    }
+    str::from_utf8(word).ok()
 }
 
 /// The arguments as text, none where one of them isn't UTF-8.

@@ -32,9 +32,7 @@ struct Refused {
 
 /// The refusal that a printed line is, none where it is another line.
 fn refusal_in(printed: &str) -> Option<Refused> {
-    let Some(code_and_line) = printed.strip_prefix("refused ") else {
-        return None;
-    };
+    let code_and_line = printed.strip_prefix("refused ")?;
     let (code, line) = match code_and_line.split_once(" line ") {
         Some((code, line)) => (code, line.parse::<u64>().ok()),
         None => (code_and_line, None),

@@ -8,17 +8,16 @@
 //! the same line, what it writes, each line of its standard error behind `! `, and `-- STATUS`.
 
 use crate::line::{BEGIN, Line, LineFault, arguments_of, line_of, mode_of};
-use crate::reporting::run_line;
-use crate::running::subcommand_of;
+use crate::running::{Runner, is_batch, subcommand_of};
 use bstr::ByteSlice;
 use clap::{Arg, ArgAction, Command};
 use cli_io::{InputFault, Status, misused, out_of_memory, read_all};
 use cli_nft::read_file;
-use cli_show::run_show;
 use std::alloc::{AllocError, Global};
 use std::fs::{self, Permissions};
-use std::io::{self, Write};
+use std::io::{self, Read, Write};
 use std::os::unix::fs::PermissionsExt;
+use std::rt::Files;
 
 const FILE: &str = "The file of command lines; - or none is standard input";
 
@@ -71,18 +70,18 @@ fn write_line<W: Write>(writer: &mut W, mark: &[u8], line: &[u8]) -> io::Result<
 }
 
 /// Sets the mode of files.
-fn set_modes(rt: &HostRuntime, arguments: &[&str]) -> Result<Status, LineFault> {
-    let [_, _, digits, files @ ..] = arguments else {
+fn set_modes<F: Files>(files: &F, arguments: &[&str]) -> Result<Status, LineFault> {
+    let [_, _, digits, paths @ ..] = arguments else {
         return Err(BAD_MODE);
     };
     let Some(mode) = mode_of(digits) else {
         return Err(BAD_MODE);
     };
-    if files.is_empty() {
+    if paths.is_empty() {
         return Err(BAD_MODE);
     }
-    for file in files {
-        if fs::set_permissions(rt, *file, Permissions::from_mode(mode)).is_err() {
+    for path in paths {
+        if fs::set_permissions(files, *path, Permissions::from_mode(mode)).is_err() {
             return Err(LineFault::Refused(90, "a mode that can't be set"));
         }
     }
@@ -90,14 +89,15 @@ fn set_modes(rt: &HostRuntime, arguments: &[&str]) -> Result<Status, LineFault> 
 }
 
 /// Writes what a store shows, and keeps it.
-fn run_kept<W: Write>(
-    rt: &HostRuntime,
+fn run_kept<T: Runner, W: Write>(
+    runner: &mut T,
     arguments: &[&str],
     kept: &mut Vec<u8>,
     writer: &mut W,
+    errors: &mut Vec<u8>,
 ) -> Status {
     kept.clear();
-    match run_show(rt, rt.alloc(), arguments, kept) {
+    match runner.run(arguments, &mut b"".as_slice(), kept, errors, false) {
         // a growth of what is kept was refused
         Status::Failed => {
             kept.clear();
@@ -118,40 +118,55 @@ fn input_of(alloc: Global, line: Line<'_>, kept: &[u8]) -> Result<Vec<u8>, Alloc
 }
 
 /// Does what a command line asks for.
-fn status_of<W: Write>(
-    rt: &HostRuntime,
+fn status_of<F: Files, T: Runner, W: Write>(
+    files: &F,
+    runner: &mut T,
+    alloc: Global,
     shared: &[u8],
     line: Line<'_>,
     kept: &mut Vec<u8>,
     writer: &mut W,
     errors: &mut Vec<u8>,
 ) -> Result<Status, LineFault> {
-    let arguments = arguments_of(rt.alloc(), shared, line.arguments)?;
+    let arguments = arguments_of(alloc, shared, line.arguments)?;
     let arguments = arguments.as_slice();
+    if is_batch(arguments) {
+        return Err(LineFault::Refused(40, "a batch in a batch"));
+    }
     match subcommand_of(arguments) {
         "" => Err(LineFault::Refused(40, "no subcommand")),
-        "batch" => Err(LineFault::Refused(40, "a batch in a batch")),
-        "chmod" => set_modes(rt, arguments),
-        "show" => Ok(run_kept(rt, arguments, kept, writer)),
+        "chmod" => set_modes(files, arguments),
+        "show" => Ok(run_kept(runner, arguments, kept, writer, errors)),
         _ => {
-            let input = input_of(rt.alloc(), line, kept.as_slice()).map_err(|_| LineFault::Memory)?;
+            let input = input_of(alloc, line, kept.as_slice()).map_err(|_| LineFault::Memory)?;
             let reader = &mut input.as_slice();
-            Ok(run_line(rt, *rt, arguments, reader, writer, errors, false).status())
+            Ok(runner.run(arguments, reader, writer, errors, false))
         }
     }
 }
 
 /// Runs a command line, and writes it with its output, its standard error and its status.
-fn run_one<W: Write>(
-    rt: &HostRuntime,
+fn run_one<F: Files, T: Runner, W: Write>(
+    files: &F,
+    runner: &mut T,
+    alloc: Global,
     shared: &[u8],
     line: Line<'_>,
     kept: &mut Vec<u8>,
     writer: &mut W,
 ) -> io::Result<Status> {
     write_line(writer, b"==", line.header)?;
-    let mut errors = Vec::new(rt.alloc());
-    let status = match status_of(rt, shared, line, kept, writer, &mut errors) {
+    let mut errors = Vec::new(alloc);
+    let status = match status_of(
+        files,
+        runner,
+        alloc,
+        shared,
+        line,
+        kept,
+        writer,
+        &mut errors,
+    ) {
         Ok(status) => status,
         Err(LineFault::Memory) => out_of_memory(writer),
         Err(LineFault::Refused(code, why)) => {
@@ -168,19 +183,21 @@ fn run_one<W: Write>(
 }
 
 /// Runs the command lines of a batch: refused where one didn't end by its mark.
-fn run_all<W: Write, E: Write>(
-    rt: &HostRuntime,
+fn run_all<F: Files, T: Runner, W: Write, E: Write>(
+    files: &F,
+    runner: &mut T,
+    alloc: Global,
     batch: &[u8],
     writer: &mut W,
     errors: &mut E,
 ) -> io::Result<Status> {
     let mut parts = batch.split_str(BEGIN);
     let shared = parts.next().unwrap_or(b"");
-    let mut kept = Vec::new(rt.alloc());
+    let mut kept = Vec::new(alloc);
     let mut ending = Status::Done;
     for part in parts {
         let line = line_of(part);
-        let status = run_one(rt, shared, line, &mut kept, writer)?;
+        let status = run_one(files, runner, alloc, shared, line, &mut kept, writer)?;
         if (status == Status::Done) == line.must_fail {
             ending = Status::Refused;
             // a message that can't be written changes nothing
@@ -192,11 +209,15 @@ fn run_all<W: Write, E: Write>(
 
 /// The batch without its last newline, behind one more, so that its first line may be a command line; none where the
 /// file can't be read.
-fn read_batch(rt: &HostRuntime, file: Option<&str>) -> Result<Option<Vec<u8>>, InputFault> {
-    let alloc = rt.alloc();
+fn read_batch<F: Files, R: Read>(
+    files: &F,
+    alloc: Global,
+    file: Option<&str>,
+    reader: &mut R,
+) -> Result<Option<Vec<u8>>, InputFault> {
     let read = match file {
-        None | Some("-") => read_all(alloc, &mut rt.reader())?,
-        Some(path) => match read_file(rt, alloc, path) {
+        None | Some("-") => read_all(alloc, reader)?,
+        Some(path) => match read_file(files, alloc, path) {
             Ok(Some(read)) => read,
             Ok(None) => return Ok(None),
             Err(_) => return Err(InputFault::Memory),
@@ -212,14 +233,16 @@ fn read_batch(rt: &HostRuntime, file: Option<&str>) -> Result<Option<Vec<u8>>, I
     Ok(Some(batch))
 }
 
-/// What the arguments `batch [FILE]` ask for, the program's name first.
-pub(crate) fn run_batch<W: Write, E: Write>(
-    rt: &HostRuntime,
+/// What the arguments `batch [FILE]` ask for, the program's name first: each command line is run by `runner`.
+pub(crate) fn run_batch<F: Files, T: Runner, R: Read, W: Write, E: Write>(
+    files: &F,
+    runner: &mut T,
+    alloc: Global,
     arguments: &[&str],
+    reader: &mut R,
     writer: &mut W,
     errors: &mut E,
 ) -> Status {
-    let alloc = rt.alloc();
     let Ok(command) = command(alloc) else {
         return out_of_memory(writer);
     };
@@ -230,8 +253,8 @@ pub(crate) fn run_batch<W: Write, E: Write>(
     let Some(inner) = matches.subcommand_matches("batch") else {
         return Status::Usage;
     };
-    match read_batch(rt, inner.get_str("file")) {
-        Ok(Some(batch)) => match run_all(rt, batch.as_slice(), writer, errors) {
+    match read_batch(files, alloc, inner.get_str("file"), reader) {
+        Ok(Some(batch)) => match run_all(files, runner, alloc, batch.as_slice(), writer, errors) {
             Ok(status) => status,
             Err(_) => Status::Failed,
         },

@@ -1,28 +1,31 @@
 //! One command line, and the message on a refusal of which an argument's crate prints only the number.
 
-use crate::running::{Ended, Runner, subcommand_of};
-use cli_io::{REFUSALS, Shown, explanation, knock};
+ghost use Rattle.std.specs.Prelude.{◌≡◌, ◌∷◌, [], false, map};
+ghost use Rattle.cli_follow.specs.Exchanges.{Adds};
+ghost use Rattle.pfx.specs.Arguments.{is_batch};
+ghost use Rattle.pfx.specs.Runs.{Ran};
+
+use crate::running::{Runner, run_any, subcommand_of};
+use cli_io::{REFUSALS, Shown, Status, explanation, knock};
+use std::alloc::Global;
 use std::io::{self, Read, Write};
 use std::net::Net;
+use std::rt::Files;
 
 /// That nobody answers at a control socket.
 const NOBODY: u8 = 85;
 
-/// A writer that keeps the number of the refusal that was written last.
+/// The output, with the number of the refusal that was written last.
 #[derive(Drop)]
-struct Heard<'w, W> {
-    inner: &'w mut W,
+pub(crate) struct Output<W> {
+    inner: W,
     refusal: Option<u8>,
 }
 
 /// The number of the refusal that a printed line is.
 fn refusal_in(printed: &[u8]) -> Option<u8> {
-    let Ok(text) = std::str::from_utf8(printed) else {
-        return None;
-    };
-    let Some(behind) = text.strip_prefix("refused ") else {
-        return None;
-    };
+    let behind = printed.strip_prefix(b"refused ")?;
+    let behind = std::str::from_utf8(behind).ok()?;
     let digits = match behind.split_once(' ') {
         Some((digits, _)) => digits,
         None => behind.trim_end(),
@@ -30,18 +33,20 @@ fn refusal_in(printed: &[u8]) -> Option<u8> {
     digits.parse::<u8>().ok()
 }
 
-impl<'w, W> Heard<'w, W> {
-    /// A writer over another.
-    fn new(inner: &'w mut W) -> Heard<'w, W> {
-        Heard {
+impl<W> Output<W> {
+    /// An output to which nothing was written yet.
+    pub(crate) fn new(inner: W) -> Output<W>
+        ensures { result.inner ≡ inner }
+    {
+        Output {
             inner,
             refusal: None,
         }
     }
 }
 
-impl<W: Write> Write for Heard<'_, W> {
-    ghost contents = { λ h. W.contents h.inner.now };
+impl<W: Write> Write for Output<W> {
+    ghost contents = { λ output. W.contents output.inner };
 
     fn write(&mut self, bytes: &[u8]) -> io::Result<usize> {
         if let Some(code) = refusal_in(bytes) {
@@ -87,39 +92,39 @@ fn report<RT: Net, E: Write>(rt: &RT, arguments: &[&str], code: u8, errors: &mut
     }
 }
 
-/// Does what the arguments ask for on a terminal, with what a refusal means.
-fn run_explained<RT: Net, T: Runner, R: Read, W: Write, E: Write>(
+/// Does what the arguments ask for, the program's name first; where `errors` is a terminal, what a refusal means is
+/// written there, too.
+pub(crate) fn run_line<RT: Files + Net, T: Runner, R: Read, W: Write, E: Write>(
     rt: &RT,
-    runner: T,
+    runner: &mut T,
+    alloc: Global,
     arguments: &[&str],
     reader: &mut R,
-    writer: &mut W,
-    errors: &mut E,
-) -> Ended {
-    let mut heard = Heard::new(writer);
-    let ended = runner.run(arguments, reader, &mut heard, errors, true);
-    match heard.refusal {
-        Some(code) if ended.is_refused() => report(rt, arguments, code, errors),
-        _ => {}
-    }
-    ended
-}
-
-/// Does what the arguments ask for, the program's name first; `is_terminal` is whether `errors` is a terminal. All
-/// subcommands but `batch`.
-pub(crate) fn run_line<RT: Net, T: Runner, R: Read, W: Write, E: Write>(
-    rt: &RT,
-    runner: T,
-    arguments: &[&str],
-    reader: &mut R,
-    writer: &mut W,
+    output: &mut Output<W>,
     errors: &mut E,
     is_terminal: bool,
-) -> Ended {
+) -> Status
+    ensures { is_batch (map (λ a. a.now) arguments.now) ≡ false →
+        Adds (T.did runner.old) (T.did runner.new) (Ran (map (λ a. a.now) arguments.now) (R.remaining reader.old)
+        (W.contents output.old.inner) (W.contents output.new.inner) is_terminal result ∷ []) }
+{
+    let status = run_any(
+        rt,
+        runner,
+        alloc,
+        arguments,
+        reader,
+        output,
+        errors,
+        is_terminal,
+    );
     match subcommand_of(arguments) {
-        "ask" | "show" if is_terminal => {
-            run_explained(rt, runner, arguments, reader, writer, errors)
+        "ask" | "show" if is_terminal && status == Status::Refused => {
+            if let Some(code) = output.refusal {
+                report(rt, arguments, code, errors);
+            }
         }
-        _ => runner.run(arguments, reader, writer, errors, is_terminal),
+        _ => {}
     }
+    status
 }

@@ -1,81 +1,62 @@
-//! The subcommands, run by their crates, and how the program ends.
+//! The subcommands, run by their crates.
 
-ghost use Rattle.std.specs.Prelude.{◌≡◌, ◌<◌};
-ghost use Rattle.std.specs.Process.{exit_status};
-ghost use Rattle.cli_io.specs.Status.{code_of};
+ghost use Rattle.std.specs.Prelude.{◌≡◌, ⊤, List, [], ◌∷◌, false, map};
+ghost use Rattle.cli_follow.specs.Exchanges.{Adds};
+ghost use Rattle.pfx.specs.Arguments.{is_batch, subcommand_of};
+ghost use Rattle.pfx.specs.Runs.{Ran, RunEvent};
 
 use crate::batch::run_batch;
 use crate::version::write_version;
 use cli_ask::{Reached, run_control_ask};
 use cli_follow::{SystemFiles, run_follow};
-use cli_io::{REFUSALS, Status, out_of_memory};
+use cli_io::{REFUSALS, Status};
 use cli_nft::{asks_nft, run_nft};
 use cli_node::run_net;
 use cli_show::run_show;
 use pf_tool::run;
-use std::io::{self, Eprint, ErrorKind, Read, Write};
-use std::process::{ExitCode, Termination};
+use std::alloc::Global;
+use std::io::{Read, Write};
+use std::rt::Files;
 
-/// How the program ends, or a command line of a batch. It is made here alone, and isn't dropped: a caller that is
-/// generic over [`Runner`] ends as its run did.
-pub(crate) struct Ended {
-    status: Status,
-}
-
-impl Ended {
-    /// Whether something was refused.
-    pub(crate) fn is_refused(&self) -> bool {
-        self.status == Status::Refused
-    }
-
-    /// How it ended.
-    pub(crate) fn status(self) -> Status
-        ensures { result ≡ self.status }
-    {
-        let Ended { status } = self;
-        status
-    }
-}
-
-impl Termination for Ended {
-    fn report<R: Eprint>(self, _rt: &R) -> ExitCode
-        ensures { exit_status result ≡ code_of self.status }
-    {
-        ExitCode::from(self.status().code())
-    }
-}
-
-/// What runs a subcommand. A caller that is generic over this makes exactly one run, since it can neither copy nor drop
-/// a value. That the run below is of the subcommand that is named is left to the rows.
+/// What runs command lines, each but a batch.
 pub(crate) trait Runner {
-    /// Does what the arguments ask for, as the crate of their subcommand has it. All subcommands but `batch`.
+    // these runs were made so far, in order
+    ghost did: { Self → List RunEvent → Type 0 };
+
+    /// Does what the arguments ask for, the program's name first.
     fn run<R: Read, W: Write, E: Write>(
-        self,
+        &mut self,
         arguments: &[&str],
         reader: &mut R,
         writer: &mut W,
         errors: &mut E,
         is_terminal: bool,
-    ) -> Ended;
+    ) -> Status
+        ensures { Adds (did self.old) (did self.new) (Ran (map (λ a. a.now) arguments.now) (R.remaining reader.old)
+            (W.contents writer.old) (W.contents writer.new) is_terminal result ∷ []) };
+}
+
+/// The subcommands in the system. That each run is of the one that is named is left to the rows.
+#[derive(Clone, Copy)]
+pub(crate) struct Subcommands {
+    pub(crate) rt: HostRuntime,
 }
 
 /// The first argument behind the program's name, empty where there is none.
-pub(crate) fn subcommand_of<'a>(arguments: &[&'a str]) -> &'a str {
+pub(crate) fn subcommand_of<'a>(arguments: &[&'a str]) -> &'a str
+    ensures { result.now ≡ subcommand_of (map (λ a. a.now) arguments.now) }
+{
     match arguments {
         [_, subcommand, ..] => subcommand,
         _ => "",
     }
 }
 
-/// The subcommand whose help `help SUBCOMMAND` asks for, where a crate of its own has its options.
-pub(crate) fn helped<'a>(arguments: &[&'a str]) -> Option<&'a str> {
-    match arguments {
-        [_, "help", subcommand] => match *subcommand {
-            "node" | "ask" | "key" | "show" | "follow" | "batch" => Some(*subcommand),
-            _ => None,
-        },
-        _ => None,
-    }
+/// Whether the command lines of a batch are asked for.
+pub(crate) fn is_batch(arguments: &[&str]) -> bool
+    ensures { result ≡ is_batch (map (λ a. a.now) arguments.now) }
+{
+    subcommand_of(arguments) == "batch"
 }
 
 /// Whether an argument is `--control`, with its value or without.
@@ -98,26 +79,6 @@ fn asks_help(arguments: &[&str]) -> bool {
         is_help = is_help || *argument == "--help" || *argument == "-h";
     }
     is_help
-}
-
-/// Whether a control socket may be named by the environment: `ask` or `follow` names none, and asks for no help; `ask`
-/// no node's address.
-pub(crate) fn lacks_control(arguments: &[&str]) -> bool {
-    match subcommand_of(arguments) {
-        "ask" | "follow" => {
-            for argument in arguments {
-                if argument.starts_with("--control")
-                    || argument.starts_with("--to")
-                    || *argument == "--help"
-                    || *argument == "-h"
-                {
-                    return false;
-                }
-            }
-            true
-        }
-        _ => false,
-    }
 }
 
 /// `ask` at a control socket of the system.
@@ -159,6 +120,7 @@ fn help_ask<R: Read, W: Write, E: Write>(
             rt,
             &mut { *rt },
             &mut { *rt },
+            &mut { *rt },
             rt.alloc(),
             arguments,
             reader,
@@ -176,7 +138,7 @@ fn print_version<W: Write>(writer: &mut W) -> Status {
     }
 }
 
-/// Does what the arguments ask for, as the crate of their subcommand has it.
+/// Does what the arguments ask for, as the crate of their subcommand has it. All subcommands but `batch`.
 fn run_plain<R: Read, W: Write, E: Write>(
     rt: &HostRuntime,
     arguments: &[&str],
@@ -196,6 +158,7 @@ fn run_plain<R: Read, W: Write, E: Write>(
         }
         "node" | "ask" | "key" => run_net(
             rt,
+            &mut { *rt },
             &mut { *rt },
             &mut { *rt },
             alloc,
@@ -226,42 +189,41 @@ fn run_plain<R: Read, W: Write, E: Write>(
     }
 }
 
-impl Runner for HostRuntime {
+impl Runner for Subcommands {
+    // no contract states what the subcommands do in the system
+    ghost did = { λ _ _. ⊤ };
+
     fn run<R: Read, W: Write, E: Write>(
-        self,
+        &mut self,
         arguments: &[&str],
         reader: &mut R,
         writer: &mut W,
         errors: &mut E,
         is_terminal: bool,
-    ) -> Ended {
-        Ended {
-            status: run_plain(&self, arguments, reader, writer, errors, is_terminal),
-        }
+    ) -> Status {
+        run_plain(&self.rt, arguments, reader, writer, errors, is_terminal)
     }
 }
 
-/// The same of `batch`.
-pub(crate) fn run_lines<W: Write, E: Write>(
-    rt: &HostRuntime,
+/// Does what the arguments ask for, the program's name first: what the command lines of a batch ask for, or else what
+/// they do.
+pub(crate) fn run_any<F: Files, T: Runner, R: Read, W: Write, E: Write>(
+    files: &F,
+    runner: &mut T,
+    alloc: Global,
     arguments: &[&str],
+    reader: &mut R,
     writer: &mut W,
     errors: &mut E,
-) -> Ended {
-    Ended {
-        status: run_batch(rt, arguments, writer, errors),
-    }
-}
-
-/// How the program ends where the system doesn't give it its arguments.
-pub(crate) fn without_arguments(rt: &HostRuntime, error: &io::Error) -> Ended
-    ensures { 0 < code_of result.status }
+    is_terminal: bool,
+) -> Status
+    ensures { is_batch (map (λ a. a.now) arguments.now) ≡ false →
+        Adds (T.did runner.old) (T.did runner.new) (Ran (map (λ a. a.now) arguments.now) (R.remaining reader.old)
+        (W.contents writer.old) (W.contents writer.new) is_terminal result ∷ []) }
 {
-    Ended {
-        status: if error.kind() == ErrorKind::OutOfMemory {
-            out_of_memory(&mut io::writer(rt))
-        } else {
-            Status::Usage
-        },
+    if is_batch(arguments) {
+        run_batch(files, runner, alloc, arguments, reader, writer, errors)
+    } else {
+        runner.run(arguments, reader, writer, errors, is_terminal)
     }
 }

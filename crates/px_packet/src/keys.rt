@@ -13,15 +13,10 @@ use std::alloc::AllocError;
 
 /// The keys of a member's packets. It may have two, and opens what was sealed with either: a cluster's key is changed
 /// member by member, with no stop of all.
+#[derive(Drop)]
 pub struct PacketKeys {
     pub(crate) key: PacketKey,
     pub(crate) other: Option<PacketKey>,
-}
-
-impl Drop for PacketKeys {
-    fn drop(self) {
-        let PacketKeys { key: _, other: _ } = self;
-    }
 }
 
 /// The key, made ready.

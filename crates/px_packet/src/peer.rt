@@ -11,18 +11,10 @@ use crate::window::Window;
 use std::alloc::{AllocError, Global};
 
 /// What a receiver remembers of a member: its start, and which counters of that start it accepted.
+#[derive(Drop)]
 pub struct Peer {
     pub(crate) start: Start,
     pub(crate) window: Window,
-}
-
-impl Drop for Peer {
-    fn drop(self) {
-        let Peer {
-            start: _,
-            window: _,
-        } = self;
-    }
 }
 
 /// Whether a packet's body is for this start of the receiver.

@@ -16,18 +16,10 @@ const UNFINISHED_MAX: usize = 8;
 
 /// A receiver's unfinished datagrams of one sender, in the order in which they began, 8 at most. A new one is made
 /// where the sender starts anew, since it names its datagrams anew then.
+#[derive(Drop)]
 pub struct Reassembly {
     alloc: Global,
     partials: Vec<Partial>,
-}
-
-impl Drop for Reassembly {
-    fn drop(self) {
-        let Reassembly {
-            alloc: _,
-            partials: _,
-        } = self;
-    }
 }
 
 impl Model for Reassembly {

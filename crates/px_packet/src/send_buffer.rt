@@ -102,21 +102,12 @@ fn place_with(cuts: &[Cut], name: u32) -> usize
 
 /// What a sender keeps of the datagrams that it cut for one receiver, 8 at most, so that pieces that are missing can be
 /// sent again. A sender that starts anew begins with a new one.
+#[derive(Drop)]
 pub struct SendBuffer {
     alloc: Global,
     /// How many datagrams were cut: the next name.
     count: u64,
     cuts: Vec<Cut>,
-}
-
-impl Drop for SendBuffer {
-    fn drop(self) {
-        let SendBuffer {
-            alloc: _,
-            count: _,
-            cuts: _,
-        } = self;
-    }
 }
 
 impl Model for SendBuffer {

@@ -79,6 +79,13 @@ pub record IsWireState {W C : Type 0} (below : List WireEvent → Type 0) (k : W
 abbrev pub state_of : {W C : Type 0} → (es : List WireEvent) → (hs : List Heard) → PacketWire W C → WireState
 state_of es hs w = record { traffic = es; outgoing = outgoing_of w; heard = hs; failures = w.failures }
 
+-- whatever went over the wire below and was heard, the wire gets to a state of which this holds
+abbrev pub Leads : {W C : Type 0} → (traffic : W → List WireEvent → Type 0) → (w w' : PacketWire W C) →
+    (how : (k k' : WireState) → Type 0) → Type 0
+Leads traffic w w' how =
+    (hs : List Heard) → Hears (sealer_of w).start hs (receiver_of w) → (es : List WireEvent) → traffic (inner_of w) es →
+    (k : WireState) × how (state_of es hs w) k × IsWireState (traffic (inner_of w')) k w'
+
 -- it stays this member's, with these keys
 pub record IsSameMember {W C : Type 0} (w w' : PacketWire W C) : Type 0 where
   pub sealer_is : sealer_of w' ≡ sealer_of w

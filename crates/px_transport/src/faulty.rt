@@ -11,6 +11,7 @@ use crate::wire::Wire;
 /// A wire of which each `k`-th receive and each `k`-th send fails, is counted, and doesn't reach the wire below; the
 /// others are that wire's. A poll is a receive; what isn't one of the two never fails. For tests of what lost datagrams
 /// do.
+#[derive(Drop)]
 pub struct FaultyWire<W> {
     inner: W,
     period: u64,
@@ -19,18 +20,6 @@ pub struct FaultyWire<W> {
     /// The same of sends.
     sends_left: u64,
     missed: u64,
-}
-
-impl<W: Drop> Drop for FaultyWire<W> {
-    fn drop(self) {
-        let FaultyWire {
-            inner: _,
-            period: _,
-            recvs_left: _,
-            sends_left: _,
-            missed: _,
-        } = self;
-    }
 }
 
 impl<W: Wire> FaultyWire<W> {

@@ -79,9 +79,7 @@ impl<W: Wire> LoopbackWire<W> {
         ensures none { result ≡ None → (kept_of self.old ≡ []) × (kept_of self.new ≡ []) }
         ensures below { (below_of self.new ≡ below_of self.old) × (me_of self.new ≡ me_of self.old) }
     {
-        let Some(datagram) = self.kept.pop_front() else {
-            return None;
-        };
+        let datagram = self.kept.pop_front()?;
         Some(put_whole(datagram.as_slice(), into))
     }
 

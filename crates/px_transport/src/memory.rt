@@ -12,6 +12,7 @@ use std::alloc::{AllocError, Global};
 
 /// A wire in memory: it gives the datagrams that it was made with, in order, and keeps what it is handed as long as
 /// memory holds that.
+#[derive(Drop)]
 pub struct MemoryWire {
     coming: Vec<Vec<u8>>,
     /// How many of them were given.
@@ -21,19 +22,6 @@ pub struct MemoryWire {
     is_whole: bool,
     failures: u64,
     alloc: Global,
-}
-
-impl Drop for MemoryWire {
-    fn drop(self) {
-        let MemoryWire {
-            coming: _,
-            next: _,
-            sent: _,
-            is_whole: _,
-            failures: _,
-            alloc: _,
-        } = self;
-    }
 }
 
 impl MemoryWire {

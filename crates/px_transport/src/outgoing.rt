@@ -67,7 +67,8 @@ impl Outgoing {
 
     /// The counter of the next packet; none where all were used.
     pub(crate) fn next(&self) -> Option<u64>
-        ensures { IfSome result (λ n. n ≡ self.now.counter + 1) }
+        ensures next { IfSome result (λ n. n ≡ self.now.counter + 1) }
+        ensures none { IfNone result (self.now.counter ≡ 18446744073709551615) }
     {
         self.counter.checked_add(1)
     }

@@ -1,7 +1,7 @@
 //! A wire of packets of the second format.
 
-ghost use Rattle.std.specs.Prelude.{◌≡◌, ◌≤◌, IfOk, length};
-ghost use Rattle.px_transport.specs.Wires.{Counts};
+ghost use Rattle.std.specs.Prelude.{◌≡◌, ◌≤◌, IfOk, IfSome, length, option_map, take};
+ghost use Rattle.px_transport.specs.Wires.{Counts, Adds, gives};
 ghost use Rattle.px_transport.specs.declared.packet_wire.TheConstants.{ROOM_BYTES};
 ghost use Rattle.px_transport.specs.Sending.{time_left};
 
@@ -59,10 +59,7 @@ impl<W: Drop, C: Drop> Drop for PacketWire<W, C> {
 
 /// The clock's reading.
 fn reading<C: Clock>(clock: &C) -> Option<Instant> {
-    match Instant::now(clock) {
-        Ok(now) => Some(now),
-        Err(_) => None,
-    }
+    Instant::now(clock).ok()
 }
 
 /// Room for what comes.
@@ -99,6 +96,18 @@ fn count_below(failures: u64, before: u64, after: u64) -> u64
     ensures { failures ≤ result }
 {
     failures.saturating_add(after.saturating_sub(before))
+}
+
+/// Receives a datagram of a wire, which is waited for or not.
+fn receive<W: Wire>(wire: &mut W, waits: bool, into: &mut [u8]) -> Option<usize>
+    ensures fits { IfSome result (λ n. n ≤ length into.new) }
+    ensures gave { Adds (W.traffic wire.old) (W.traffic wire.new) (gives (option_map (λ n. take n into.new) result)) }
+    ensures same { W.identity wire.new ≡ W.identity wire.old }
+{
+    if waits {
+        return wire.recv(into);
+    }
+    wire.poll(into)
 }
 
 impl<W: Wire + Drop, C: Clock + Drop> PacketWire<W, C> {
@@ -153,13 +162,12 @@ impl<W: Wire + Drop, C: Clock + Drop> PacketWire<W, C> {
 }
 
 impl<W: Wire, C: Clock> PacketWire<W, C> {
-    ghost use Rattle.std.specs.Prelude.{◌<◌, List, IfSome, option_map, take};
-    ghost use Rattle.px_transport.specs.Wires.{WireEvent, Adds, gives};
+    ghost use Rattle.std.specs.Prelude.{◌<◌, List};
     ghost use Rattle.px_transport.specs.Receiving.{Heard, Hears};
     ghost use Rattle.px_transport.specs.Wiring.{inner_of, sealer_of, keys_of, receiver_of, dropped_of, copies_of};
-    ghost use Rattle.px_transport.specs.Wiring.{WireState, IsWireState, IsSameMember, IsSameCount, state_of, State};
-    ghost use Rattle.px_transport.specs.Wiring.{Report, Again, Does, DoesAll, duties, upkeep, Takes, TakesAny};
-    ghost use Rattle.px_transport.specs.Wiring.{outgoing_of, next_due, state_due};
+    ghost use Rattle.px_transport.specs.Wiring.{IsSameMember, IsSameCount, Leads, State, Report, Again, Does, DoesAll};
+    ghost use Rattle.px_transport.specs.Wiring.{duties, upkeep, Takes, TakesAny, Received, WentSealed, outgoing_of};
+    ghost use Rattle.px_transport.specs.Wiring.{next_due, state_due};
 
     /// The wire below, to be looked at.
     pub fn inner(&self) -> &W
@@ -195,10 +203,7 @@ impl<W: Wire, C: Clock> PacketWire<W, C> {
     /// Sends a member a packet of kind state, if it is due.
     fn state_to(&mut self, member: u8, now: u64)
         requires { member < self.old.sender.members }
-        ensures does { (hs : List Heard) → Hears (sealer_of self.old).start hs (receiver_of self.old) →
-            (es : List WireEvent) → W.traffic (inner_of self.old) es → (k : WireState) ×
-            Does (sealer_of self.old) now (State member)
-            (state_of es hs self.old) k × IsWireState (W.traffic (inner_of self.new)) k self.new }
+        ensures does { Leads W.traffic self.old self.new (Does (sealer_of self.old) now (State member)) }
         ensures member { IsSameMember self.old self.new }
         ensures count { IsSameCount self.old self.new }
         ensures rises { self.old.failures ≤ self.new.failures }
@@ -212,10 +217,7 @@ impl<W: Wire, C: Clock> PacketWire<W, C> {
     /// Sends a member which pieces of a datagram of it have come, if that is due.
     fn report_to(&mut self, member: u8, now: u64)
         requires { member < self.old.sender.members }
-        ensures does { (hs : List Heard) → Hears (sealer_of self.old).start hs (receiver_of self.old) →
-            (es : List WireEvent) → W.traffic (inner_of self.old) es → (k : WireState) ×
-            Does (sealer_of self.old) now (Report member)
-            (state_of es hs self.old) k × IsWireState (W.traffic (inner_of self.new)) k self.new }
+        ensures does { Leads W.traffic self.old self.new (Does (sealer_of self.old) now (Report member)) }
         ensures member { IsSameMember self.old self.new }
         ensures count { IsSameCount self.old self.new }
         ensures rises { self.old.failures ≤ self.new.failures }
@@ -231,10 +233,7 @@ impl<W: Wire, C: Clock> PacketWire<W, C> {
 
     /// Sends a member the pieces that it lacks of a datagram, while that is kept.
     fn pieces_again(&mut self, member: u8, held: PiecesHeld, now: u64)
-        ensures does { (hs : List Heard) → Hears (sealer_of self.old).start hs (receiver_of self.old) →
-            (es : List WireEvent) → W.traffic (inner_of self.old) es → (k : WireState) ×
-            Does (sealer_of self.old) now (Again member held)
-            (state_of es hs self.old) k × IsWireState (W.traffic (inner_of self.new)) k self.new }
+        ensures does { Leads W.traffic self.old self.new (Does (sealer_of self.old) now (Again member held)) }
         ensures member { IsSameMember self.old self.new }
         ensures count { IsSameCount self.old self.new }
         ensures rises { self.old.failures ≤ self.new.failures }
@@ -253,10 +252,8 @@ impl<W: Wire, C: Clock> PacketWire<W, C> {
     /// Does what is due towards a member, if it is another one.
     fn keep_up_with(&mut self, member: u8, now: u64)
         requires { member < self.old.sender.members }
-        ensures does { (hs : List Heard) → Hears (sealer_of self.old).start hs (receiver_of self.old) →
-            (es : List WireEvent) → W.traffic (inner_of self.old) es → (k : WireState) ×
-            DoesAll (sealer_of self.old) now (duties (sealer_of self.old) member)
-            (state_of es hs self.old) k × IsWireState (W.traffic (inner_of self.new)) k self.new }
+        ensures does { Leads W.traffic self.old self.new
+            (DoesAll (sealer_of self.old) now (duties (sealer_of self.old) member)) }
         ensures member { IsSameMember self.old self.new }
         ensures count { IsSameCount self.old self.new }
         ensures rises { self.old.failures ≤ self.new.failures }
@@ -273,10 +270,8 @@ impl<W: Wire, C: Clock> PacketWire<W, C> {
 
     /// Does what is due towards each other member.
     fn keep_up(&mut self, now: u64)
-        ensures does { (hs : List Heard) → Hears (sealer_of self.old).start hs (receiver_of self.old) →
-            (es : List WireEvent) → W.traffic (inner_of self.old) es → (k : WireState) ×
-            DoesAll (sealer_of self.old) now (upkeep (sealer_of self.old))
-            (state_of es hs self.old) k × IsWireState (W.traffic (inner_of self.new)) k self.new }
+        ensures does { Leads W.traffic self.old self.new
+            (DoesAll (sealer_of self.old) now (upkeep (sealer_of self.old))) }
         ensures member { IsSameMember self.old self.new }
         ensures count { IsSameCount self.old self.new }
         ensures rises { self.old.failures ≤ self.new.failures }
@@ -314,12 +309,9 @@ impl<W: Wire, C: Clock> PacketWire<W, C> {
     /// Takes what came: how many bytes are given.
     fn hear(&mut self, n: usize, now: u64, into: &mut [u8]) -> usize
         requires { n ≤ length self.old.incoming.items }
-        ensures takes { (hs : List Heard) → Hears (sealer_of self.old).start hs (receiver_of self.old) →
-            (es : List WireEvent) → W.traffic (inner_of self.old) es → (k : WireState) ×
-            Takes (keys_of self.old) (sealer_of self.old) now (take n self.old.incoming.items)
-            (length into.old) (take result into.new) (state_of es hs self.old) k
-            (dropped_of self.old) (dropped_of self.new) (copies_of self.old) (copies_of self.new) ×
-            IsWireState (W.traffic (inner_of self.new)) k self.new }
+        ensures takes { Leads W.traffic self.old self.new (λ k k'. Takes (keys_of self.old) (sealer_of self.old) now
+            (take n self.old.incoming.items) (length into.old) (take result into.new) k k' (dropped_of self.old)
+            (dropped_of self.new) (copies_of self.old) (copies_of self.new)) }
         ensures fits { result ≤ length into.new }
         ensures member { IsSameMember self.old self.new }
         ensures rises { self.old.failures ≤ self.new.failures }
@@ -338,8 +330,8 @@ impl<W: Wire, C: Clock> PacketWire<W, C> {
         0
     }
 
-    /// Waits for a packet of the wire below, and counts what it failed at.
-    fn recv_below(&mut self) -> Option<usize>
+    /// Receives a packet of the wire below, which is waited for or not, and counts what that failed at.
+    fn receive_below(&mut self, waits: bool) -> Option<usize>
         ensures gave { Adds (W.traffic (inner_of self.old)) (W.traffic (inner_of self.new))
             (gives (option_map (λ n. take n self.new.incoming.items) result)) }
         ensures fits { IfSome result (λ n. n ≤ length self.new.incoming.items) }
@@ -350,24 +342,7 @@ impl<W: Wire, C: Clock> PacketWire<W, C> {
         ensures same { W.identity (inner_of self.new) ≡ W.identity (inner_of self.old) }
     {
         let before = self.inner.failures();
-        let came = self.inner.recv(self.incoming.as_mut_slice());
-        self.failures = count_below(self.failures, before, self.inner.failures());
-        came
-    }
-
-    /// Takes a packet that has reached the wire below, and counts what it failed at.
-    fn poll_below(&mut self) -> Option<usize>
-        ensures gave { Adds (W.traffic (inner_of self.old)) (W.traffic (inner_of self.new))
-            (gives (option_map (λ n. take n self.new.incoming.items) result)) }
-        ensures fits { IfSome result (λ n. n ≤ length self.new.incoming.items) }
-        ensures sender { self.new.sender ≡ self.old.sender }
-        ensures receiver { self.new.receiver ≡ self.old.receiver }
-        ensures count { IsSameCount self.old self.new }
-        ensures rises { self.old.failures ≤ self.new.failures }
-        ensures same { W.identity (inner_of self.new) ≡ W.identity (inner_of self.old) }
-    {
-        let before = self.inner.failures();
-        let came = self.inner.poll(self.incoming.as_mut_slice());
+        let came = receive(&mut self.inner, waits, self.incoming.as_mut_slice());
         self.failures = count_below(self.failures, before, self.inner.failures());
         came
     }
@@ -375,13 +350,10 @@ impl<W: Wire, C: Clock> PacketWire<W, C> {
     /// Takes what came, if anything did: how many bytes are given.
     fn take_came(&mut self, came: Option<usize>, now: u64, into: &mut [u8]) -> Option<usize>
         requires { IfSome came (λ n. n ≤ length self.old.incoming.items) }
-        ensures takes { (hs : List Heard) → Hears (sealer_of self.old).start hs (receiver_of self.old) →
-            (es : List WireEvent) → W.traffic (inner_of self.old) es → (k : WireState) ×
-            TakesAny (keys_of self.old) (sealer_of self.old) now
+        ensures takes { Leads W.traffic self.old self.new (λ k k'. TakesAny (keys_of self.old) (sealer_of self.old) now
             (option_map (λ n. take n self.old.incoming.items) came) (length into.old)
-            (option_map (λ n. take n into.new) result) (state_of es hs self.old) k
-            (dropped_of self.old) (dropped_of self.new) (copies_of self.old) (copies_of self.new) ×
-            IsWireState (W.traffic (inner_of self.new)) k self.new }
+            (option_map (λ n. take n into.new) result) k k' (dropped_of self.old) (dropped_of self.new)
+            (copies_of self.old) (copies_of self.new)) }
         ensures fits { IfSome result (λ n. n ≤ length into.new) }
         ensures member { IsSameMember self.old self.new }
         ensures rises { self.old.failures ≤ self.new.failures }
@@ -392,16 +364,34 @@ impl<W: Wire, C: Clock> PacketWire<W, C> {
             None => None,
         }
     }
+
+    /// Does what is due, and takes what then comes over the wire below, which is waited for or not.
+    fn receive(&mut self, waits: bool, into: &mut [u8]) -> Option<usize>
+        ensures receives { Leads W.traffic self.old self.new (λ k k'. Received (keys_of self.old) (sealer_of self.old)
+            (length into.old) (option_map (λ n. take n into.new) result) k k' (dropped_of self.old)
+            (dropped_of self.new) (copies_of self.old) (copies_of self.new)) }
+        ensures member { IsSameMember self.old self.new }
+        ensures fits { IfSome result (λ n. n ≤ length into.new) }
+        ensures gave { Adds (WentSealed (W.traffic (inner_of self.old)) self.old)
+            (WentSealed (W.traffic (inner_of self.new)) self.new) (gives (option_map (λ n. take n into.new) result)) }
+        ensures counts { self.old.failures ≤ self.new.failures }
+        ensures same { W.identity (inner_of self.new) ≡ W.identity (inner_of self.old) }
+    {
+        let now = self.now();
+        self.keep_up(now);
+        let came = self.receive_below(waits);
+        self.take_came(came, now, into)
+    }
 }
 
 impl<W: Wire, C: Clock> Wire for PacketWire<W, C> {
-    ghost use Rattle.std.specs.Prelude.{ℕ, List, [], ◌∷◌, IsTrue, IfSome, option_map, take};
-    ghost use Rattle.px_transport.specs.Wires.{WireEvent, Adds, IsQuiet, Handed, gives};
+    ghost use Rattle.std.specs.Prelude.{ℕ, List, [], ◌∷◌, IsTrue};
+    ghost use Rattle.px_transport.specs.Wires.{IsQuiet, Handed};
     ghost use Rattle.px_transport.specs.Identities.{with_sealing};
     ghost use Rattle.px_transport.specs.Receiving.{Heard, Hears};
     ghost use Rattle.px_transport.specs.Wiring.{inner_of, sealer_of, keys_of, receiver_of, failures_of, dropped_of};
-    ghost use Rattle.px_transport.specs.Wiring.{copies_of, WireState, IsWireState, IsSameMember, IsSameCount, state_of};
-    ghost use Rattle.px_transport.specs.Wiring.{Received, Waited, IsSent, WentSealed, outgoing_of, next_due};
+    ghost use Rattle.px_transport.specs.Wiring.{copies_of, IsSameMember, IsSameCount, Leads, Received, Waited, IsSent};
+    ghost use Rattle.px_transport.specs.Wiring.{WentSealed, outgoing_of, next_due};
 
     ghost traffic = { λ w es. WentSealed (W.traffic w.inner) w es };
 
@@ -410,12 +400,9 @@ impl<W: Wire, C: Clock> Wire for PacketWire<W, C> {
     ghost identity = { λ w. with_sealing (keys_of w) (sealer_of w) (W.identity w.inner) };
 
     fn recv(&mut self, into: &mut [u8]) -> Option<usize>
-        ensures receives { (hs : List Heard) → Hears (sealer_of self.old).start hs (receiver_of self.old) →
-            (es : List WireEvent) → W.traffic (inner_of self.old) es → (k : WireState) ×
-            Received (keys_of self.old) (sealer_of self.old) (length into.old)
-            (option_map (λ n. take n into.new) result) (state_of es hs self.old) k (dropped_of self.old)
-            (dropped_of self.new) (copies_of self.old) (copies_of self.new) ×
-            IsWireState (W.traffic (inner_of self.new)) k self.new }
+        ensures receives { Leads W.traffic self.old self.new (λ k k'. Received (keys_of self.old) (sealer_of self.old)
+            (length into.old) (option_map (λ n. take n into.new) result) k k' (dropped_of self.old)
+            (dropped_of self.new) (copies_of self.old) (copies_of self.new)) }
         ensures member { IsSameMember self.old self.new }
         ensures fits { IfSome result (λ n. n ≤ length into.new) }
         ensures gave { Adds (WentSealed (W.traffic (inner_of self.old)) self.old)
@@ -424,19 +411,13 @@ impl<W: Wire, C: Clock> Wire for PacketWire<W, C> {
         ensures same { with_sealing (keys_of self.new) (sealer_of self.new) (W.identity (inner_of self.new)) ≡
             with_sealing (keys_of self.old) (sealer_of self.old) (W.identity (inner_of self.old)) }
     {
-        let now = self.now();
-        self.keep_up(now);
-        let came = self.recv_below();
-        self.take_came(came, now, into)
+        self.receive(true, into)
     }
 
     fn poll(&mut self, into: &mut [u8]) -> Option<usize>
-        ensures receives { (hs : List Heard) → Hears (sealer_of self.old).start hs (receiver_of self.old) →
-            (es : List WireEvent) → W.traffic (inner_of self.old) es → (k : WireState) ×
-            Received (keys_of self.old) (sealer_of self.old) (length into.old)
-            (option_map (λ n. take n into.new) result) (state_of es hs self.old) k (dropped_of self.old)
-            (dropped_of self.new) (copies_of self.old) (copies_of self.new) ×
-            IsWireState (W.traffic (inner_of self.new)) k self.new }
+        ensures receives { Leads W.traffic self.old self.new (λ k k'. Received (keys_of self.old) (sealer_of self.old)
+            (length into.old) (option_map (λ n. take n into.new) result) k k' (dropped_of self.old)
+            (dropped_of self.new) (copies_of self.old) (copies_of self.new)) }
         ensures member { IsSameMember self.old self.new }
         ensures fits { IfSome result (λ n. n ≤ length into.new) }
         ensures gave { Adds (WentSealed (W.traffic (inner_of self.old)) self.old)
@@ -445,17 +426,11 @@ impl<W: Wire, C: Clock> Wire for PacketWire<W, C> {
         ensures same { with_sealing (keys_of self.new) (sealer_of self.new) (W.identity (inner_of self.new)) ≡
             with_sealing (keys_of self.old) (sealer_of self.old) (W.identity (inner_of self.old)) }
     {
-        let now = self.now();
-        self.keep_up(now);
-        let came = self.poll_below();
-        self.take_came(came, now, into)
+        self.receive(false, into)
     }
 
     fn wait(&mut self, milliseconds: u32)
-        ensures waits { (hs : List Heard) → Hears (sealer_of self.old).start hs (receiver_of self.old) →
-            (es : List WireEvent) → W.traffic (inner_of self.old) es → (k : WireState) ×
-            Waited (sealer_of self.old) (state_of es hs self.old) k ×
-            IsWireState (W.traffic (inner_of self.new)) k self.new }
+        ensures waits { Leads W.traffic self.old self.new (Waited (sealer_of self.old)) }
         ensures member { IsSameMember self.old self.new }
         ensures count { IsSameCount self.old self.new }
         ensures quiet { IsQuiet (WentSealed (W.traffic (inner_of self.old)) self.old)
@@ -481,10 +456,7 @@ impl<W: Wire, C: Clock> Wire for PacketWire<W, C> {
     }
 
     fn send(&mut self, to: u8, bytes: &[u8]) -> bool
-        ensures sent { (hs : List Heard) → Hears (sealer_of self.old).start hs (receiver_of self.old) →
-            (es : List WireEvent) → W.traffic (inner_of self.old) es → (k : WireState) ×
-            IsSent (sealer_of self.old) to bytes.now result (state_of es hs self.old) k ×
-            IsWireState (W.traffic (inner_of self.new)) k self.new }
+        ensures sent { Leads W.traffic self.old self.new (IsSent (sealer_of self.old) to bytes.now result) }
         ensures receiver { receiver_of self.new ≡ receiver_of self.old }
         ensures member { IsSameMember self.old self.new }
         ensures count { IsSameCount self.old self.new }

@@ -127,21 +127,12 @@ fn earlier(a: Option<u64>, b: Option<u64>) -> Option<u64>
 
 /// What a member hears of the others: for each its start, which packets of it were accepted, and its unfinished
 /// datagrams.
+#[derive(Drop)]
 pub struct Receiver {
     alloc: Global,
     pub(crate) start: Start,
     /// One a member, by its number.
     pub(crate) entries: Vec<Entry>,
-}
-
-impl Drop for Receiver {
-    fn drop(self) {
-        let Receiver {
-            alloc: _,
-            start: _,
-            entries: _,
-        } = self;
-    }
 }
 
 impl Receiver {

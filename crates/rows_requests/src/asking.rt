@@ -9,7 +9,8 @@ use cli_follow::{SystemFiles, run_follow};
 use cli_io::Status;
 use std::alloc::{AllocError, Global};
 use std::fs;
-use std::io::{self, Cursor};
+use std::io::{self, Cursor, Write};
+use std::os::unix::fs::PermissionsExt;
 
 /// The arguments, in which `~` stands for a blank, with the program's name before them, and with more behind the
 /// subcommand.
@@ -47,13 +48,13 @@ pub(crate) fn print_run(
 }
 
 /// Runs `ask` at control sockets.
-fn ask_sockets<'x>(
+fn ask_sockets<'x, W: Write>(
     alloc: Global,
     operator: &Operator<'_>,
     sockets: &'x Sockets<'x>,
     arguments: &'x [String],
     input: &str,
-    written: &mut Vec<u8>,
+    written: &mut W,
     said: &mut Vec<u8>,
 ) -> Status {
     let mut peer = Reached::new(sockets);
@@ -69,14 +70,19 @@ fn ask_sockets<'x>(
     )
 }
 
-/// Runs the program with these arguments at the control socket.
-fn run(rt: &HostRuntime, operator: &Operator<'_>, words: &str, input: &str) -> io::Result<()> {
-    let alloc = rt.alloc();
+/// Runs the program with these arguments at the control socket: how it ended, and what it wrote to standard error.
+fn run<W: Write>(
+    operator: &Operator<'_>,
+    words: &str,
+    input: &str,
+    written: &mut W,
+) -> io::Result<(Status, Vec<u8>)> {
+    let alloc = operator.rt.alloc();
     let all = words_of(alloc, words, &["--control", SOCKET])?;
     let sockets = Sockets {
         operator: &*operator,
     };
-    let (mut written, mut said) = (Vec::new(alloc), Vec::new(alloc));
+    let mut said = Vec::new(alloc);
     let status = if words.starts_with("follow ") {
         run_follow(
             operator,
@@ -84,7 +90,7 @@ fn run(rt: &HostRuntime, operator: &Operator<'_>, words: &str, input: &str) -> i
             &mut SystemFiles { rt: &*operator },
             alloc,
             all.as_slice(),
-            &mut written,
+            written,
             &mut said,
         )
     } else {
@@ -94,13 +100,13 @@ fn run(rt: &HostRuntime, operator: &Operator<'_>, words: &str, input: &str) -> i
             &sockets,
             all.as_slice(),
             input,
-            &mut written,
+            written,
             &mut said,
         )
     };
     // what was sent and isn't waited for is answered too
     operator.answer()?;
-    print_run(rt, status, &written, &said)
+    Ok((status, said))
 }
 
 /// Prints how many bytes a file has, and a sum of them in which each place counts.
@@ -123,16 +129,26 @@ pub(crate) fn run_row(
 ) -> io::Result<bool> {
     let (kind, words) = line.split_once(' ').unwrap_or((line, ""));
     match kind {
-        "RUN" | "LATE" | "CUT" => {
+        "RUN" | "LIVE" | "LATE" | "CUT" => {
             operator.set_late(kind == "LATE");
             operator.set_cut(kind == "CUT");
-            run(rt, operator, words, body)?;
+            let mut written = Vec::new(rt.alloc());
+            let (status, said) = if kind == "LIVE" {
+                run(operator, words, body, &mut io::writer(rt))?
+            } else {
+                run(operator, words, body, &mut written)?
+            };
+            print_run(rt, status, &written, &said)?;
         }
         "PFX" => network.run(rt, words)?,
         "STRANGER" => network.print_heard(rt)?,
         "NODE" => run_steps(operator, network, words, body)?,
         "SUM" => print_sum(rt, words)?,
         "FILE" => print!(rt; "{}", fs::read_to_string(rt, words)?)?,
+        "MODE" => println!(rt;
+            "{:o}",
+            fs::metadata(rt, words)?.permissions().mode() & 0o777
+        )?,
         "SOCKET" => println!(rt; "{:o}", operator.mode())?,
         _ => return Ok(false),
     }

@@ -10,14 +10,17 @@
 //! body has changes, a line each, with `|` for a newline. At each ask what was written so far is printed: the rulesets,
 //! and how many lines `lines` has; then the next change is made, and answered. A row `== FOLLOW GUARDED` has no
 //! rulesets, but lines with the members' guard, which are printed in the end. A row `== FOLLOW LATE` has rulesets in a
-//! folder that is made before the third ask.
+//! folder that is made before the third ask. A row `== FOLLOW LONG` has no rulesets, and 66 asks, at which nothing is
+//! printed, before the others.
 //!
 //! A row `== RUN ARGUMENTS` runs `ask` or `follow` with these arguments, in which `~` stands for a blank, and the body
 //! as the input, at the control socket of another node, which runs for a few turns for each connection. Of each request
 //! the first line is printed, and the head of the answer without its date and length; then a line `-- STATUS`, and what
-//! the program wrote. In a row `== LATE ARGUMENTS` the node's clock ticks at the end of its turns alone, and in a row
-//! `== CUT ARGUMENTS` half of the answer comes, and nothing more in time. `== SOCKET` prints the mode of that control
-//! socket, and `== FILE NAME` a file. Of a file that can't be opened the path is printed.
+//! the program wrote, which in a row `== LIVE ARGUMENTS` is printed as soon as it is written. In a row `== LATE
+//! ARGUMENTS` the node's clock ticks at the end of its turns alone, and in a row `== CUT ARGUMENTS` half of the answer
+//! comes, and nothing more in time. `== SOCKET` prints the mode of that control socket, `== MODE NAME` that of a file,
+//! and `== FILE NAME` a file. Of a file that can't be opened the path is printed. By the clock of these rows a pause
+//! takes 50 milliseconds, and a reading a tenth of one.
 //!
 //! A row `== NODE N` runs the first of N members at its control socket, with the timer that a node has, and a clock of
 //! the row's own: a round of the node takes a millisecond. Its body has steps, a line each, behind each of which the
@@ -31,6 +34,8 @@
 //! | `K` | client K connects; a client that isn't there connects first in the steps below too |
 //! | `K tcp` | client K connects to the port of figures |
 //! | `K METHOD TARGET BODY` | client K sends a request; without a target the front of one |
+//! | `K * N METHOD TARGET BODY` | client K sends the same N times at once, and reads one answer |
+//! | `K + N METHOD TARGET BODY` | client K does so, reads from the tenth step on, and its bytes are counted |
 //!
 //! A row `== PFX ARGUMENTS` runs the program's `node`, `key`, or `ask` over UDP, in a cluster of two, of which `@1` is
 //! the address of the first member, `@2` that of the second, at which the row listens, and `@3` that of figures of the
@@ -88,7 +93,7 @@ fn main(rt: HostRuntime) -> io::Result<()> {
             continue;
         }
         if let Some(kind) = line.strip_prefix("FOLLOW") {
-            follow_node(&rt, body, kind.trim_start())?;
+            follow_node(&operator, body, kind.trim_start())?;
             continue;
         }
         respond(&rt, &mut handler, line, body)?;

@@ -19,6 +19,8 @@ pub(crate) struct Network {
     socket: UdpSocket,
     /// Where a running node serves figures.
     pub(crate) figures: SocketAddr,
+    /// The same port of another address, which a node that serves figures there alone leaves free.
+    _elsewhere: TcpListener,
     /// The start of the packet that came last.
     start: Cell<u64>,
 }
@@ -35,17 +37,20 @@ fn start_in(packet: &[u8]) -> Option<u64> {
 }
 
 impl Network {
-    /// Free ports, of which the second member's is taken.
+    /// Free ports, of which the second member's is taken; that of figures is free at 127.0.0.1 alone.
     pub(crate) fn new(rt: &HostRuntime) -> io::Result<Network> {
         let alloc = rt.alloc();
         let socket = UdpSocket::bind(rt, "127.0.0.1:0")?;
         socket.set_nonblocking(true)?;
         let first = UdpSocket::bind(rt, "127.0.0.1:0")?;
+        let figures = TcpListener::bind(rt, "127.0.0.1:0")?.local_addr()?;
+        let other = format!(in alloc; "127.0.0.2:{}", figures.port())?;
         Ok(Network {
             first: first.local_addr()?.to_string(alloc)?,
             second: socket.local_addr()?.to_string(alloc)?,
             socket,
-            figures: TcpListener::bind(rt, "127.0.0.1:0")?.local_addr()?,
+            figures,
+            _elsewhere: TcpListener::bind(rt, other.as_str())?,
             start: Cell::new(0),
         })
     }
@@ -104,6 +109,7 @@ impl Network {
         let mut written = Vec::new(alloc);
         let status = run_net(
             rt,
+            &mut { *rt },
             &mut { *rt },
             &mut { *rt },
             alloc,

@@ -20,11 +20,20 @@ const READS: usize = 64;
 /// What is left of the ten seconds in which an answer has to come is waited for, in milliseconds of the row's clock.
 const PATIENCE: u64 = 9_980;
 
+/// How long a pause takes by the row's clock, in milliseconds.
+const PAUSE: u64 = 50;
+
+/// How long a reading of the clock takes, in microseconds.
+const READING: u64 = 100;
+
+/// The same where a node runs with this handle: a round of the node.
+const ROUND: u64 = 1_000;
+
 /// The system's files, and a node in place of its network.
 #[derive(Drop)]
 pub(crate) struct Operator<'a> {
     pub(crate) rt: &'a HostRuntime,
-    /// The time by its clock, in milliseconds. Each reading adds one.
+    /// The time by its clock, in microseconds. Each reading, and each pause, adds some.
     now: Cell<u64>,
     /// Whether connections are the system's.
     is_node: Cell<bool>,
@@ -105,9 +114,14 @@ impl<'a> Operator<'a> {
         }
     }
 
+    /// Time passes, in microseconds.
+    fn add(&self, time: u64) {
+        self.now.set(self.now.get().saturating_add(time));
+    }
+
     /// Time passes, in milliseconds.
     pub(crate) fn pass(&self, time: u64) {
-        self.now.set(self.now.get().saturating_add(time));
+        self.add(time.saturating_mul(1_000));
     }
 
     /// Whether a node is to run with this handle. Its clock begins anew.
@@ -170,12 +184,12 @@ impl<'a> Operator<'a> {
 impl Clock for Operator<'_> {
     fn monotonic(&self) -> io::Result<Duration> {
         self.answer()?;
-        self.pass(1);
+        self.add(if self.is_node.get() { ROUND } else { READING });
         self.since_1970()
     }
 
     fn since_1970(&self) -> io::Result<Duration> {
-        Ok(Duration::from_millis(self.now.get()))
+        Ok(Duration::from_micros(self.now.get()))
     }
 }
 
@@ -217,8 +231,14 @@ impl Net for Operator<'_> {
         Ok(near)
     }
 
+    /// Two streams: for a pause, which moves the clock alone, since what it would wait for is there.
     fn unix_pair(&self) -> io::Result<(UnixStream, UnixStream)> {
-        UnixStream::pair(self.rt)
+        let (near, mut far) = UnixStream::pair(self.rt)?;
+        if !self.is_node.get() {
+            self.pass(PAUSE);
+            far.write_all(b"-")?;
+        }
+        Ok((near, far))
     }
 
     fn unix_socket(&self) -> io::Result<OwnedFd> {

@@ -16,6 +16,9 @@ use std::os::unix::net::UnixStream;
 /// How many rounds the node makes after each step, one of its milliseconds each.
 const ROUNDS: u8 = 6;
 
+/// Behind how many steps a slow client is read.
+const SLOW: u8 = 10;
+
 /// For how many turns it runs at most.
 const TURNS: u64 = 1_000;
 
@@ -68,6 +71,13 @@ struct Steps<'a> {
     /// How many rounds the node makes before the next step.
     rounds: u8,
     clients: Vec<Option<UnixStream>>,
+    /// Which client sent the same many times: it isn't read behind its first answer.
+    many: Option<usize>,
+    unread: Option<UnixStream>,
+    /// Which client's bytes are counted alone, behind how many more steps it is read, and how many they were.
+    slow: Option<usize>,
+    rest: u8,
+    counted: usize,
     timer: TickTimer,
 }
 
@@ -79,15 +89,25 @@ impl Steps<'_> {
             let Some(stream) = client else {
                 continue;
             };
+            let is_slow = self.slow == Some(number);
+            if is_slow && self.rest > 0 {
+                self.rest -= 1;
+                continue;
+            }
             let (answer, is_closed) = come(rt, stream)?;
-            if !answer.is_empty() {
+            if is_slow {
+                self.counted = self.counted.saturating_add(answer.len());
+            } else if !answer.is_empty() {
                 let (head, body) = text_of(&answer).split_once("\r\n\r\n").unwrap_or(("", ""));
                 let first = head.lines().next().unwrap_or("");
+                let body = body.split("HTTP/1.1 ").next().unwrap_or("");
                 print!(rt; "{number} < {first}\n{body}")?;
             }
             if is_closed {
                 println!(rt; "{number} is closed")?;
                 *client = None;
+            } else if self.many == Some(number) && !answer.is_empty() {
+                self.unread = client.take();
             }
         }
         Ok(())
@@ -106,9 +126,23 @@ impl Steps<'_> {
         Ok(())
     }
 
-    /// The client with this number sends a request, or the front of one where its target is missing.
-    fn ask(&mut self, number: usize, request: &str) -> io::Result<()> {
+    /// The client with this number sends a request, or the front of one where its target is missing, N times behind
+    /// `* N` and `+ N`.
+    fn ask(&mut self, number: usize, what: &str) -> io::Result<()> {
         let alloc = self.operator.rt.alloc();
+        let (times, request) = match what.split_once(' ') {
+            Some(("*", rest)) => {
+                self.many = Some(number);
+                rest.split_once(' ').unwrap_or(("", ""))
+            }
+            Some(("+", rest)) => {
+                self.slow = Some(number);
+                self.rest = SLOW;
+                rest.split_once(' ').unwrap_or(("", ""))
+            }
+            _ => ("1", what),
+        };
+        let times = times.parse::<usize>().unwrap_or(0);
         let mut parts = request.splitn(3, ' ');
         let (method, target) = (parts.next().unwrap_or(""), parts.next().unwrap_or(""));
         let body = parts.next().unwrap_or("");
@@ -121,7 +155,7 @@ impl Steps<'_> {
             )?
         };
         match self.clients.get_mut(number) {
-            Some(Some(stream)) => stream.write_all(text.as_bytes()),
+            Some(Some(stream)) => stream.write_all(text.repeat(alloc, times)?.as_bytes()),
             _ => Ok(()),
         }
     }
@@ -215,11 +249,19 @@ pub(crate) fn run_steps(
         left: steps,
         rounds: 0,
         clients: Vec::new(alloc),
+        many: None,
+        unread: None,
+        slow: None,
+        rest: 0,
+        counted: 0,
         timer: TickTimer::new(0),
     };
     operator.set_node(true);
     let (ended, _member) = member.run(operator, alloc, &mut wire, &mut steps, figures, TURNS)?;
     operator.set_node(false);
     steps.print_come()?;
+    if steps.slow.is_some() {
+        println!(rt; "{} bytes counted", steps.counted)?;
+    }
     print_end(rt, &ended)
 }

@@ -25,8 +25,8 @@ const TURNS: u64 = 50;
 /// How many bytes are read at once.
 const CHUNK: usize = 8192;
 
-/// A client of the node, which goes on whenever the node asks what to do next. The clock ticks where a command waits; of
-/// a late one once the node is to end.
+/// A client of the node, which goes on whenever the node asks what to do next. The clock ticks where a command waits;
+/// of a late one once the node is to end.
 #[derive(Drop)]
 struct Client<'a> {
     rt: &'a HostRuntime,

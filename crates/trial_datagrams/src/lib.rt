@@ -15,7 +15,11 @@ mod bench;
 #[cfg(test)]
 mod bytes;
 #[cfg(test)]
+mod clocks;
+#[cfg(test)]
 mod datagrams;
+#[cfg(test)]
+mod disk;
 #[cfg(test)]
 mod entries;
 #[cfg(test)]

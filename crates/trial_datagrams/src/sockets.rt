@@ -1,15 +1,35 @@
 use crate::bench::Bench;
+use crate::bytes::{
+    ACCEPT, ASK_REFUSED, ASKED, LEARNED, NACK, NEED, PREPARE, PREPARE_ALL, PROMISE, PROMISE_ALL,
+    VOTE,
+};
 use node_udp::{BindFault, UdpWire, parse_address};
 use pf_addr::Addr;
 use px_transport::Wire;
 use std::cell::Cell;
 use std::panic::Expect;
+use std::time::Instant;
 
 /// The front of a datagram of a client: its sender is 255.
 const ASK: [u8; 13] = [0x50, 0x46, 0x58, 0x52, 1, 0, 0, 0, 7, 2, 255, 0, 8];
 
 /// The same with member 1 as its sender.
 const OF_ONE: [u8; 13] = [0x50, 0x46, 0x58, 0x52, 1, 0, 0, 0, 7, 2, 1, 0, 8];
+
+/// A datagram of a member, of each kind.
+const OF_MEMBERS: [&[u8]; 11] = [
+    PREPARE,
+    PREPARE_ALL,
+    PROMISE,
+    PROMISE_ALL,
+    ACCEPT,
+    VOTE,
+    LEARNED,
+    NACK,
+    NEED,
+    ASKED,
+    ASK_REFUSED,
+];
 
 /// Bytes that are no datagram, with 255 where one has its sender.
 const NO_DATAGRAM: [u8; 13] = [0, 0, 0, 0, 0, 0, 0, 0, 0, 0, 255, 0, 8];
@@ -283,7 +303,7 @@ fn a_poll_takes_what_has_come_and_waits_for_none(rt: HostRuntime) {
 
 /// Whether an empty datagram comes.
 fn hears_empty<W: Wire>(wire: &mut W) -> bool {
-    let mut room = [0u8; 20];
+    let mut room = [0u8; 64];
     wire.recv(&mut room) == Some(0)
 }
 
@@ -293,8 +313,13 @@ fn has_empty<W: Wire>(wire: &mut W) -> bool {
     wire.poll(&mut room) == Some(0)
 }
 
-/// Whether three datagrams of a stranger are given as empty ones.
+/// Whether datagrams of a stranger are given as empty ones: those of members, of each kind, and three others.
 fn drops<W: Wire>(one: &mut W, stranger: &mut W) -> bool {
+    for datagram in OF_MEMBERS {
+        if !stranger.send(0, datagram) || !hears_empty(one) {
+            return false;
+        }
+    }
     let is_first = stranger.send(0, &OF_ONE) && hears_empty(one);
     let is_next = stranger.send(0, &NO_DATAGRAM) && hears_empty(one);
     let is_last = stranger.send(0, b"short");
@@ -315,8 +340,8 @@ fn a_stranger_is_dropped_unless_it_asks(rt: HostRuntime) {
     let mut one = UdpWire::bind(&rt, rt.alloc(), &members, 0, 1000).expect(&rt, "a socket");
     let mut other = UdpWire::bind(&rt, rt.alloc(), &members, 1, 10).expect(&rt, "a socket");
     let mut stranger = UdpWire::bind(&rt, rt.alloc(), &elsewhere, 1, 10).expect(&rt, "a socket");
-    let are_dropped = drops(&mut one, &mut stranger) && one.strangers() == 3;
-    let are_accepted = takes(&mut one, &mut other, &mut stranger) && one.strangers() == 3;
+    let are_dropped = drops(&mut one, &mut stranger) && one.strangers() == 14;
+    let are_accepted = takes(&mut one, &mut other, &mut stranger) && one.strangers() == 14;
     assert!(rt; are_dropped && are_accepted);
 }
 
@@ -372,4 +397,47 @@ fn a_name_is_looked_up(rt: HostRuntime) {
     };
     let mut client = UdpWire::bind(&rt, rt.alloc(), &members[..1], 255, 10).expect(&rt, "a socket");
     assert!(rt; sends(&mut client, &mut one, &ASK));
+}
+
+/// The members' names, and the address that each is found at: the first of IPv4, else the first.
+static NAMED: [(&str, &str); 3] = [
+    ("four:39433", "127.0.0.8:39433"),
+    ("both:39434", "127.0.0.7:39434"),
+    ("six:39435", "[fd00::2]:39435"),
+];
+
+#[test]
+fn a_name_is_its_first_address_of_ipv4(rt: HostRuntime) {
+    let now = Cell::new(0);
+    let bench = Bench {
+        rt,
+        now: &now,
+        step: Some(0),
+    };
+    let names = [NAMED[0].0, NAMED[1].0, NAMED[2].0];
+    let one = UdpWire::bind(&bench, rt.alloc(), &names, 0, 10).expect(&rt, "a socket");
+    for (place, (_, address)) in NAMED.iter().enumerate() {
+        assert!(rt; one.peers().get(place).copied() == parse_address(address));
+    }
+    assert!(rt; UdpWire::bind(&bench, rt.alloc(), &["none:39436"], 0, 10).is_err());
+}
+
+/// How many milliseconds a wait takes by the system's clock.
+pub fn waited<W: Wire>(rt: &HostRuntime, wire: &mut W, milliseconds: u32) -> Option<u128> {
+    let start = Instant::now(rt).ok()?;
+    wire.wait(milliseconds);
+    let end = Instant::now(rt).ok()?;
+    Some(end.duration_since(start).as_millis())
+}
+
+/// A wait for what never comes lasts, and one for what has come doesn't.
+#[test]
+fn a_wait_lasts_until_something_comes(rt: HostRuntime) {
+    let members = ["127.0.0.1:39431", "127.0.0.1:39432"];
+    let mut one = UdpWire::bind(&rt, rt.alloc(), &members, 0, 1000).expect(&rt, "a socket");
+    let mut other = UdpWire::bind(&rt, rt.alloc(), &members, 1, 10).expect(&rt, "a socket");
+    let idle = waited(&rt, &mut one, 100).unwrap_or(0);
+    let is_sent = other.send(0, b"a");
+    let woken = waited(&rt, &mut one, 60_000).unwrap_or(60_000);
+    assert!(rt; is_sent && idle >= 90 && woken < 50_000);
 }

@@ -1,6 +1,8 @@
-use cli_files::{KnownMember, StartsFault, read_starts, write_starts};
+use crate::disk::{Disk, STARTS};
+use cli_files::{KnownMember, StartsFault, raise_start, read_starts, write_starts};
 use px_packet::Start;
 use std::alloc::Global;
+use std::cell::Cell;
 use std::panic::Expect;
 
 const TEXT: &str = "pfx starts 1\n\
@@ -45,4 +47,27 @@ fn a_file_of_starts_is_read_as_it_was_written(rt: HostRuntime) {
         is_refused(rt.alloc(), b"pfx starts 2\n", StartsFault::Version)
             && is_refused(rt.alloc(), b"pfx starts 1\n0", StartsFault::Damaged)
     );
+}
+
+/// A new start has the time and what the random source gave, and is in the file, which is synced before it is renamed,
+/// as its folder is behind that.
+#[test]
+fn a_start_is_synced_before_it_is_used(rt: HostRuntime) {
+    let done = Cell::new(0);
+    let written = Cell::new(([0u8; 256], 0));
+    let disk = Disk {
+        done: &done,
+        written: &written,
+        seconds: 1_800_000_000,
+    };
+    let start = raise_start(&disk, rt.alloc(), STARTS, 3, 1, true).expect(&rt, "a start");
+    let wanted = Start {
+        number: 1_800_000_000,
+        salt: 0x5555_5555,
+    };
+    let (room, count) = written.get();
+    let members = read_starts(rt.alloc(), &room[..count.min(256)]).expect(&rt, "a file");
+    let kept = members.get(1).map(|member| member.start);
+    assert!(rt; start == wanted && members.len() == 3 && kept == Some(wanted));
+    assert!(rt; done.get() == 12_345_678);
 }

@@ -18,6 +18,8 @@ mod latest;
 #[cfg(test)]
 mod listing;
 #[cfg(test)]
+mod long_log;
+#[cfg(test)]
 mod member;
 #[cfg(test)]
 mod members;
@@ -39,3 +41,5 @@ mod step;
 mod tick_timer;
 #[cfg(test)]
 mod votes;
+#[cfg(test)]
+mod waiting;

@@ -86,20 +86,20 @@ fn spreads(
     is_asked && apply(parties, buffers, count)
 }
 
-/// Rules that are longer than a packet.
-fn long_text(alloc: Global) -> Result<String, AllocError> {
-    "pass proto tcp from 192.0.2.0/24 to 198.51.100.7 port 4000\n".repeat(alloc, 60)
+/// Rules that are longer than a packet, from 60 on.
+fn long_text(alloc: Global, rules: usize) -> Result<String, AllocError> {
+    "pass proto tcp from 192.0.2.0/24 to 198.51.100.7 port 4000\n".repeat(alloc, rules)
 }
 
-/// A short load by one member, and one that is longer than a packet by another: whether each applies them.
-fn all_traced(rt: &HostRuntime, k: u64) -> bool
+/// A short load by one member, and one of that many rules by another: whether each applies them.
+fn all_traced(rt: &HostRuntime, k: u64, rules: usize) -> bool
     requires { 0 < k }
 {
     let alloc = rt.alloc();
     let Some(mut buffers) = buffers(alloc) else {
         return false;
     };
-    let Ok(text) = long_text(alloc) else {
+    let Ok(text) = long_text(alloc, rules) else {
         return false;
     };
     let mut parties = Vec::new(alloc);
@@ -157,10 +157,10 @@ fn a_member_that_was_away_has_what_the_others_have(rt: HostRuntime) {
 
 #[test]
 fn what_is_asked_is_applied_over_packets(rt: HostRuntime) {
-    assert!(rt; all_traced(&rt, u64::MAX));
+    assert!(rt; all_traced(&rt, u64::MAX, 500));
 }
 
 #[test]
 fn lost_packets_are_sent_again(rt: HostRuntime) {
-    assert!(rt; all_traced(&rt, 7));
+    assert!(rt; all_traced(&rt, 7, 60));
 }

@@ -8,15 +8,10 @@ use px_transport::Wire;
 use std::alloc::Global;
 
 /// A member with its wire.
+#[derive(Drop)]
 pub(crate) struct Party<W> {
     pub(crate) node: Node<MemoryRecords>,
     pub(crate) wire: W,
-}
-
-impl<W: Drop> Drop for Party<W> {
-    fn drop(self) {
-        let Party { node: _, wire: _ } = self;
-    }
 }
 
 impl<W: Drop> Party<W> {

@@ -1,7 +1,9 @@
-//! Members that show how far they are, and what they are sent again.
+//! Members that show how far they are, and what they are sent again; what is sent again where nothing comes.
+
+ghost use Rattle.std.specs.Prelude.{⊤, false};
 
 use crate::members::{coming, member};
-use node_loop::{TickTimer, TurnBuffers, round};
+use node_loop::{Action, TickTimer, Timer, TurnBuffers, View, round};
 use pf_node::Node;
 use px_records::MemoryRecords;
 use px_transport::MemoryWire;
@@ -31,19 +33,29 @@ fn votes_of(alloc: Global, wire: &MemoryWire) -> Option<Vec<Vote>> {
     Some(votes)
 }
 
-/// A round of a node for which these datagrams have come: the votes that it sends.
+/// A round of a node with this timer, for which these datagrams have come: the votes that it sends.
+fn round_of<T: Timer>(
+    alloc: Global,
+    node: &mut Node<MemoryRecords>,
+    buffers: &mut TurnBuffers,
+    timer: &mut T,
+    coming: Vec<Vec<u8>>,
+) -> Option<Vec<Vote>> {
+    let mut wire = MemoryWire::new(alloc, coming);
+    match round(node, &mut wire, buffers, timer, 0) {
+        Ok(_) => votes_of(alloc, &wire),
+        Err(_) => None,
+    }
+}
+
+/// The same with the timer that a node has.
 fn round_with(
     alloc: Global,
     node: &mut Node<MemoryRecords>,
     buffers: &mut TurnBuffers,
     coming: Vec<Vec<u8>>,
 ) -> Option<Vec<Vote>> {
-    let mut wire = MemoryWire::new(alloc, coming);
-    let mut timer = TickTimer::new(0);
-    match round(node, &mut wire, buffers, &mut timer, 0) {
-        Ok(_) => votes_of(alloc, &wire),
-        Err(_) => None,
-    }
+    round_of(alloc, node, buffers, &mut TickTimer::new(0), coming)
 }
 
 /// Whether these are the votes that it sends where the datagram comes.
@@ -100,8 +112,13 @@ fn reminds(alloc: Global, datagram: &[u8], wanted: &[Vote]) -> bool {
 
 /// A flush of main's tables that member 1 proposes at the position, for member 0.
 const fn accept(position: u8) -> [u8; 41] {
+    accept_for(0, position)
+}
+
+/// The same for another member.
+const fn accept_for(to: u8, position: u8) -> [u8; 41] {
     [
-        0x50, 0x46, 0x58, 0x52, 1, 0, 0, 0, 7, 15, 1, 0, 3, 0, 0, 0, 0, 0, 0, 1, 1, 0, 0, 0,
+        0x50, 0x46, 0x58, 0x52, 1, 0, 0, 0, 7, 15, 1, to, 3, 0, 0, 0, 0, 0, 0, 1, 1, 0, 0, 0,
         position, 0, 0, 0, 12, 1, 1, 0, 0, 0, 0, 0, 0, 0, position, 3, 0,
     ]
 }
@@ -169,4 +186,61 @@ fn a_request_that_comes_again_is_answered_by_the_vote(rt: HostRuntime) {
     let mut node = member(rt.alloc(), 15, 0).expect(&rt, "a member");
     let mut buffers = TurnBuffers::new(rt.alloc(), &node.membership(), true).expect(&rt, "memory");
     assert!(rt; answers_again(rt.alloc(), &mut node, &mut buffers));
+}
+
+/// A timer by which what was sent is sent again in each round.
+#[derive(Drop)]
+struct Repeating;
+
+impl Timer for Repeating {
+    ghost timer_events = { λ _ _. ⊤ };
+
+    ghost listens = { λ _ _. false };
+
+    fn action(&mut self, _now: u64, _view: View) -> Action {
+        Action::Wait(10)
+    }
+
+    fn sent(&mut self, _now: u64) {}
+
+    fn repeats(&mut self, _now: u64) -> bool {
+        true
+    }
+
+    fn end(&mut self) {}
+
+    fn is_listening(&self, _now: u64) -> bool {
+        false
+    }
+}
+
+/// Whether member `me` of 15, which voted for a request, sends each other member that vote again where nothing comes.
+fn repeats(alloc: Global, me: u8) -> bool {
+    let (Some(mut node), Ok(request)) = (member(alloc, 15, me), coming(alloc, &accept_for(me, 0)))
+    else {
+        return false;
+    };
+    let Ok(mut buffers) = TurnBuffers::new(alloc, &node.membership(), true) else {
+        return false;
+    };
+    let first = round_with(alloc, &mut node, &mut buffers, request);
+    let none = Vec::new(alloc);
+    let Some(again) = round_of(alloc, &mut node, &mut buffers, &mut Repeating, none) else {
+        return false;
+    };
+    let is_first = match first {
+        Some(votes) => votes.len() == 15,
+        None => false,
+    };
+    for to in 0..15u8 {
+        if to != me && !again.contains(&(to, 0)) {
+            return false;
+        }
+    }
+    is_first
+}
+
+#[test]
+fn a_vote_is_sent_again_to_each_other_member(rt: HostRuntime) {
+    assert!(rt; repeats(rt.alloc(), 0) && repeats(rt.alloc(), 2) && repeats(rt.alloc(), 14));
 }

@@ -6,8 +6,6 @@ use Rattle.std.specs.List.{prefix_len}
 use Rattle.http_server.specs.Connection.{history}
 use Rattle.http_server.specs.History.{IsDone}
 use Rattle.node_control.specs.declared.client.Client.{Client}
-use Rattle.node_control.specs.declared.client.TheConstants.{QUIET, COMING, MOST}
-use Rattle.node_control.specs.declared.control.TheConstants.{SILENT}
 use Rattle.node_control.specs.inner.Ending.{has_more}
 use Rattle.node_control.specs.inner.Rows.{up_to_max}
 
@@ -22,14 +20,14 @@ has_passed time now (Some since) = nat_lt (up_to_max (since + time)) now
 
 -- a request has been coming for too long
 abbrev pub is_late : (now : ℕ) → Client → Bool
-is_late now c = has_passed COMING now c.began
+is_late now c = has_passed 10000000 now c.began
 
 -- it has moved no byte for so long, or was served as often as may be and has all
 abbrev pub is_quiet : (now : ℕ) → Client → Bool
-is_quiet now c = has_passed QUIET now (Some c.moved)
+is_quiet now c = has_passed 30000000 now (Some c.moved)
 
 abbrev pub is_spent : Client → Bool
-is_spent c = nat_le MOST c.served && not (has_more c)
+is_spent c = nat_le 1000 c.served && not (has_more c)
 
 -- HTTP has nothing more to do there
 abbrev pub IsDoneThere : Client → Type 0
@@ -56,7 +54,7 @@ without place cs = take place cs ++ drop (place + 1) cs
 -- whether the one at a place has been left alone for a second
 abbrev pub is_silent : (now : ℕ) → Option Client → Bool
 is_silent now None = false
-is_silent now (Some c) = has_passed SILENT now (Some (idle_since c))
+is_silent now (Some c) = has_passed 1000000 now (Some (idle_since c))
 
 -- there is room for one more: fewer are there than may be, or one is silent
 abbrev pub has_room : (now most : ℕ) → List Client → Bool

@@ -6,7 +6,6 @@ use Rattle.http_server.specs.Connection.{history}
 use Rattle.node_control.specs.declared.client.Client.{Client}
 use Rattle.node_control.specs.declared.control.ControlSocket.{ControlSocket}
 use Rattle.node_control.specs.declared.control.Entrance.{Entrance}
-use Rattle.node_control.specs.declared.control.TheConstants.{CLIENTS, FIGURE_CLIENTS}
 use Rattle.node_requests.specs.declared.health.Health.TheVariants.{Works}
 
 -- an entrance for this many clients, without any
@@ -16,8 +15,8 @@ pub record IsUnused (bound : ℕ) (entrance : Entrance) : Type 0 where
 
 -- a control socket without clients, of a node whose health wasn't reported; with a port for metrics if one is asked for
 pub record IsOpened {A : Type 0} (address : Option A) (control : ControlSocket) : Type 0 where
-  pub operators : IsUnused CLIENTS control.operators
-  pub metrics : IfSome control.figures (IsUnused FIGURE_CLIENTS)
+  pub operators : IsUnused 8 control.operators
+  pub metrics : IfSome control.figures (IsUnused 4)
   pub port : is_none control.figures ≡ is_none address
   pub health : control.health ≡ Works
 

@@ -1,5 +1,5 @@
 -- What becomes of a request that came as HTTP.
-use Rattle.std.specs.Prelude.{◌≡◌, ◌⊎◌, ◌&&◌, ◌||◌, ◌==◌, ℕ, suc, Bool, true, false, not, List, [], ◌∷◌, ◌++◌, codes}
+use Rattle.std.specs.Prelude.{◌≡◌, ◌⊎◌, ◌&&◌, ◌||◌, ◌==◌, ◌+◌, ℕ, suc, nat_lt, Bool, true, false, not, List, [], ◌∷◌, ◌++◌, codes}
 use Rattle.std.specs.Prelude.{if◌then◌else◌}
 use Rattle.http.specs.declared.request.Request as http
 use Rattle.http_server.specs.declared.response.Response.{Response}
@@ -16,6 +16,7 @@ use Rattle.node_requests.specs.Routing.{RoutedValue, Asked, Refused, Unread, req
 use Rattle.node_control.specs.declared.service.HttpService.{HttpService}
 use Rattle.node_control.specs.inner.Asking.{path_of, asked_for, is_of_figures}
 use Rattle.node_control.specs.inner.Observing.{AreKept}
+use Rattle.node_control.specs.inner.Rows.{up_to_max}
 
 -- a response has an answer's status and body; or it is 503 with an empty body, if it is out of memory for that
 abbrev pub Says : Response → AnswerValue → Type 0
@@ -39,6 +40,14 @@ pub record IsTurnedAway {R : Type 0} {G : Ghosts R} (c d : HttpService R G) (a :
 pub record IsKept {R : Type 0} {G : Ghosts R} (c d : HttpService R G) : Type 0 where
   pub listening : d.is_listening ≡ c.is_listening
   pub counted : AreKept c.counters d.counters
+
+-- an answer with this status is counted by its class, but not where figures alone are served
+abbrev pub counted_as : (is_scraped : Bool) → (status : ℕ) → Counters → Counters
+counted_as true status c = c
+counted_as false status c =
+    if nat_lt status 400 then record c { served = up_to_max (c.served + 1) }
+    else if nat_lt status 500 then record c { refused = up_to_max (c.refused + 1) }
+    else record c { unavailable = up_to_max (c.unavailable + 1) }
 
 -- ---- who is answered
 

@@ -8,7 +8,6 @@ use Rattle.node_loop.specs.declared.counts.RoundCounts.{RoundCounts}
 use Rattle.node_control.specs.declared.hearing.Hearing.{Hearing}
 use Rattle.node_control.specs.declared.hearing.Said.{Said}
 use Rattle.node_control.specs.declared.hearing.Said.TheVariants.{Nothing, Alone, Again}
-use Rattle.node_control.specs.declared.hearing.TheConstants.{QUIET, LACKING, NEAR_THE_END}
 use Rattle.node_control.specs.inner.Rows.{up_to_max}
 
 -- fewer whole seconds have passed since then
@@ -17,7 +16,7 @@ is_within since now seconds = nat_lt ((now - since) / 1000000) seconds
 
 abbrev pub is_recent : (now : ℕ) → Option ℕ → Bool
 is_recent now None = false
-is_recent now (Some since) = is_within since now QUIET
+is_recent now (Some since) = is_within since now 10
 
 -- how many of the members below k, but for this one, were heard lately
 abbrev pub heard_below : (me now : ℕ) → (heard : List ℕ) → (k : ℕ) → ℕ
@@ -63,7 +62,7 @@ is_of_other head h = not (head.from == h.m.me) && nat_lt head.from h.m.members
 
 abbrev pub says_end : Head → Hearing → Bool
 says_end head h =
-    is_of_other head h && (nat_le NEAR_THE_END (unwrap_or head.position 0) && not h.is_ending)
+    is_of_other head h && (nat_le 900000 (unwrap_or head.position 0) && not h.is_ending)
 
 abbrev pub with_end : Head → Hearing → Hearing
 with_end head h = record h { is_ending = h.is_ending || says_end head h }
@@ -86,7 +85,7 @@ after_round now heads c h =
 -- it is written that the node has caught up, if it lacked for long what others have
 abbrev pub says_caught_up : (lacks : Bool) → (now : ℕ) → (since : Option ℕ) → (quiet : Bool) → Bool
 says_caught_up lacks now None quiet = false
-says_caught_up lacks now (Some since) quiet = not lacks && (not quiet && not (is_within since now LACKING))
+says_caught_up lacks now (Some since) quiet = not lacks && (not quiet && not (is_within since now 3))
 
 -- since when it lacks it
 abbrev pub lacking_since : (lacks : Bool) → (now : ℕ) → (since : Option ℕ) → Option ℕ

@@ -12,7 +12,6 @@ use Rattle.node_requests.specs.declared.counters.Counters.{Counters}
 use Rattle.node_control.specs.declared.hearing.Hearing.{Hearing}
 use Rattle.node_control.specs.declared.observer.Observer.{Observer}
 use Rattle.node_control.specs.declared.observer.Row.{Row}
-use Rattle.node_control.specs.declared.observer.TheConstants.{LARGE}
 use Rattle.node_control.specs.inner.Hearing.{after_look}
 use Rattle.node_control.specs.inner.Rows.{up_to_max, sampled, reported, sent_more, heard_from, is_due}
 use Rattle.node_control.specs.inner.Watching.{is_proposed, proposed_then, stood_since, seconds_since}
@@ -125,7 +124,7 @@ in_all messages c s = record s {
   unsent = up_to_max (s.unsent + c.unsent);
   dropped = up_to_max (s.dropped + c.dropped);
   ignored = up_to_max (s.ignored + ignored_in messages c);
-  large = if nat_le LARGE c.longest && not s.has_packets then max s.large c.longest else s.large;
+  large = if nat_le 1401 c.longest && not s.has_packets then max s.large c.longest else s.large;
 }
 
 -- what was handed over for each member

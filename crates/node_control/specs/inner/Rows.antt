@@ -5,7 +5,6 @@ use Rattle.px_wire.specs.declared.head.Head.{Head}
 use Rattle.px_wire.specs.Heads.{learned_below}
 use Rattle.node_requests.specs.declared.counters.PeerCounters.{PeerCounters}
 use Rattle.node_control.specs.declared.observer.Row.{Row}
-use Rattle.node_control.specs.declared.observer.TheConstants.{SAMPLED}
 use Rattle.node_control.specs.inner.Watching.{seconds_since}
 
 -- a sum, up to 2^64 - 1
@@ -14,7 +13,7 @@ up_to_max n = min n (2 ^ 64 - 1)
 
 -- whether a second has passed since what members showed was kept last
 abbrev pub is_due : (last now : ℕ) → Bool
-is_due last now = nat_le (up_to_max (last + SAMPLED)) now
+is_due last now = nat_le (up_to_max (last + 1000000)) now
 
 -- what a member shows is kept beside what it had shown the two times before
 unfoldable pub sampled : Row → Row

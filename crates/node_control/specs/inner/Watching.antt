@@ -4,7 +4,6 @@ use Rattle.std.specs.Prelude.{nat_le, nat_lt}
 use Rattle.std.specs.Prelude.{if◌then◌else◌}
 use Rattle.px_wire.specs.declared.head.Head.{Head}
 use Rattle.px_wire.specs.Heads.{proposal_in}
-use Rattle.node_control.specs.declared.observer.TheConstants.{PROPOSED}
 
 -- a proposal is kept where it isn't below the front; else the older one is
 abbrev pub proposed_then : (front now : ℕ) → Option ℕ → (was : Option (ℕ × ℕ)) → Option (ℕ × ℕ)
@@ -23,7 +22,7 @@ proposed_after front now (h ∷ hs) was = proposed_after front now hs (proposed_
 -- another member proposes a command at the front or beyond it
 abbrev pub is_proposed : (front now : ℕ) → Option (ℕ × ℕ) → Bool
 is_proposed front now None = false
-is_proposed front now (Some (p, at)) = nat_le front p && nat_lt (now - at) PROPOSED
+is_proposed front now (Some (p, at)) = nat_le front p && nat_lt (now - at) 6000000
 
 -- since when commands have waited while the front didn't move
 abbrev pub stood_since : (has_moved waits : Bool) → Option ℕ → (now : ℕ) → Option ℕ

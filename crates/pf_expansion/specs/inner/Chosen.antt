@@ -1,10 +1,12 @@
 -- The combination that the code's choices stand for.
-use Rattle.std.specs.Prelude.{List, [], ◌∷◌, Option}
+use Rattle.std.specs.Prelude.{List}
 use Rattle.std.specs.Option.{option_copied}
-use Rattle.pf_addr.specs.declared.addr.Family.{Family}
+use Rattle.pf_rules.specs.declared.parts.FlagTest.{FlagTest}
+use Rattle.pf_rules.specs.declared.rule.Conditions.{Conditions}
 use Rattle.pf_expansion.specs.declared.expand.Chosen.{Chosen}
-use Rattle.pf_expansion.specs.Expansion.{Combination, host_family}
+use Rattle.pf_expansion.specs.Expansion.{Combination}
 use Rattle.pf_statements.specs.Conditions.{ConditionsText}
+use Rattle.pf_statements.specs.ConditionsSeen.{conditions_of}
 
 abbrev pub combination_of : Chosen → Combination
 combination_of c = record {
@@ -17,6 +19,6 @@ combination_of c = record {
   icmp_type = c.icmp_type;
 }
 
--- the families that are known before a port of the destination is chosen
-abbrev pub host_families : ConditionsText → Combination → List (Option Family)
-host_families text c = text.common.family ∷ host_family c.source ∷ host_family c.destination ∷ []
+-- the conditions that go on from the choices
+abbrev pub given_by : (FlagTest → ConditionsText → Combination → List Conditions) → Chosen → List Conditions
+given_by going c = going c.test (conditions_of c.text.now) (combination_of c)

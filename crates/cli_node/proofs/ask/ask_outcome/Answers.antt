@@ -5,9 +5,9 @@ use Rattle.px_transport.specs.Wires.{WireEvent}
 use Rattle.cli_io.specs.Sources.{IsNamed, IsText}
 use Rattle.cli_node.specs.declared.ask.AskArguments.{AskArguments}
 use Rattle.cli_node.specs.declared.outcome.Outcome.{Outcome}
-use Rattle.cli_node.specs.inner.Asked.{AsksNode, AsksOver}
-use Rattle.cli_node.specs.inner.Doing.{Adds}
-use Rattle.cli_node.specs.inner.Places.{has_place}
+use Rattle.cli_node.specs.Asked.{AsksNode, AsksOver}
+use Rattle.cli_node.specs.Doing.{Adds}
+use Rattle.cli_node.specs.Places.{has_place}
 use Rattle.cli_node.proofs.Endings.{some_of}
 use Rattle.cli_node.proofs.ask.ask_outcome.Goals as goal
 

@@ -1,7 +1,7 @@
 -- the key that the file makes
 use Rattle.std.proofs.Common.{Some, map, subst, sym}
 use Rattle.std.specs.Prelude.{option_map}
-use Rattle.cli_node.specs.inner.Secrets.{IsNamed}
+use Rattle.cli_node.specs.Secrets.{IsNamed}
 use Rattle.cli_node.proofs.check.of_key.Goals as goal
 
 pub returns-in-Ok-clause-sound : goal.returns-in-Ok-clause-sound

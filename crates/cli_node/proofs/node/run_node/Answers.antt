@@ -1,5 +1,5 @@
 -- what the run ended with, of its member, its keys and its start
-use Rattle.std.proofs.Common.{Err, ap, arith, inl, inr}
+use Rattle.std.proofs.Common.{◌∙◌, Err, ap, arith, inl, inr, sym}
 use Rattle.cli_node.proofs.Endings.{lost_by, refusal_of, new_map, with_map}
 use Rattle.cli_node.proofs.Stores.{not_lost}
 use Rattle.cli_node.proofs.node.run_node.Goals as goal
@@ -11,7 +11,8 @@ returns-then-is_made-clause-ran g c = inr (
   c.in-Some.ensures.some,
   c.in-Ok.ensures.named,
   new_map _ _ _ _ _ _ _ _ _ _ _ _ _ _ (λ start raised. (c.in-Ok-found_at.found, c.in-Ok-found_at.ensures, raised))
-      (λ r h. h) (λ r h. h) (λ how h. h)
+      (λ r h. ((c.in-Ok-found_at.found, c.in-Ok-found_at.ensures, inl (sym c.is_made.ensures ∙ c.if-is_made.true)), h))
+      (λ r h. h) (λ how h. h)
       c.run_new.ensures.ran,
 )
 
@@ -25,7 +26,7 @@ returns-in-Ok-record_at-clause-ran g c = inr (
     c.in-Ok-record_at.records,
     c.in-Ok-record_at.ensures.members,
     c.in-Ok-record_at.ensures.begins,
-    c.in-Ok-record_at.ensures.rows,
+    ((c.in-Ok-found_at.found, c.in-Ok-found_at.ensures, c.in-Ok-record_at.ensures.may), c.in-Ok-record_at.ensures.rows),
     with_map _ _ _ _ _ _ _ _ _ _ _ _ _ (λ start raised. (c.in-Ok-found_at.found, c.in-Ok-found_at.ensures, raised))
         (λ r h. h) (λ how h. h)
         c.run_sealed.ensures.ran,

@@ -2,8 +2,8 @@
 use Rattle.std.proofs.Common.{◌∙◌, ap, sym, subst}
 use Rattle.sqlite.specs.Files.{file_state}
 use Rattle.cli_node.specs.declared.outcome.Outcome.{Outcome}
-use Rattle.cli_node.specs.inner.Outcomes.{ending_of}
-use Rattle.cli_node.specs.inner.Stores.{IsStoreless}
+use Rattle.cli_node.specs.Endings.{ending_of}
+use Rattle.cli_node.specs.Stores.{IsStoreless}
 use Rattle.cli_node.proofs.Endings.{of_run, of_ending}
 use Rattle.cli_node.proofs.node.run_on.Goals as goal
 

@@ -1,6 +1,6 @@
 -- the node that the settings describe was checked or run, or nothing was done
 use Rattle.std.proofs.Common.{◌∙◌, inl, inr, refl, sym}
-use Rattle.cli_node.specs.inner.Doing.{Adds}
+use Rattle.cli_node.specs.Doing.{Adds}
 use Rattle.cli_node.proofs.Settled.{is_checked, is_halved, is_run, none_added}
 use Rattle.cli_node.proofs.settings.outcome_for.Goals as goal
 

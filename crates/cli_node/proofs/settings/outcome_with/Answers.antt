@@ -3,8 +3,8 @@ use Rattle.std.proofs.Common.{◌∙◌, List, ℕ, inl, inr, map, refl}
 use Rattle.std.specs.Prelude.{codes}
 use Rattle.clap.specs.Words.{found_of, rows_of}
 use Rattle.clap.proofs.WalkLemmas.{raw_values-rows}
-use Rattle.cli_node.specs.inner.Doing.{Adds}
-use Rattle.cli_node.specs.inner.Settled.{IsSettled}
+use Rattle.cli_node.specs.Doing.{Adds}
+use Rattle.cli_node.specs.Settled.{IsSettled}
 use Rattle.cli_node.proofs.Settled.{given_first, none_added, none_given}
 use Rattle.cli_node.proofs.settings.outcome_with.Goals as goal
 

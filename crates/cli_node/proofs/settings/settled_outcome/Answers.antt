@@ -1,8 +1,8 @@
 -- the settings are those of the file that is named, or none
 use Rattle.std.proofs.Common.{inl, subst}
 use Rattle.clap.specs.Words.{found_of, rows_of}
-use Rattle.cli_node.specs.inner.Doing.{Adds}
-use Rattle.cli_node.specs.inner.Settled.{AreSettings, IsUnsettled}
+use Rattle.cli_node.specs.Doing.{Adds}
+use Rattle.cli_node.specs.Settled.{AreSettings, IsUnsettled}
 use Rattle.cli_node.proofs.Settled.{none_added, with_settings}
 use Rattle.cli_node.proofs.settings.settled_outcome.Goals as goal
 

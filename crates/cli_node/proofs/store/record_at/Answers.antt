@@ -2,8 +2,8 @@
 use Rattle.std.proofs.Common.{◌∙◌, Err, ap, sym, subst}
 use Rattle.cli_node.specs.declared.outcome.Outcome.{Outcome}
 use Rattle.cli_node.specs.declared.outcome.Outcome.TheVariants.{Refused}
-use Rattle.cli_node.specs.inner.Outcomes.{adopt_outcome}
-use Rattle.cli_node.specs.inner.Stores.{IsRefusal, IsStoreless}
+use Rattle.cli_node.specs.Endings.{adopt_outcome}
+use Rattle.cli_node.specs.Stores.{IsRefusal, IsStoreless}
 use Rattle.cli_node.proofs.Stores.{by_fault, err_is, kind_of_fault, not_lost, unfailed_fault}
 use Rattle.cli_node.proofs.store.record_at.Goals as goal
 

@@ -1,18 +1,13 @@
 -- what is due was done towards the members before this one
-use Rattle.std.proofs.Common.{◌≡◌, ◌≤◌, List}
+use Rattle.std.proofs.Common.{◌≡◌, ◌≤◌}
 use Rattle.std.specs.List.{range_with_len}
-use Rattle.px_transport.specs.Wires.{WireEvent}
-use Rattle.px_transport.specs.Receiving.{Heard, Hears}
-use Rattle.px_transport.specs.Wiring.{WireState, IsWireState, IsSameMember, IsSameCount, DoesAll, duties_to}
-use Rattle.px_transport.specs.Wiring.{inner_of, sealer_of, receiver_of, state_of}
+use Rattle.px_transport.specs.Wiring.{inner_of, sealer_of, IsSameMember, IsSameCount, DoesAll, Leads, duties_to}
 use Rattle.px_transport.proofs.packet_wire.PacketWire.keep_up.Given as goal
 
 abbrev pub invariant-loop-member : goal.invariant-loop-member
 invariant-loop-member g l = record {
-  does : (hs : List Heard) → Hears (sealer_of l.fn.self).start hs (receiver_of l.fn.self) → (es : List WireEvent) →
-      g.W.Wire.traffic (inner_of l.fn.self) es → (k : WireState) ×
-      DoesAll (sealer_of l.fn.self) l.now (duties_to (sealer_of l.fn.self) (range_with_len 0 l.member))
-      (state_of es hs l.fn.self) k × IsWireState (g.W.Wire.traffic (inner_of l.self)) k l.self;
+  does : Leads g.W.Wire.traffic l.fn.self l.self
+      (DoesAll (sealer_of l.fn.self) l.now (duties_to (sealer_of l.fn.self) (range_with_len 0 l.member)));
   member : IsSameMember l.fn.self l.self;
   count : IsSameCount l.fn.self l.self;
   members : l.self.sender.members ≡ l.fn.self.sender.members;
