@@ -60,7 +60,8 @@ fn all_match(body: &[u8]) -> bool
     rest.starts_with(b" ")
 }
 
-/// Whether a change was made, or accepted where nothing more was asked: an outcome that isn't known any more is neither.
+/// Whether a change was made, or accepted where nothing more was asked: an outcome that isn't known any more is
+/// neither.
 fn is_made(code: u16, body: &[u8]) -> bool
     ensures { result ≡ is_made code body.now }
 {

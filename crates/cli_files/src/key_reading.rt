@@ -61,7 +61,7 @@ fn read_text<R: Read>(alloc: Global, reader: &mut R) -> Result<Vec<u8>, KeyFault
     Err(KeyFault::Unread)
 }
 
-/// The key that is all that is left to read: 64 hexadecimal digits, behind which a newline may stand. `NoKey` for every
+/// The key that is all that is left to read: 64 hexadecimal digits, which a newline may follow. `NoKey` for every
 /// other text, `Unread` where a read fails, and `Memory`.
 pub fn key_from<R: Read>(alloc: Global, reader: &mut R) -> Result<[u8; 32], KeyFault>
     ensures key { IfOk result (λ k. IfSome (R.remaining reader.old) (λ text. IsKey text k)) }

@@ -60,12 +60,12 @@ abbrev pub is_there : (name text : List ℕ) → TextFile → Bool
 is_there name text f = (f.is_put && bytes_eq (string_bytes f.name) name) && bytes_eq (string_bytes f.text) text
 
 -- what is recorded as there isn't put again
-abbrev pub StandsIf : (there : Bool) → (folder name text : List ℕ) → List Act → (is_put : Bool) → Type 0
-StandsIf true folder name text acts is_put = (acts ≡ []) × (is_put ≡ true)
-StandsIf false folder name text acts is_put = IsPut folder name text acts is_put
+abbrev pub PutsUnless : (there : Bool) → (folder name text : List ℕ) → List Act → (is_put : Bool) → Type 0
+PutsUnless true folder name text acts is_put = (acts ≡ []) × (is_put ≡ true)
+PutsUnless false folder name text acts is_put = IsPut folder name text acts is_put
 
-abbrev pub Stands : (folder : List ℕ) → List TextFile → (name text : List ℕ) → List Act → (is_put : Bool) → Type 0
-Stands folder old name text acts is_put = StandsIf (list_any (is_there name text) old) folder name text acts is_put
+abbrev pub PutsOnce : (folder : List ℕ) → List TextFile → (name text : List ℕ) → List Act → (is_put : Bool) → Type 0
+PutsOnce folder old name text acts is_put = PutsUnless (list_any (is_there name text) old) folder name text acts is_put
 
 -- ---- which files there are
 
@@ -126,7 +126,7 @@ with_gone files (old ∷ olds) = with_gone (if is_gone files old then files ++ e
 pub data Puts (folder : List ℕ) (old : List TextFile) : List FileValue → List Act → List TextFile → Type 0 where
   NoFile : Puts folder old [] [] []
   File : {files : List FileValue} {acts : List Act} {new : List TextFile} (f : TextFile) (more : List Act) →
-      Puts folder old files acts new → Stands folder old (string_bytes f.name) (string_bytes f.text) more f.is_put →
+      Puts folder old files acts new → PutsOnce folder old (string_bytes f.name) (string_bytes f.text) more f.is_put →
       Puts folder old (files ++ file_value f ∷ []) (acts ++ more) (new ++ f ∷ [])
 
 -- a front of the files was put

@@ -26,7 +26,7 @@ pub trait Control {
         ensures { Adds (exchanged self.old) (exchanged self.new) (asked Status result ∷ []) };
 
     /// Logs why nobody answers, where that is known.
-    fn tell<E: Write>(&self, errors: &mut E);
+    fn report<E: Write>(&self, errors: &mut E);
 }
 
 /// The control socket at a path, of those that `sockets` has: for the system's they are `rt`.
@@ -67,7 +67,7 @@ impl<'a, RT: Net + Clock, S: cli_ask::ControlSockets<'a>> Control for ControlSoc
         read_at(self.rt, self.sockets, alloc, self.path, target)
     }
 
-    fn tell<E: Write>(&self, errors: &mut E) {
+    fn report<E: Write>(&self, errors: &mut E) {
         if let Err(error) = knock(self.rt, self.path) {
             let _logged = writeln!(errors, "pfx: {}: {error}", Shown(self.path));
         }

@@ -6,7 +6,8 @@ ghost use Rattle.pf_dump.specs.Done.{AreDoneTo};
 ghost use Rattle.pf_dump.specs.Seen.{text_of};
 ghost use Rattle.pf_dump.specs.Written.{texts_of};
 ghost use Rattle.cli_follow.specs.Exchanges.{Adds};
-ghost use Rattle.cli_follow.specs.Files.{Act, Wrote, Renamed, Acted, IsWritten, IsDone, IsPut, Stands, Puts, PutsFront};
+ghost use Rattle.cli_follow.specs.Files.{Act, Wrote, Renamed, Acted, IsWritten, IsDone, IsPut, PutsOnce, Puts};
+ghost use Rattle.cli_follow.specs.Files.{PutsFront};
 ghost use Rattle.cli_follow.specs.Files.{file_value, file_name, file_at, files_of, is_named, is_put, is_there};
 ghost use Rattle.cli_follow.specs.Files.{is_gone, with_gone, are_behind, ArePutFor, AreLeftFor};
 
@@ -208,7 +209,7 @@ impl TextFiles {
     }
 
     /// Writes a file unless it is there, and answers whether it does now.
-    fn stands<F: Folders>(
+    fn put_unless_there<F: Folders>(
         &self,
         folders: &mut F,
         alloc: Global,
@@ -216,7 +217,7 @@ impl TextFiles {
         text: &str,
     ) -> Result<bool, AllocError>
         ensures put { IfOk result (λ is_put. Acted (F.done folders.old) (F.done folders.new) (λ acts.
-            Stands (string_bytes self.now.folder) self.now.written.items name.now text.now acts is_put)) }
+            PutsOnce (string_bytes self.now.folder) self.now.written.items name.now text.now acts is_put)) }
         ensures none { OnErr result (Adds (F.done folders.old) (F.done folders.new) []) }
     {
         if is_written(self.written.as_slice(), name, text) {
@@ -268,7 +269,7 @@ impl TextFiles {
                 text,
                 is_put: _,
             } = file;
-            let is_put = self.stands(folders, alloc, name.as_str(), text.as_str())?;
+            let is_put = self.put_unless_there(folders, alloc, name.as_str(), text.as_str())?;
             put.push(TextFile { name, text, is_put })?;
         }
         Ok(put)

@@ -37,7 +37,7 @@ pub struct Kernel {
 pub enum Step {
     /// Nothing: it is what was handed out last, but for the names.
     Same,
-    /// A refusal's line: it can't be rendered, and what was handed out last stands.
+    /// A refusal's line: it can't be rendered, and what was handed out last stays in force.
     Refused(String),
     /// Lines for nft(8), a transaction each: sets, rules, and the end of what was handed out last.
     Lines(Vec<u8>),
@@ -144,7 +144,7 @@ impl Kernel {
 
     /// What is to be loaded of the configuration after that many entries: nothing where it would be rendered under the
     /// names of what was handed out last as that was; else its first two lines, and the last line of what was handed
-    /// out last, unless it has the same names. Where it can't be rendered, what was handed out last stands.
+    /// out last, unless it has the same names. Where it can't be rendered, what was handed out last stays in force.
     pub fn step(
         &mut self,
         alloc: Global,

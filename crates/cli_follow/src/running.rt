@@ -50,7 +50,7 @@ fn log_refusal<C: Control, E: Write>(
     };
     let _logged = errors.write_all(line.as_bytes());
     if fault == AskFault::NoAnswer {
-        control.tell(errors);
+        control.report(errors);
     }
 }
 

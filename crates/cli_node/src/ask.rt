@@ -28,7 +28,7 @@ use std::alloc::Global;
 use std::io::Read;
 use std::net::UdpSocket;
 
-/// The number of whoever is no member.
+/// The number of a sender that is no member.
 const CLIENT: u8 = 255;
 
 /// How long each wait for an answer is, in milliseconds.

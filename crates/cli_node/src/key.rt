@@ -164,7 +164,7 @@ pub(crate) fn warn_unsealed(rt: &HostRuntime, arguments: NodeArguments<'_, '_, '
         return;
     }
     let _logged = eprintln!(rt;
-        "pfx: warning: no key: whoever can send datagrams to {} can change what this cluster learns (unless \
+        "pfx: warning: no key: anyone who can send datagrams to {} can change what this cluster learns (unless \
          --unsealed)",
         Shown(*own)
     );

@@ -16,7 +16,8 @@ ghost use Rattle.cli_node.specs.Endings.{ComesTo, ComesOpen, ComesOpenOr, IsWire
 ghost use Rattle.cli_node.specs.Given.{AreFigures, IsPlaced, is_set, number_for, text_for};
 ghost use Rattle.cli_node.specs.Secrets.{AreNamed};
 ghost use Rattle.cli_node.specs.Settled.{AreArguments, is_complete, is_whole};
-ghost use Rattle.cli_node.specs.Stores.{HasNone, IsClosedIn, IsFoundAt, IsKeptIn, IsNone, IsStoreless, IsRunOver, is_made};
+ghost use Rattle.cli_node.specs.Stores.{HasNone, IsClosedIn, IsFoundAt, IsKeptIn, IsNone, IsStoreless, IsRunOver};
+ghost use Rattle.cli_node.specs.Stores.{is_made};
 ghost use Rattle.cli_node.specs.declared.store.Found.{Found};
 ghost use Rattle.cli_node.specs.declared.store.TheConstants.{NO_STORE};
 ghost use Rattle.cli_node.specs.Places.{is_count, has_place, turns_or_all};
@@ -100,7 +101,7 @@ fn number_for(matches: &ArgMatches<'_>, file: &NodeFile, name: &str) -> Option<u
     }
 }
 
-/// So many turns, or as many as there can be.
+/// This many turns; without a number, more than a run can have.
 fn turns_or_all(turns: Option<u32>) -> u64
     ensures { result ≡ turns_or_all turns }
 {
@@ -462,8 +463,8 @@ fn run_member_in<R: Records, T: Timer>(
     }
 }
 
-/// The run of a member over its record, which is closed, whatever came of it; what a node has committed stands also
-/// where closing fails. A node whose store failed ends with that (70, 72), whoever asked for the change.
+/// The run of a member over its record, which is closed, whatever came of it; what a node has committed is kept also
+/// where closing fails. A node whose store failed ends with that (70, 72), whichever client asked for the change.
 fn run_on<D: Databases, T: Timer>(
     rt: &HostRuntime,
     dbs: &D,
@@ -569,8 +570,8 @@ fn run_new<F: NodeFiles, D: Databases, T: Timer>(
 }
 
 /// What a run of a node gives with these files, databases and timer: 40 of its numbers, 83, 93, 94, the store's
-/// refusals, 95, 82, 84, and the first refusal of a turn, in this order. It runs over a store only where one was seen, or
-/// where none was and one may be made.
+/// refusals, 95, 82, 84, and the first refusal of a turn, in this order. It runs over a store only where one was seen,
+/// or where none was and one may be made.
 pub fn run_node<F: NodeFiles, D: Databases, T: Timer>(
     rt: &HostRuntime,
     files: &F,

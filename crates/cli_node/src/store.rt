@@ -35,7 +35,7 @@ const NO_STORE: u8 = 93;
 /// A file that is to be made and is there.
 pub(crate) const FILE_IS_THERE: u8 = 94;
 
-/// What stands where a store is named.
+/// What is found at the path of a store.
 #[derive(Clone, Copy, PartialEq, Eq)]
 pub(crate) enum Found {
     /// Nothing.

@@ -1,5 +1,5 @@
 -- Requests at a control socket, one after another.
-use Rattle.std.proofs.Common.{◌≡◌, ◌∙◌, ℕ, ◌<◌, Bool, true, false, List, [], ◌∷◌, Some, None, IfSome, length, get_or, slice_get, sym, ap, subst, refl}
+use Rattle.std.proofs.Common.{◌≡◌, ◌∙◌, ℕ, zero, suc, inl, inr, ◌<◌, Bool, true, false, List, [], ◌∷◌, Some, None, IfSome, length, get_or, slice_get, sym, ap, subst, refl}
 use Rattle.std.proofs.lemmas.Option.{slice_get_read}
 use Rattle.http.specs.declared.request.Request.{Request}
 use Rattle.http_server.specs.Exchange.{Call, Chain}
@@ -10,7 +10,8 @@ use Rattle.node_requests.specs.Routing.{RoutedValue, Asked, Refused, Unread}
 use Rattle.node_requests.specs.declared.handler.RequestHandler.{RequestHandler}
 use Rattle.node_requests.specs.declared.request.Request as asked
 use Rattle.node_control.specs.inner.Asking.{asked_for}
-use Rattle.node_control.specs.inner.Handling.{IsHandled, IsKept, IsTurnedAway, HandledAs, HandledIf, PassedOnIf, is_asked, is_served}
+use Rattle.node_control.specs.inner.Serving.{IsSameService, Serves, ServesOnce, ServesTimes}
+use Rattle.node_control.specs.inner.Handling.{AnswersRequest, counted_as, IsHandled, IsKept, IsTurnedAway, HandledAs, HandledIf, PassedOnIf, is_asked, is_served}
 use Rattle.node_control.specs.inner.Runs.{AsksWithin, ServesFigures}
 use Rattle.node_control.specs.declared.service.HttpService.{HttpService}
 use Rattle.node_control.proofs.Asked.{turned, answered, within_then, figures_turned, figures_then, kept_same, kept_then}
@@ -73,3 +74,49 @@ at_place P xs i x l at p = subst (λ o. IfSome o P) (sym (slice_get_read xs (len
 pub is_there : {X A : Type 0} (xs : List X) (i : ℕ) (x : X) → i < length xs → x ≡ get_or xs i x → slice_get xs i ≡ None → A
 is_there {X} xs i x l at none =
     let some : Some x ≡ None = sym (slice_get_read xs (length xs) i x refl l at) ∙ none in absurd (cc)
+
+-- ---- what clients do, one after the other
+
+pub service_same : {R : Type 0} {G : Ghosts R} (c d : HttpService R G) → d.handler ≡ c.handler → d.counters ≡ c.counters →
+    d.is_listening ≡ c.is_listening → IsSameService c d
+service_same c d h k l = record { handler = h; counters = k; listening = l }
+
+service_then : {R : Type 0} {G : Ghosts R} (c d e : HttpService R G) → IsSameService c d → IsSameService d e → IsSameService c e
+service_then c d e a b =
+    record { handler = b.handler ∙ a.handler; counters = b.counters ∙ a.counters; listening = b.listening ∙ a.listening }
+
+pub serves_same : {R : Type 0} {G : Ghosts R} (c d : HttpService R G) → IsSameService c d → Serves c d
+serves_same c d a = (zero, a)
+
+pub serves_none : {R : Type 0} {G : Ghosts R} (c d : HttpService R G) → d ≡ c → Serves c d
+serves_none {R} {G} c d e = (
+  zero,
+  service_same c d (ap (λ (k : HttpService R G). k.handler) e)
+      (ap (λ (k : HttpService R G). k.counters) e) (ap (λ (k : HttpService R G). k.is_listening) e),
+)
+
+pub serves_once : {R : Type 0} {G : Ghosts R} (c y d : HttpService R G) → IsSameService c y → ServesOnce y d → Serves c d
+serves_once c y d a b = (suc zero, (c, y, d, service_same c c refl refl refl, a, b, service_same d d refl refl refl))
+
+times_same : {R : Type 0} {G : Ghosts R} (n : ℕ) (c d e : HttpService R G) → ServesTimes n c d → IsSameService d e → ServesTimes n c e
+times_same zero c d e a b = service_then c d e a b
+times_same (suc n) c d e (x, y, z, a, s, o, t) b = (x, y, z, a, s, o, service_then z d e t b)
+
+times_more : {R : Type 0} {G : Ghosts R} (m n : ℕ) (c d e : HttpService R G) → ServesTimes m c d → ServesTimes n d e → Serves c e
+times_more m zero c d e a b = (m, times_same m c d e a b)
+times_more m (suc n) c d e a (x, y, z, b, s, o, t) =
+    let r = times_more m n c d x a b in (suc r.0, (x, y, z, r.1, s, o, t))
+
+pub serves_then : {R : Type 0} {G : Ghosts R} (c d e : HttpService R G) → Serves c d → Serves d e → Serves c e
+serves_then c d e (m, a) (n, b) = times_more m n c d e a b
+
+-- a refusal was counted
+pub serves_refusal : {R : Type 0} {G : Ghosts R} (status : ℕ) (c d : HttpService R G) → d.handler ≡ c.handler →
+    d.counters ≡ counted_as c.is_scraped status c.counters → d.is_listening ≡ c.is_listening → Serves c d
+serves_refusal status c d h k l = serves_once c c d (service_same c c refl refl refl)
+    (inr (status, record { handler = h; counters = k; listening = l }))
+
+-- requests were answered over one connection
+pub serves_calls : {R : Type 0} {G : Ghosts R} (c y d : HttpService R G) (calls : List Call) → IsSameService c y →
+    Chain (λ (s : HttpService R G) q r t. AnswersRequest s q r t) y calls d → Serves c d
+serves_calls c y d calls a chain = serves_once c y d a (inl (calls, chain))

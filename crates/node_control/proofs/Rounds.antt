@@ -12,12 +12,12 @@ use Rattle.pf_node.specs.declared.state.Node.{Node}
 use Rattle.node_loop.specs.Hosting.{Hosted}
 use Rattle.node_loop.specs.Resends.{kept_of, requests_of}
 use Rattle.node_loop.specs.Timing.{TimerEvent, MakesTurns, WorksOff, looks_in}
-use Rattle.node_loop.specs.Turns.{Stand, Served, standing}
+use Rattle.node_loop.specs.Turns.{LoopState, Served, in_loop}
 use Rattle.node_loop.specs.declared.turn_buffers.TurnBuffers.{TurnBuffers}
 use Rattle.node_loop.proofs.Chains.{same_is, served_none, served_then}
 use Rattle.node_loop.proofs.Hosting.{hosted_then, hosted_served}
 use Rattle.node_loop.proofs.Looking.{makes_then}
-use Rattle.node_loop.specs.Runs.{Buffers, new_buffers, stands, Tells, HostTells, Serves, Hosts, OnFront}
+use Rattle.node_loop.specs.Runs.{Buffers, new_buffers, run_state, Reports, HostReports, Serves, Hosts, OnFront}
 use Rattle.node_loop.specs.declared.ended.Ended.{Ended}
 use Rattle.node_loop.specs.declared.running.Progress.{Progress}
 use Rattle.node_control.specs.declared.control.ControlSocket.{ControlSocket}
@@ -30,7 +30,7 @@ use Rattle.node_requests.specs.declared.handler.RequestHandler.{RequestHandler}
 
 -- nothing was asked, and nothing went over the wire
 pub still : {R : Type 0} {G : Ghosts R} (s t : RequestHandler R G) (es : List WireEvent) (buffers : TurnBuffers) → t ≡ s →
-    Served (standing s.node es buffers) (standing t.node es buffers) None
+    Served (in_loop s.node es buffers) (in_loop t.node es buffers) None
 still {R} {G} s t es buffers e =
     served_none _ _ (record {
       replica = ap (λ (d : RequestHandler R G). replica_of d.node) e;
@@ -43,9 +43,9 @@ still {R} {G} s t es buffers e =
 -- a run begins so, with new buffers
 begins : {R : Type 0} {G : Ghosts R} (x s : Node R G) (es : List WireEvent) (buffers : TurnBuffers) (hears : Bool) → x ≡ s →
     kept_of buffers.resender ≡ [] → requests_of buffers.resender ≡ [] → buffers.hears_asks ≡ hears →
-    standing x es buffers ≡ stands s es (new_buffers hears)
+    in_loop x es buffers ≡ run_state s es (new_buffers hears)
 begins {R} {G} x s es buffers hears e k q h =
-    same_is (stands s es (new_buffers hears)) (standing x es buffers) (record {
+    same_is (run_state s es (new_buffers hears)) (in_loop x es buffers) (record {
       replica = ap (λ (n : Node R G). replica_of n) e;
       traffic = refl;
       kept = k;
@@ -57,7 +57,7 @@ abbrev left_in : TurnBuffers → Buffers
 left_in buffers = record { kept = kept_of buffers.resender; requests = requests_of buffers.resender; hears_asks = buffers.hears_asks }
 
 -- one thing behind the other
-pub hosted_over : {R : Type 0} {G : Ghosts R} (o m n : List WireEvent → Type 0) (x y z : List WireEvent → Stand G)
+pub hosted_over : {R : Type 0} {G : Ghosts R} (o m n : List WireEvent → Type 0) (x y z : List WireEvent → LoopState G)
     (a : Option NodeFault) → Moves o m (λ es es'. Hosted (x es) (y es') None) → Moves m n (λ es es'. Hosted (y es) (z es') a) →
     Moves o n (λ es es'. Hosted (x es) (z es') a)
 hosted_over o m n x y z a f g es t =
@@ -65,7 +65,7 @@ hosted_over o m n x y z a f g es t =
     let s = g r.0 r.1 in
     (s.0, s.1, hosted_then (x es) (y r.0) (z s.0) a r.2 s.2)
 
-pub over_then : {R : Type 0} {G : Ghosts R} (o m n : List WireEvent → Type 0) (x y z : List WireEvent → Stand G)
+pub over_then : {R : Type 0} {G : Ghosts R} (o m n : List WireEvent → Type 0) (x y z : List WireEvent → LoopState G)
     (a : Option NodeFault) → Moves o m (λ es es'. Served (x es) (y es') None) → Moves m n (λ es es'. Served (y es) (z es') a) →
     Moves o n (λ es es'. Served (x es) (z es') a)
 over_then o m n x y z a f g es t =
@@ -74,12 +74,12 @@ over_then o m n x y z a f g es t =
     (s.0, s.1, served_then (x es) (y r.0) (z s.0) a r.2 s.2)
 
 -- turns alone
-pub served_over : {R : Type 0} {G : Ghosts R} (o n : List WireEvent → Type 0) (x y : List WireEvent → Stand G)
+pub served_over : {R : Type 0} {G : Ghosts R} (o n : List WireEvent → Type 0) (x y : List WireEvent → LoopState G)
     (a : Option NodeFault) → Moves o n (λ es es'. Served (x es) (y es') a) → Moves o n (λ es es'. Hosted (x es) (y es') a)
 served_over o n x y a f es t = let r = f es t in (r.0, r.1, hosted_served (x es) (y r.0) a r.2)
 
 -- without a control socket: turns, and then turns
-pub turns_then : {R D : Type 0} {G : Ghosts R} (o m n : List WireEvent → Type 0) (x y z : List WireEvent → Stand G)
+pub turns_then : {R D : Type 0} {G : Ghosts R} (o m n : List WireEvent → Type 0) (x y z : List WireEvent → LoopState G)
     (a : Option NodeFault) (d e : Option D) → Moves o m (λ es es'. Served (x es) (y es') None) × (d ≡ None) →
     (d ≡ None → Moves m n (λ es es'. Served (y es) (z es') a) × (e ≡ None)) →
     Moves o n (λ es es'. Served (x es) (z es') a) × (e ≡ None)
@@ -89,27 +89,27 @@ turns_then o m n x y z a d e (before, none) more = (over_then o m n x y z a befo
 pub hosts : {R : Type 0} {G : Ghosts R} (x y s t : Node R G) (w v : List WireEvent) (first last : TurnBuffers) (hears : Bool)
     (a : Option NodeFault) (ended : Ended) → x ≡ s → t ≡ y →
     kept_of first.resender ≡ [] → requests_of first.resender ≡ [] → first.hears_asks ≡ hears →
-    Hosted (standing x w first) (standing y v last) a → HostTells (front (learned_by t)) (applied_of t) a ended →
+    Hosted (in_loop x w first) (in_loop y v last) a → HostReports (front (learned_by t)) (applied_of t) a ended →
     Hosts s t w v hears ended
 hosts {R} {G} x y s t w v first last hears a ended e f k q h hosted reported = record {
   answered = a;
   buffers = left_in last;
-  hosted = subst (λ (p : Stand G). Hosted p (standing t v last) a) (begins x s w first hears e k q h)
-      (subst (λ (n : Node R G). Hosted (standing x w first) (standing n v last) a) (sym f) hosted);
+  hosted = subst (λ (p : LoopState G). Hosted p (in_loop t v last) a) (begins x s w first hears e k q h)
+      (subst (λ (n : Node R G). Hosted (in_loop x w first) (in_loop n v last) a) (sym f) hosted);
   reported = reported;
 }
 
 pub serves : {R : Type 0} {G : Ghosts R} (x y s t : Node R G) (w v : List WireEvent) (first last : TurnBuffers) (hears : Bool)
     (a : Option NodeFault) (ended : Ended) → x ≡ s → t ≡ y →
     kept_of first.resender ≡ [] → requests_of first.resender ≡ [] → first.hears_asks ≡ hears →
-    Served (standing x w first) (standing y v last) a → Tells (front (learned_by t)) (applied_of t) a ended →
+    Served (in_loop x w first) (in_loop y v last) a → Reports (front (learned_by t)) (applied_of t) a ended →
     Serves s t w v ended
 serves {R} {G} x y s t w v first last hears a ended e f k q h served reported = record {
   answered = a;
   hears = hears;
   buffers = left_in last;
-  served = subst (λ (p : Stand G). Served p (standing t v last) a) (begins x s w first hears e k q h)
-      (subst (λ (n : Node R G). Served (standing x w first) (standing n v last) a) (sym f) served);
+  served = subst (λ (p : LoopState G). Served p (in_loop t v last) a) (begins x s w first hears e k q h)
+      (subst (λ (n : Node R G). Served (in_loop x w first) (in_loop n v last) a) (sym f) served);
   reported = reported;
 }
 
@@ -146,17 +146,17 @@ finished b turns waiting o m n (k, few, (ts, is, first)) (more, adds, worked) = 
   worked,
 )
 
-pub host_tells : (n k : ℕ) (r : Result Bool NodeFault) (ended : Ended) → ended ≡ ended_as n k r → HostTells n k (fault_of r) ended
-host_tells n k (Ok false) ended is = inl (inl is)
-host_tells n k (Ok true) ended is = inr (inl is)
-host_tells n k (Err e) ended is = is
+pub host_reports : (n k : ℕ) (r : Result Bool NodeFault) (ended : Ended) → ended ≡ ended_as n k r → HostReports n k (fault_of r) ended
+host_reports n k (Ok false) ended is = inl (inl is)
+host_reports n k (Ok true) ended is = inr (inl is)
+host_reports n k (Err e) ended is = is
 
 -- nobody asked for the end
-pub tells : (n k : ℕ) (r : Result Bool NodeFault) (ended : Ended) → ended ≡ ended_as n k r → IfOk r (λ b. b ≡ false) →
-    Tells n k (fault_of r) ended
-tells n k (Ok false) ended is none = inl is
-tells n k (Ok true) ended is none = absurd (let h : true ≡ false = none in cc)
-tells n k (Err e) ended is none = is
+pub reports : (n k : ℕ) (r : Result Bool NodeFault) (ended : Ended) → ended ≡ ended_as n k r → IfOk r (λ b. b ≡ false) →
+    Reports n k (fault_of r) ended
+reports n k (Ok false) ended is none = inl is
+reports n k (Ok true) ended is none = absurd (let h : true ≡ false = none in cc)
+reports n k (Err e) ended is none = is
 
 -- all turns were made where it ends with them
 pub on_front : (A : Type 0) (n k : ℕ) (r : Result Bool NodeFault) (ended : Ended) → ended ≡ ended_as n k r →
@@ -166,10 +166,10 @@ on_front A n k (Ok true) ended is made = subst (λ (x : Ended). OnFront x A) (sy
 on_front A n k (Err e) ended is made = subst (λ (x : Ended). OnFront x A) (sym is) tt
 
 -- where the control socket is missing
-pub socketless_tells : (n k : ℕ) (ended : Ended) → IsSocketless ended → HostTells n k None ended
-socketless_tells n k ended (inl is) = inr (inr (inl is))
-socketless_tells n k ended (inr (inl is)) = inr (inr (inr is))
-socketless_tells n k ended (inr (inr is)) = inl (inr (inr is))
+pub socketless_reports : (n k : ℕ) (ended : Ended) → IsSocketless ended → HostReports n k None ended
+socketless_reports n k ended (inl is) = inr (inr (inl is))
+socketless_reports n k ended (inr (inl is)) = inr (inr (inr is))
+socketless_reports n k ended (inr (inr is)) = inl (inr (inr is))
 
 pub socketless_front : (A : Type 0) (ended : Ended) → IsSocketless ended → OnFront ended A
 socketless_front A ended (inl is) = subst (λ (x : Ended). OnFront x A) (sym is) tt

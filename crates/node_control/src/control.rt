@@ -13,7 +13,7 @@ ghost use Rattle.node_control.specs.inner.Ending.{client_count, has_more, has_mo
 ghost use Rattle.node_control.specs.inner.Ending.{IsOpened, IsUnused, KeepsClients};
 ghost use Rattle.node_control.specs.inner.Handling.{IsKept};
 ghost use Rattle.node_control.specs.inner.Runs.{AsksWithin, ServesFigures};
-ghost use Rattle.node_control.specs.inner.Serving.{calls_of};
+ghost use Rattle.node_control.specs.inner.Serving.{Serves, calls_of};
 
 use crate::client::{Client, Look};
 use crate::logging::log_health;
@@ -318,6 +318,7 @@ impl Entrance {
         ensures left { service.new.changes_left ≡ service.old.changes_left }
         ensures scraped { service.new.is_scraped ≡ service.old.is_scraped }
         ensures kept { IsKept service.old service.new }
+        ensures serves { Serves service.old service.new }
     {
         if place >= self.clients.len() {
             return;
@@ -339,6 +340,7 @@ impl Entrance {
         ensures asks { AsksWithin service.old service.new }
         ensures figures { ServesFigures service.old service.new }
         ensures kept { IsKept service.old service.new }
+        ensures serves { Serves service.old service.new }
     {
         let Some(client) = self.clients.get_mut(place) else {
             return Look::Quiet;
@@ -363,6 +365,7 @@ impl Entrance {
         ensures asks { AsksWithin service.old service.new }
         ensures figures { ServesFigures service.old service.new }
         ensures kept { IsKept service.old service.new }
+        ensures serves { Serves service.old service.new }
     {
         if self.next >= self.clients.len() {
             self.next = 0;
@@ -389,6 +392,7 @@ impl Entrance {
         ensures asks { AsksWithin service.old service.new }
         ensures figures { is_scraped ≡ true → service.new.handler ≡ service.old.handler }
         ensures kept { IsKept service.old service.new }
+        ensures serves { Serves service.old service.new }
     {
         service.is_scraped = is_scraped;
         let mut is_busy = self.take_in(poll, now);
@@ -501,11 +505,9 @@ impl ControlSocket {
     }
 
     /// Logs on standard error that the node's health has changed, if it has.
-    pub(crate) fn note<R: Records, RT: Clock + Eprint>(
-        &mut self,
-        rt: &RT,
-        service: &HttpService<R>,
-    ) {
+    pub(crate) fn note<R: Records, RT: Clock + Eprint>(&mut self, rt: &RT, service: &HttpService<R>)
+        ensures clients { client_count self.new ≡ client_count self.old }
+    {
         if let Some(health) = self.changed(service) {
             log_health(rt, service, health);
         }
@@ -521,6 +523,7 @@ impl ControlSocket {
         ensures asks { AsksWithin service.old service.new }
         ensures figures { service.new.handler ≡ service.old.handler }
         ensures kept { IsKept service.old service.new }
+        ensures serves { Serves service.old service.new }
     {
         match &mut self.figures {
             Some(figures) => figures.serve(&self.poll, service, true, now),
@@ -532,6 +535,7 @@ impl ControlSocket {
     fn figures_first<R: Records>(&mut self, service: &mut HttpService<R>, now: u64) -> bool
         ensures asks { AsksWithin service.old service.new }
         ensures kept { IsKept service.old service.new }
+        ensures serves { Serves service.old service.new }
     {
         if self.serve_figures(service, now) {
             return true;
@@ -543,6 +547,7 @@ impl ControlSocket {
     fn operators_first<R: Records>(&mut self, service: &mut HttpService<R>, now: u64) -> bool
         ensures asks { AsksWithin service.old service.new }
         ensures kept { IsKept service.old service.new }
+        ensures serves { Serves service.old service.new }
     {
         if self.operators.serve(&self.poll, service, false, now) {
             return true;
@@ -555,6 +560,7 @@ impl ControlSocket {
     pub(crate) fn serve<R: Records>(&mut self, service: &mut HttpService<R>, now: u64) -> bool
         ensures asks { AsksUpTo CHANGES service.old.handler.node service.new.handler.node }
         ensures kept { IsKept service.old service.new }
+        ensures serves { Serves service.old service.new }
     {
         service.changes_left = CHANGES;
         self.is_figures_first = !self.is_figures_first;

@@ -330,11 +330,11 @@ impl Observer {
             self.sampled = now;
             sample(&mut self.rows);
         }
-        self.stand(front, is_waiting);
+        self.note_front(front, is_waiting);
     }
 
     /// Notes the node's front, and whether commands wait.
-    fn stand(&mut self, front: u32, is_waiting: bool)
+    fn note_front(&mut self, front: u32, is_waiting: bool)
         ensures front { self.new.front ≡ front }
         ensures since { self.new.since ≡ stood_since (not (front == self.old.front))
             (is_waiting || is_proposed front self.old.now self.old.proposed) self.old.since self.old.now }
@@ -352,7 +352,7 @@ impl Observer {
         self.since = stood_since(has_moved, waits, self.since, self.now);
     }
 
-    /// Tells what was counted of the other members.
+    /// Gives what was counted of the other members.
     fn report_peers(&self, peers: &mut Vec<PeerCounters>)
         ensures { length peers.old.items ≡ length self.entry.now.rows.items →
             peers.new.items ≡ map (reported self.entry.now.now) self.entry.now.rows.items }
@@ -366,7 +366,7 @@ impl Observer {
 
     /// Sets the counters for clients, after a round with this result. A turn that neither received a datagram nor is to
     /// be followed by a wait was a tick.
-    pub(crate) fn tell(&self, counters: &mut Counters, made: Progress)
+    pub(crate) fn report(&self, counters: &mut Counters, made: Progress)
         ensures shown { IsShown (seen_of self.entry.now) made counters.old counters.new }
         ensures stood { counters.new.stood ≡ seconds_since self.entry.now.since self.entry.now.now }
         ensures outrun { counters.new.outrun ≡ self.entry.now.outrun }

@@ -9,13 +9,13 @@ ghost use Rattle.node_loop.specs.Hosting.{AsksUpTo, Hosted};
 ghost use Rattle.node_loop.specs.Progress.{counts_in, heads_in};
 ghost use Rattle.node_loop.specs.Times.{IsTimed, IsTimedRun, LooksAt};
 ghost use Rattle.node_loop.specs.Timing.{LooksTimes, MakesTurns};
-ghost use Rattle.node_loop.specs.Turns.{Served, standing};
+ghost use Rattle.node_loop.specs.Turns.{Served, in_loop};
 ghost use Rattle.node_loop.specs.declared.running.Progress.{Progress};
-ghost use Rattle.node_requests.specs.declared.counters.Counters.{Counters};
 ghost use Rattle.node_control.specs.inner.Ending.{is_ending};
 ghost use Rattle.node_control.specs.inner.Handling.{IsKept};
-ghost use Rattle.node_control.specs.inner.Observing.{AreKept, IsShown, begun, counted, listened, seen_of};
+ghost use Rattle.node_control.specs.inner.Observing.{begun, counted, listened, seen_of};
 ghost use Rattle.node_control.specs.inner.Runs.{AsksAfterTurns, Finishes, MakesRounds};
+ghost use Rattle.node_control.specs.inner.Serving.{AnswersOver, ServesAt};
 
 use crate::control::ControlSocket;
 use crate::observer::Observer;
@@ -35,6 +35,7 @@ fn serve<R: Records, RT: Clock + Eprint>(
     ensures asks { AsksUpTo 8 service.old.handler.node service.new.handler.node }
     ensures none { control.old ≡ None → (service.new.handler ≡ service.old.handler) × (control.new ≡ None) }
     ensures kept { IsKept service.old service.new }
+    ensures serves { ServesAt control.old service.old service.new }
 {
     match control {
         Some(control) => {
@@ -70,14 +71,14 @@ fn pass<R: Records, W: Wire, T: Timer, RT: Clock + Eprint>(
     now: u64,
 ) -> Result<u32, NodeFault>
     ensures hosted { Moves (W.traffic wire.old) (W.traffic wire.new)
-        (λ es es'. Hosted (standing service.old.handler.node es buffers.old)
-        (standing service.new.handler.node es' buffers.new) (fault_of result)) }
+        (λ es es'. Hosted (in_loop service.old.handler.node es buffers.old)
+        (in_loop service.new.handler.node es' buffers.new) (fault_of result)) }
     ensures turns { control.old ≡ None → Moves (W.traffic wire.old) (W.traffic wire.new)
-        (λ es es'. Served (standing service.old.handler.node es buffers.old)
-        (standing service.new.handler.node es' buffers.new) (fault_of result)) × (control.new ≡ None) }
+        (λ es es'. Served (in_loop service.old.handler.node es buffers.old)
+        (in_loop service.new.handler.node es' buffers.new) (fault_of result)) × (control.new ≡ None) }
     ensures asked { OnOk result (Moves (W.traffic wire.old) (W.traffic wire.new)
-        (λ es es'. AsksAfterTurns 8 (standing service.old.handler.node es buffers.old)
-        (standing service.new.handler.node es' buffers.new))) }
+        (λ es es'. AsksAfterTurns 8 (in_loop service.old.handler.node es buffers.old)
+        (in_loop service.new.handler.node es' buffers.new))) }
     ensures few { IfOk result (λ turns. turns ≤ 65) }
     ensures looks { OnOk result (LooksTimes 1 (T.timer_events timer.old) (T.timer_events timer.new)) }
     ensures at { OnOk result (LooksAt (now ∷ []) (T.timer_events timer.old) (T.timer_events timer.new)) }
@@ -85,8 +86,8 @@ fn pass<R: Records, W: Wire, T: Timer, RT: Clock + Eprint>(
         (counts_in buffers.new) (counted (heads_in buffers.new) (counts_in buffers.new)
         (begun now (front (learned_by service.old.handler.node))
         (nat_lt 0 (length (state_in service.old.handler.node).volatile.waiting)) (seen_of observer.old)))) }
-    ensures shown { IfOk result (λ turns. (made : Progress) × (made.turns ≡ turns) × (counters : Counters)
-        × IsShown (seen_of observer.new) made service.old.counters counters × AreKept counters service.new.counters) }
+    ensures shown { IfOk result (λ turns. (made : Progress) × (made.turns ≡ turns) × AnswersOver control.old
+        (seen_of observer.new) made (T.listens timer.new now) service.old service.new) }
     ensures listening { OnOk result (service.new.is_listening ≡ T.listens timer.new now) }
     ensures same { W.identity wire.new ≡ W.identity wire.old }
 {
@@ -100,7 +101,7 @@ fn pass<R: Records, W: Wire, T: Timer, RT: Clock + Eprint>(
         Err(fault) => return Err(fault),
     };
     observer.count(buffers.heads(), buffers.counts());
-    observer.tell(&mut service.counters, made);
+    observer.report(&mut service.counters, made);
     service.is_listening = timer.is_listening(now);
     observer.hear(rt, buffers.heads(), buffers.counts(), service.is_listening);
     if !serve(rt, service, control, now) {
@@ -134,11 +135,11 @@ fn passes<R: Records, W: Wire, T: Timer, S: Stopwatch, RT: Clock + Eprint>(
     turns: u64,
 ) -> Result<bool, NodeFault>
     ensures hosted { Moves (W.traffic wire.old) (W.traffic wire.new)
-        (λ es es'. Hosted (standing service.old.handler.node es buffers.old)
-        (standing service.new.handler.node es' buffers.new) (fault_of result)) }
+        (λ es es'. Hosted (in_loop service.old.handler.node es buffers.old)
+        (in_loop service.new.handler.node es' buffers.new) (fault_of result)) }
     ensures turns { control.old ≡ None → Moves (W.traffic wire.old) (W.traffic wire.new)
-        (λ es es'. Served (standing service.old.handler.node es buffers.old)
-        (standing service.new.handler.node es' buffers.new) (fault_of result)) × (control.new ≡ None) }
+        (λ es es'. Served (in_loop service.old.handler.node es buffers.old)
+        (in_loop service.new.handler.node es' buffers.new) (fault_of result)) × (control.new ≡ None) }
     ensures made { IfOk result (λ is_stopped.
         MakesRounds is_stopped turns (T.timer_events timer.old) (T.timer_events timer.new)) }
     ensures timed { OnOk result (IsTimed start (S.readings clock.old) (S.readings clock.new)
@@ -186,11 +187,11 @@ pub(crate) fn pass_on<R: Records, W: Wire, T: Timer, S: Stopwatch, RT: Clock + E
     turns: u64,
 ) -> Result<bool, NodeFault>
     ensures hosted { Moves (W.traffic wire.old) (W.traffic wire.new)
-        (λ es es'. Hosted (standing service.old.handler.node es buffers.old)
-        (standing service.new.handler.node es' buffers.new) (fault_of result)) }
+        (λ es es'. Hosted (in_loop service.old.handler.node es buffers.old)
+        (in_loop service.new.handler.node es' buffers.new) (fault_of result)) }
     ensures turns { control.old ≡ None → Moves (W.traffic wire.old) (W.traffic wire.new)
-        (λ es es'. Served (standing service.old.handler.node es buffers.old)
-        (standing service.new.handler.node es' buffers.new) (fault_of result)) }
+        (λ es es'. Served (in_loop service.old.handler.node es buffers.old)
+        (in_loop service.new.handler.node es' buffers.new) (fault_of result)) }
     ensures made { IfOk result (λ is_stopped. is_stopped ≡ false →
         MakesTurns turns (T.timer_events timer.old) (T.timer_events timer.new)) }
     ensures finished { IfOk result (λ is_stopped.

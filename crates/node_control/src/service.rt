@@ -7,10 +7,10 @@ ghost use Rattle.http.specs.Uri.{uri_query};
 ghost use Rattle.http_server.specs.Response.{IsBlank, fields_of};
 ghost use Rattle.node_requests.specs.Answers.{answer_value};
 ghost use Rattle.node_requests.specs.Routing.{routed_value};
-ghost use Rattle.node_control.specs.inner.Answering.{standing_fields, answer_fields, content_type};
+ghost use Rattle.node_control.specs.inner.Answering.{node_fields, answer_fields, content_type};
 ghost use Rattle.node_control.specs.inner.Asking.{accepts_json, asked_for, is_of_figures};
 ghost use Rattle.node_control.specs.inner.Handling.{Says, IsAnswered, IsKept, IsTurnedAway, IsPassedOn, HandledAs};
-ghost use Rattle.node_control.specs.inner.Handling.{IsHandled, counted_as};
+ghost use Rattle.node_control.specs.inner.Handling.{AnswersRequest, IsHandled, counted_as};
 ghost use Rattle.node_control.specs.inner.Handling.{is_served, is_urgent, is_change, is_read};
 ghost use Rattle.node_control.specs.inner.Handling.{waiting, no_text, not_found};
 
@@ -157,7 +157,10 @@ fn asked_for(alloc: Global, request: &http::Request<Bytes>) -> Result<Routed<'_>
 impl<R: Records> HttpService<R> {
     /// The handler of a node's requests.
     pub(crate) fn new(alloc: Global, node: Node<R>, counters: Counters) -> HttpService<R>
-        ensures { result.handler.node ≡ node }
+        ensures node { result.handler.node ≡ node }
+        ensures accepted { result.handler.accepted ≡ None }
+        ensures works { result.handler.is_stopping ≡ false }
+        ensures counters { result.counters ≡ counters }
     {
         HttpService {
             handler: RequestHandler::new(alloc, node),
@@ -189,9 +192,9 @@ impl<R: Records> HttpService<R> {
     }
 
     /// Names the node that answers, and the number of positions that it applied.
-    fn add_standing(&self, response: &mut Response) -> Result<(), AllocError>
+    fn add_node_fields(&self, response: &mut Response) -> Result<(), AllocError>
         ensures fields { OnOk result
-            (fields_of response.new ≡ fields_of response.old ++ standing_fields self.now.handler.node) }
+            (fields_of response.new ≡ fields_of response.old ++ node_fields self.now.handler.node) }
         ensures status { OnOk result (response.new.status ≡ response.old.status) }
         ensures body { OnOk result (response.new.body.items ≡ response.old.body.items) }
     {
@@ -211,7 +214,7 @@ impl<R: Records> HttpService<R> {
         ensures status { OnOk result (response.new.status ≡ response.old.status) }
         ensures body { OnOk result (response.new.body.items ≡ response.old.body.items) }
     {
-        self.add_standing(response)?;
+        self.add_node_fields(response)?;
         add_text(self.alloc, response, b"content-type", kind)?;
         if code == 503 {
             add_text(self.alloc, response, b"retry-after", "1")?;
@@ -277,6 +280,8 @@ impl<R: Records> HttpService<R> {
         ensures memory { OnErr result (self.new ≡ self.old) }
         ensures scraped { self.new.is_scraped ≡ self.old.is_scraped }
         ensures kept { IsKept self.old self.new }
+        ensures counted { OnOk result
+            (self.new.counters ≡ counted_as self.old.is_scraped response.new.status self.old.counters) }
         ensures left { self.new.changes_left ≡ self.old.changes_left }
     {
         let answer = self.handler.answer(request, &self.counters)?;
@@ -291,6 +296,7 @@ impl<R: Records> HttpService<R> {
         ensures away { IsTurnedAway self.old self.new (answer_value answer.now) response.new }
         ensures scraped { self.new.is_scraped ≡ self.old.is_scraped }
         ensures kept { IsKept self.old self.new }
+        ensures counted { self.new.counters ≡ counted_as self.old.is_scraped response.new.status self.old.counters }
     {
         self.write(answer, TEXT, response);
         self.count(response.status.as_u16());
@@ -302,6 +308,7 @@ impl<R: Records> HttpService<R> {
         ensures away { IsTurnedAway self.old self.new (no_text status) response.new }
         ensures scraped { self.new.is_scraped ≡ self.old.is_scraped }
         ensures kept { IsKept self.old self.new }
+        ensures counted { self.new.counters ≡ counted_as self.old.is_scraped response.new.status self.old.counters }
     {
         let answer = Answer {
             code: status,
@@ -316,6 +323,7 @@ impl<R: Records> HttpService<R> {
         ensures away { IsTurnedAway self.old self.new not_found response.new }
         ensures scraped { self.new.is_scraped ≡ self.old.is_scraped }
         ensures kept { IsKept self.old self.new }
+        ensures counted { self.new.counters ≡ counted_as self.old.is_scraped response.new.status self.old.counters }
     {
         self.refuse(404, response);
     }
@@ -328,6 +336,8 @@ impl<R: Records> HttpService<R> {
         ensures memory { OnErr result (self.new ≡ self.old) }
         ensures scraped { self.new.is_scraped ≡ self.old.is_scraped }
         ensures kept { IsKept self.old self.new }
+        ensures counted { OnOk result
+            (self.new.counters ≡ counted_as self.old.is_scraped response.new.status self.old.counters) }
     {
         let answer = Answer {
             code: 503,
@@ -349,6 +359,8 @@ impl<R: Records> HttpService<R> {
         ensures memory { OnErr result (self.new ≡ self.old) }
         ensures scraped { self.new.is_scraped ≡ self.old.is_scraped }
         ensures kept { IsKept self.old self.new }
+        ensures counted { OnOk result
+            (self.new.counters ≡ counted_as self.old.is_scraped response.new.status self.old.counters) }
     {
         match request {
             Request::Read { at: _, read: _ } => self.ask(request, response),
@@ -371,6 +383,8 @@ impl<R: Records> HttpService<R> {
         ensures memory { OnErr result (self.new ≡ self.old) }
         ensures scraped { self.new.is_scraped ≡ self.old.is_scraped }
         ensures kept { IsKept self.old self.new }
+        ensures counted { OnOk result
+            (self.new.counters ≡ counted_as self.old.is_scraped response.new.status self.old.counters) }
     {
         if self.is_listening || self.changes_left == 0 {
             return self.put_off(response);
@@ -389,6 +403,8 @@ impl<R: Records> HttpService<R> {
         ensures memory { OnErr result (self.new ≡ self.old) }
         ensures scraped { self.new.is_scraped ≡ self.old.is_scraped }
         ensures kept { IsKept self.old self.new }
+        ensures counted { OnOk result
+            (self.new.counters ≡ counted_as self.old.is_scraped response.new.status self.old.counters) }
     {
         if self.is_spare && !is_urgent(request) {
             return self.put_off(response);
@@ -410,6 +426,8 @@ impl<R: Records> HttpService<R> {
         ensures memory { OnErr result (self.new ≡ self.old) }
         ensures scraped { self.new.is_scraped ≡ self.old.is_scraped }
         ensures kept { IsKept self.old self.new }
+        ensures counted { OnOk result
+            (self.new.counters ≡ counted_as self.old.is_scraped response.new.status self.old.counters) }
     {
         match routed {
             Routed::Asked(request) => self.pass_on(request, response),
@@ -444,6 +462,8 @@ impl<R: Records> HttpService<R> {
         ensures memory { OnErr result (self.new ≡ self.old) }
         ensures scraped { self.new.is_scraped ≡ self.old.is_scraped }
         ensures kept { IsKept self.old self.new }
+        ensures counted { OnOk result
+            (self.new.counters ≡ counted_as self.old.is_scraped response.new.status self.old.counters) }
     {
         if !self.is_served(request) {
             self.not_found(response);
@@ -455,9 +475,7 @@ impl<R: Records> HttpService<R> {
 }
 
 impl<R: Records> Service for HttpService<R> {
-    ghost answers = { λ old request response new. IsHandled old new request response
-        × (old.is_scraped ≡ true → new.handler ≡ old.handler) × (new.is_scraped ≡ old.is_scraped)
-        × IsKept old new };
+    ghost answers = { λ old request response new. AnswersRequest old request response new };
 
     fn call(
         &mut self,

@@ -10,9 +10,9 @@ use Rattle.node_loop.specs.declared.timer.View.{View}
 
 times_append : (ts us : List TimerEvent) → times_in (ts ++ us) ≡ times_in ts ++ times_in us
 times_append [] us = refl
-times_append (TimerEvent.Looks now view ∷ ts) us = ap (λ ns. now ∷ ns) (times_append ts us)
+times_append (TimerEvent.Looks now view tick ∷ ts) us = ap (λ ns. now ∷ ns) (times_append ts us)
 times_append (TimerEvent.Sends now ∷ ts) us = times_append ts us
-times_append (TimerEvent.Repeats now ∷ ts) us = times_append ts us
+times_append (TimerEvent.Repeats now is_due ∷ ts) us = times_append ts us
 times_append (TimerEvent.Ends ∷ ts) us = times_append ts us
 
 sends_at_none : (q : Bool) (now : ℕ) → times_in (sends_if q now) ≡ []
@@ -20,13 +20,13 @@ sends_at_none true now = refl
 sends_at_none false now = refl
 
 -- once in a round, at its time
-pub looks_at_once : (a b c : List TimerEvent → Type 0) (now : ℕ) (v : View) (t : PeerProgress) → Adds a b (looks now v t) →
-    Adds b c (TimerEvent.Repeats now ∷ []) → LooksAt (now ∷ []) a c
-looks_at_once a b c now v t g h = (
-  looks now v t ++ TimerEvent.Repeats now ∷ [],
-  times_append (looks now v t) (TimerEvent.Repeats now ∷ [])
+pub looks_at_once : (a b c : List TimerEvent → Type 0) (now : ℕ) (v : View) (k d : Bool) (t : PeerProgress) → Adds a b (looks now v k t) →
+    Adds b c (TimerEvent.Repeats now d ∷ []) → LooksAt (now ∷ []) a c
+looks_at_once a b c now v k d t g h = (
+  looks now v k t ++ TimerEvent.Repeats now d ∷ [],
+  times_append (looks now v k t) (TimerEvent.Repeats now d ∷ [])
       ∙ ap (λ ns. (now ∷ ns) ++ []) (sends_at_none (nat_lt v.front t.accepting) now),
-  adds_then a b c (looks now v t) (TimerEvent.Repeats now ∷ []) g h,
+  adds_then a b c (looks now v k t) (TimerEvent.Repeats now d ∷ []) g h,
 )
 
 -- the clock is read once more, for one more look

@@ -13,7 +13,7 @@ use Rattle.px_transport.specs.declared.wire.Wire as wires
 use Rattle.std.proofs.lemmas.List.{map-append}
 use Rattle.node_loop.proofs.Traffic.{among_chain}
 use Rattle.px_transport.specs.Wires.{WireEvent, Handed, Adds, IsQuiet, Moves, gives, hands}
-use Rattle.node_loop.specs.Turns.{Stand, Same, Served, HeardTurn, Resent}
+use Rattle.node_loop.specs.Turns.{LoopState, Same, Served, HeardTurn, Resent}
 use Rattle.node_loop.proofs.Chains.{served_then, served_none, served_between, served_turn, between_resent}
 use Rattle.px_replica.specs.declared.datagram.Datagram.{Datagram}
 use Rattle.node_loop.specs.Turns.{handed_over}
@@ -99,7 +99,7 @@ again_is {W} H w v u r s t e f a =
 -- ---- what is done, from whatever went over the wire before
 
 -- turns, one run behind the other
-pub over_then : {R : Type 0} {G : Ghosts R} (o m n : List WireEvent → Type 0) (x y z : List WireEvent → Stand G)
+pub over_then : {R : Type 0} {G : Ghosts R} (o m n : List WireEvent → Type 0) (x y z : List WireEvent → LoopState G)
     (a : Option NodeFault) → Moves o m (λ es es'. Served (x es) (y es') None) → Moves m n (λ es es'. Served (y es) (z es') a) →
     Moves o n (λ es es'. Served (x es) (z es') a)
 over_then o m n x y z a f g es t =
@@ -108,23 +108,23 @@ over_then o m n x y z a f g es t =
     (s.0, s.1, served_then (x es) (y r.0) (z s.0) a r.2 s.2)
 
 -- nothing is done
-pub over_same : {R : Type 0} {G : Ghosts R} (o n : List WireEvent → Type 0) (x y : List WireEvent → Stand G) → IsQuiet o n →
+pub over_same : {R : Type 0} {G : Ghosts R} (o n : List WireEvent → Type 0) (x y : List WireEvent → LoopState G) → IsQuiet o n →
     ((es : List WireEvent) → Same (x es) (y es)) → Moves o n (λ es es'. Served (x es) (y es') None)
 over_same o n x y q f es t = (es, q es t, served_none (x es) (y es) (f es))
 
 -- something is handed over again
-pub over_resent : {R : Type 0} {G : Ghosts R} (o n : List WireEvent → Type 0) (x y : List WireEvent → Stand G)
+pub over_resent : {R : Type 0} {G : Ghosts R} (o n : List WireEvent → Type 0) (x y : List WireEvent → LoopState G)
     (kept : List (ℕ × Bytes)) → HandsAgain kept o n →
     ((es : List WireEvent) (again : List (ℕ × Bytes)) → AreAmong again kept → Resent (x es) (y (es ++ hands again))) →
     Moves o n (λ es es'. Resent (x es) (y es'))
 over_resent o n x y kept (again, among, adds) f es t = (es ++ hands again, adds es t, f es again among)
 
-pub over_between : {R : Type 0} {G : Ghosts R} (o n : List WireEvent → Type 0) (x y : List WireEvent → Stand G) →
+pub over_between : {R : Type 0} {G : Ghosts R} (o n : List WireEvent → Type 0) (x y : List WireEvent → LoopState G) →
     Moves o n (λ es es'. Resent (x es) (y es')) → Moves o n (λ es es'. Served (x es) (y es') None)
 over_between o n x y f es t =
     let r = f es t in (r.0, r.1, served_between (x es) (y r.0) (between_resent (x es) (y r.0) r.2))
 
-pub over_turn : {R : Type 0} {G : Ghosts R} (o n : List WireEvent → Type 0) (x y : List WireEvent → Stand G)
+pub over_turn : {R : Type 0} {G : Ghosts R} (o n : List WireEvent → Type 0) (x y : List WireEvent → LoopState G)
     (a : Option NodeFault) → Moves o n (λ es es'. HeardTurn (x es) (y es') a) → Moves o n (λ es es'. Served (x es) (y es') a)
 over_turn o n x y a f es t = let r = f es t in (r.0, r.1, served_turn (x es) (y r.0) a r.2)
 

@@ -16,7 +16,7 @@ use Rattle.px_transport.specs.Wires.{WireEvent, given_in}
 use Rattle.node_loop.specs.Moves.{trace_of, AreMoves, LeavesThere, HasTrace, TurnsAreTraces, HostingsAreTraces}
 use Rattle.node_loop.proofs.Runs.{traced_then, served_before}
 use Rattle.node_loop.proofs.Hosting.{hosted_before}
-use Rattle.node_loop.specs.Runs.{Buffers, new_buffers, stands, Tells, Serves, Hosts, OneRun, TracedOver, RunsAreTraces, HostedRunsAreTraces, RunTrace, RunsGoOn}
+use Rattle.node_loop.specs.Runs.{Buffers, new_buffers, run_state, Reports, Serves, Hosts, OneRun, TracedOver, RunsAreTraces, HostedRunsAreTraces, RunTrace, RunsGoOn}
 use Rattle.node_loop.specs.declared.ended.Ended.{Ended}
 use Rattle.node_loop.specs.declared.ended.Ended.TheVariants.{Fault}
 
@@ -31,7 +31,7 @@ module _ {R : Type 0} (G : Ghosts R) (How : (s t : Node R G) → Type 0)
 
   -- a trace from where the node began is one from what its record held, and hears asks from outside where that does
   pub run_traced : (m : Membership) (given back : R) (w v : List WireEvent) (a : Option NodeFault) → G.is_honest back → (l : OneRun G How m given back) →
-      (hears : Bool) (buffers : Buffers) → HasTrace (stands l.begun w (new_buffers hears)) (stands l.done v buffers) a →
+      (hears : Bool) (buffers : Buffers) → HasTrace (run_state l.begun w (new_buffers hears)) (run_state l.done v buffers) a →
       (over : TracedOver G m given back w v) × (over.hears ≡ hears)
   run_traced m given back w v a honest l hears buffers has_trace =
       let began = l.starts (at_start m given back honest l) in (
@@ -56,7 +56,7 @@ module _ {R : Type 0} (G : Ghosts R) (How : (s t : Node R G) → Type 0)
       )
 
 -- a run that doesn't end with a fault of the store has none
-not_store : (n k : ℕ) (a : Option NodeFault) (ended : Ended) → Tells n k a ended → ended ≢ Fault fault.Store → a ≢ Some fault.Store
+not_store : (n k : ℕ) (a : Option NodeFault) (ended : Ended) → Reports n k a ended → ended ≢ Fault fault.Store → a ≢ Some fault.Store
 not_store n k None ended reported other h = absurd cc
 not_store n k (Some e) ended reported other h = other (reported ∙ ap (λ (o : Option NodeFault). Fault (of o)) h)
   where
@@ -68,9 +68,9 @@ pub runs_traced : {R : Type 0} (G : Ghosts R) → TurnsAreTraces G → RunsAreTr
 runs_traced {R} G law m given back w v ended honest l =
     let s = l.went in
     let before = λ (x y : Node R G) (k : Serves x y w v ended) (h : G.is_honest (records_of y)).
-    served_before (stands x w (new_buffers k.hears)) (stands y v k.buffers) k.answered k.served h in
+    served_before (run_state x w (new_buffers k.hears)) (run_state y v k.buffers) k.answered k.served h in
     let at_end = subst (λ (r : R). G.is_honest r) l.closed honest in
-    let all_traced = law (stands l.begun w (new_buffers s.hears)) (stands l.done v s.buffers) s.answered at_end l.works s.served in (
+    let all_traced = law (run_state l.begun w (new_buffers s.hears)) (run_state l.done v s.buffers) s.answered at_end l.works s.served in (
       (run_traced G (λ x y. Serves x y w v ended) before m given back w v s.answered honest l s.hears s.buffers all_traced.0).0,
       λ other. ap G.failed l.closed ∙ all_traced.1 (not_store _ _ s.answered ended s.reported other),
     )
@@ -79,10 +79,10 @@ pub hosted_runs_traced : {R : Type 0} (G : Ghosts R) → HostingsAreTraces G →
 hosted_runs_traced {R} G law m given back w v hears ended honest l =
     let s = l.went in
     let before = λ (x y : Node R G) (k : Hosts x y w v hears ended) (h : G.is_honest (records_of y)).
-    hosted_before (stands x w (new_buffers hears)) (stands y v k.buffers) k.answered k.hosted h in
+    hosted_before (run_state x w (new_buffers hears)) (run_state y v k.buffers) k.answered k.hosted h in
     let at_end = subst (λ (r : R). G.is_honest r) l.closed honest in
     run_traced G (λ x y. Hosts x y w v hears ended) before m given back w v s.answered honest l hears s.buffers
-    (law (stands l.begun w (new_buffers hears)) (stands l.done v s.buffers) s.answered at_end l.works s.hosted)
+    (law (run_state l.begun w (new_buffers hears)) (run_state l.done v s.buffers) s.answered at_end l.works s.hosted)
 
 -- ---- several runs
 

@@ -8,20 +8,20 @@ use Rattle.px_replica.specs.declared.fault.NodeFault.{NodeFault}
 use Rattle.pf_node.specs.Nodes.{learned_by, applied_of}
 use Rattle.pf_node.specs.declared.state.Node.{Node}
 use Rattle.node_loop.proofs.Hosting.{hosted_served}
-use Rattle.node_loop.specs.Runs.{new_buffers, stands, Tells, HostTells, Serves, Hosts, Runs, HostedRuns}
+use Rattle.node_loop.specs.Runs.{new_buffers, run_state, Reports, HostReports, Serves, Hosts, Runs, HostedRuns}
 use Rattle.node_loop.specs.declared.ended.Ended.{Ended}
 
-pub tells : (n k : ℕ) (answered : Option NodeFault) (ended : Ended) → Tells n k answered ended → HostTells n k answered ended
-tells n k None ended reported = inl reported
-tells n k (Some e) ended reported = reported
+pub reports : (n k : ℕ) (answered : Option NodeFault) (ended : Ended) → Reports n k answered ended → HostReports n k answered ended
+reports n k None ended reported = inl reported
+reports n k (Some e) ended reported = reported
 
 pub serves : {R : Type 0} {G : Ghosts R} (s t : Node R G) (w v : List WireEvent) (ended : Ended) →
     (k : Serves s t w v ended) → Hosts s t w v k.hears ended
 serves s t w v ended k = record {
   answered = k.answered;
   buffers = k.buffers;
-  hosted = hosted_served (stands s w (new_buffers k.hears)) (stands t v k.buffers) k.answered k.served;
-  reported = tells (front (learned_by t)) (applied_of t) k.answered ended k.reported;
+  hosted = hosted_served (run_state s w (new_buffers k.hears)) (run_state t v k.buffers) k.answered k.served;
+  reported = reports (front (learned_by t)) (applied_of t) k.answered ended k.reported;
 }
 
 pub runs : {R : Type 0} (G : Ghosts R) (m : Membership) (given back : R) (w v : List WireEvent) (ended : Ended) →

@@ -17,7 +17,7 @@ use Rattle.px_transport.specs.Wires.{WireEvent}
 use Rattle.px_replica.specs.Traces.{TraceEvent, Traced}
 use Rattle.node_loop.specs.Again.{AreAmong}
 use Rattle.node_loop.proofs.Among.{among_is, among_then, among_front, among_none}
-use Rattle.node_loop.specs.Turns.{Stand, Same, IsIdle, Between, Served}
+use Rattle.node_loop.specs.Turns.{LoopState, Same, IsIdle, Between, Served}
 use Rattle.node_loop.specs.Hosting.{AskedOnce, AskedTimes, Goes, Steps, Stops, Hosted}
 use Rattle.node_loop.specs.Moves.{sent_by, AllFromMembers, LeavesThere, trace_of, events_of, came_by, AreMoves, HasTrace, HostingsAreTraces}
 use Rattle.node_loop.proofs.Traffic.{none_brought, among_chain, among_nil, trace_then, events_then, came_then, moves_then, idly, idle_trace, idle_events, idle_moves}
@@ -26,52 +26,52 @@ use Rattle.node_loop.proofs.Runs.{Led, called, idles_in, led_between, led_then, 
 
 -- ---- one thing behind the other
 
-steps_then : {R : Type 0} {G : Ghosts R} (m n : ℕ) (x y z : Stand G) → Steps m x y → Steps n y z → (k : ℕ) × Steps k x z
-steps_then {R} {G} m zero x y z a e = (m, subst (λ (w : Stand G). Steps m x w) (sym e) a)
+steps_then : {R : Type 0} {G : Ghosts R} (m n : ℕ) (x y z : LoopState G) → Steps m x y → Steps n y z → (k : ℕ) × Steps k x z
+steps_then {R} {G} m zero x y z a e = (m, subst (λ (w : LoopState G). Steps m x w) (sym e) a)
 steps_then m (suc n) x y z a (w, b, g) = let c = steps_then m n x y w a b in (suc c.0, (w, c.1, g))
 
 -- one run behind the other
-pub hosted_then : {R : Type 0} {G : Ghosts R} (x y z : Stand G) (a : Option NodeFault) → Hosted x y None → Hosted y z a → Hosted x z a
+pub hosted_then : {R : Type 0} {G : Ghosts R} (x y z : LoopState G) (a : Option NodeFault) → Hosted x y None → Hosted y z a → Hosted x z a
 hosted_then {R} {G} x y z a s t =
-    let b : Steps t.steps s.then t.then = subst (λ (w : Stand G). Steps t.steps w t.then) s.last t.made in
+    let b : Steps t.steps s.then t.then = subst (λ (w : LoopState G). Steps t.steps w t.then) s.last t.made in
     let c = steps_then s.steps t.steps x s.then t.then s.made b in
     record { steps = c.0; then = t.then; made = c.1; last = t.last }
 
-pub hosted_none : {R : Type 0} {G : Ghosts R} (x y : Stand G) → y ≡ x → Hosted x y None
+pub hosted_none : {R : Type 0} {G : Ghosts R} (x y : LoopState G) → y ≡ x → Hosted x y None
 hosted_none x y e = record { steps = zero; then = x; made = refl; last = e }
 
 -- turns alone
-pub hosted_served : {R : Type 0} {G : Ghosts R} (x y : Stand G) (a : Option NodeFault) → Served x y a → Hosted x y a
+pub hosted_served : {R : Type 0} {G : Ghosts R} (x y : LoopState G) (a : Option NodeFault) → Served x y a → Hosted x y a
 hosted_served x y None r = record { steps = suc zero; then = y; made = (x, refl, inl r); last = refl }
 hosted_served x y (Some e) r = record { steps = zero; then = x; made = refl; last = r }
 
-asked_steps : {R : Type 0} {G : Ghosts R} (n : ℕ) (x : Stand G) (t : Replica R G) → AskedTimes n x.replica t → Steps n x (record x { replica = t })
+asked_steps : {R : Type 0} {G : Ghosts R} (n : ℕ) (x : LoopState G) (t : Replica R G) → AskedTimes n x.replica t → Steps n x (record x { replica = t })
 asked_steps {R} {G} zero x t e = ap (λ (r : Replica R G). record x { replica = r }) e
 asked_steps (suc n) x t (u, a, k) =
     (record x { replica = u }, asked_steps n x u a, inr (record { asked = k; rest = refl }))
 
 -- asks alone
-pub hosted_asked : {R : Type 0} {G : Ghosts R} (n : ℕ) (x : Stand G) (t : Replica R G) → AskedTimes n x.replica t →
+pub hosted_asked : {R : Type 0} {G : Ghosts R} (n : ℕ) (x : LoopState G) (t : Replica R G) → AskedTimes n x.replica t →
     Hosted x (record x { replica = t }) None
 hosted_asked n x t a = record { steps = n; then = record x { replica = t }; made = asked_steps n x t a; last = refl }
 
 -- the wire and the buffers are as they were
-stand_is : {R : Type 0} {G : Ghosts R} (y z : Stand G) → z.traffic ≡ y.traffic → z.kept ≡ y.kept →
+stand_is : {R : Type 0} {G : Ghosts R} (y z : LoopState G) → z.traffic ≡ y.traffic → z.kept ≡ y.kept →
     z.requests ≡ y.requests → z.hears_asks ≡ y.hears_asks → z ≡ record y { replica = z.replica }
 stand_is y z t k q e =
     same_is (record y { replica = z.replica }) z (record { replica = refl; traffic = t; kept = k; requests = q; hears = e })
 
 -- and then asks, with a wire and buffers that are left alone
-pub hosted_on : {R : Type 0} {G : Ghosts R} (x y z : Stand G) (n : ℕ) → Hosted x y None → AskedTimes n y.replica z.replica →
+pub hosted_on : {R : Type 0} {G : Ghosts R} (x y z : LoopState G) (n : ℕ) → Hosted x y None → AskedTimes n y.replica z.replica →
     z.traffic ≡ y.traffic → z.kept ≡ y.kept → z.requests ≡ y.requests → z.hears_asks ≡ y.hears_asks → Hosted x z None
 hosted_on {R} {G} x y z n a b t k q e =
-    subst (λ (w : Stand G). Hosted x w None) (sym (stand_is y z t k q e))
+    subst (λ (w : LoopState G). Hosted x w None) (sym (stand_is y z t k q e))
     (hosted_then x y (record y { replica = z.replica }) None a (hosted_asked n y z.replica b))
 
 once_before : {R : Type 0} {G : Ghosts R} (s t : Replica R G) → AskedOnce s t → G.is_honest (records_of t) → G.is_honest (records_of s)
 once_before s t (command, f, call) honest = call.was honest
 
-goes_before : {R : Type 0} {G : Ghosts R} (x y : Stand G) → Goes x y → G.is_honest (records_of y.replica) → G.is_honest (records_of x.replica)
+goes_before : {R : Type 0} {G : Ghosts R} (x y : LoopState G) → Goes x y → G.is_honest (records_of y.replica) → G.is_honest (records_of x.replica)
 goes_before x y (inl ran) honest = served_before x y None ran honest
 goes_before x y (inr asked) honest = once_before x.replica y.replica asked.asked honest
 
@@ -79,8 +79,8 @@ goes_before x y (inr asked) honest = once_before x.replica y.replica asked.asked
 
 -- The request after which it works no more is its last event. Since then nothing but what is idle is
 -- done.
-record Broken {R : Type 0} {G : Ghosts R} (x z : Stand G) : Type 0 where
-  stood : Stand G
+record Broken {R : Type 0} {G : Ghosts R} (x z : LoopState G) : Type 0 where
+  stood : LoopState G
   fault : NodeFault
   led : Led (membership_of x.replica) x stood
   ended : Ended stood z fault
@@ -90,11 +90,11 @@ record Broken {R : Type 0} {G : Ghosts R} (x z : Stand G) : Type 0 where
       LeavesThere (group (membership_of stood.replica)) (membership_of stood.replica).me [] (state_in stood.replica) left
   failed : has_failed z.replica ≡ true
 
-abbrev GoesOn : {R : Type 0} {G : Ghosts R} → (x z : Stand G) → Type 0
+abbrev GoesOn : {R : Type 0} {G : Ghosts R} → (x z : LoopState G) → Type 0
 GoesOn x z = Led (membership_of x.replica) x z ⊎ Broken x z
 
 -- a member that works no more does nothing
-lost_on : {R : Type 0} {G : Ghosts R} (x y z : Stand G) → Broken x y → Between y z → Broken x z
+lost_on : {R : Type 0} {G : Ghosts R} (x y z : LoopState G) → Broken x y → Between y z → Broken x z
 unfolding ended_more between_lost
 lost_on {R} {G} x y z b d = record {
   stood = b.stood;
@@ -111,17 +111,17 @@ lost_on {R} {G} x y z b d = record {
 }
 
 -- a refused ask changes nothing, or makes it a failed one
-refused : {R : Type 0} {G : Ghosts R} (x y z : Stand G) (command : Bytes) (e : NodeFault) (b : Bool) → has_failed z.replica ≡ b →
+refused : {R : Type 0} {G : Ghosts R} (x y z : LoopState G) (command : Bytes) (e : NodeFault) (b : Bool) → has_failed z.replica ≡ b →
     Led (membership_of x.replica) x y → G.is_honest (records_of z.replica) →
     Call y.replica z.replica (Asks command) [] [] (Some e) → z ≡ record y { replica = z.replica } → GoesOn x z
 unfolding failed_call
 refused {R} {G} x y z command e true is l honest call rest =
-    let kept : z.kept ≡ y.kept = ap (λ (s : Stand G). s.kept) rest in
-    let requests : z.requests ≡ y.requests = ap (λ (s : Stand G). s.requests) rest in
+    let kept : z.kept ≡ y.kept = ap (λ (s : LoopState G). s.kept) rest in
+    let requests : z.requests ≡ y.requests = ap (λ (s : LoopState G). s.requests) rest in
     let d = failed_call y z (Asks command) None [] e l.works honest tt (none_brought _ _ []) call
-    (ap (λ (s : Stand G). s.traffic) rest ∙ sym (append-nil y.traffic))
+    (ap (λ (s : LoopState G). s.traffic) rest ∙ sym (append-nil y.traffic))
     (among_nil z.kept y.kept (among_is z.kept y.kept kept)) (among_nil z.requests y.requests (among_is z.requests y.requests requests))
-    (ap (λ (s : Stand G). s.hears_asks) rest) in
+    (ap (λ (s : LoopState G). s.hears_asks) rest) in
     inr (record {
       stood = y;
       fault = e;
@@ -133,12 +133,12 @@ refused {R} {G} x y z command e true is l honest call rest =
       failed = is;
     })
 refused {R} {G} x y z command e false is l honest call rest =
-    let kept : z.kept ≡ y.kept = ap (λ (s : Stand G). s.kept) rest in
-    let requests : z.requests ≡ y.requests = ap (λ (s : Stand G). s.requests) rest in
-    let went : z.traffic ≡ y.traffic ++ [] = ap (λ (s : Stand G). s.traffic) rest ∙ sym (append-nil y.traffic) in
+    let kept : z.kept ≡ y.kept = ap (λ (s : LoopState G). s.kept) rest in
+    let requests : z.requests ≡ y.requests = ap (λ (s : LoopState G). s.requests) rest in
+    let went : z.traffic ≡ y.traffic ++ [] = ap (λ (s : LoopState G). s.traffic) rest ∙ sym (append-nil y.traffic) in
     let d = failed_call y z (Asks command) None [] e l.works honest tt (none_brought _ _ []) call went
     (among_nil z.kept y.kept (among_is z.kept y.kept kept)) (among_nil z.requests y.requests (among_is z.requests y.requests requests))
-    (ap (λ (s : Stand G). s.hears_asks) rest) in
+    (ap (λ (s : LoopState G). s.hears_asks) rest) in
     let on : Led (membership_of y.replica) y z = record {
       moves = [];
       traced = d.stays (z.replica.works is);
@@ -147,34 +147,34 @@ refused {R} {G} x y z command e false is l honest call rest =
       went = went;
       kept = among_nil z.kept y.kept (among_is z.kept y.kept kept);
       requests = among_nil z.requests y.requests (among_is z.requests y.requests requests);
-      hears = ap (λ (s : Stand G). s.hears_asks) rest;
+      hears = ap (λ (s : LoopState G). s.hears_asks) rest;
       was = call.was;
       works = is;
       membership = call.membership;
     } in
     inl (led_then (membership_of x.replica) x y z l on)
 
-asks : {R : Type 0} {G : Ghosts R} (x y z : Stand G) → Led (membership_of x.replica) x y → G.is_honest (records_of z.replica) →
+asks : {R : Type 0} {G : Ghosts R} (x y z : LoopState G) → Led (membership_of x.replica) x y → G.is_honest (records_of z.replica) →
     AskedOnce y.replica z.replica → z ≡ record y { replica = z.replica } → GoesOn x z
 asks {R} {G} x y z l honest (command, None, call) rest =
     inl (led_then (membership_of x.replica) x y z l
     (called y z (Asks command) None [] l.works honest tt tt (λ off h m. absurd m) call
-    (ap (λ (s : Stand G). s.traffic) rest ∙ sym (append-nil y.traffic))
-    (among_nil z.kept y.kept (among_is z.kept y.kept (ap (λ (s : Stand G). s.kept) rest)))
-    (among_nil z.requests y.requests (among_is z.requests y.requests (ap (λ (s : Stand G). s.requests) rest)))
-    (ap (λ (s : Stand G). s.hears_asks) rest)))
+    (ap (λ (s : LoopState G). s.traffic) rest ∙ sym (append-nil y.traffic))
+    (among_nil z.kept y.kept (among_is z.kept y.kept (ap (λ (s : LoopState G). s.kept) rest)))
+    (among_nil z.requests y.requests (among_is z.requests y.requests (ap (λ (s : LoopState G). s.requests) rest)))
+    (ap (λ (s : LoopState G). s.hears_asks) rest)))
 asks x y z l honest (command, Some e, call) rest =
     refused x y z command e (has_failed z.replica) refl l honest call rest
 
-asks_broken : {R : Type 0} {G : Ghosts R} (x y z : Stand G) → Broken x y → AskedOnce y.replica z.replica →
+asks_broken : {R : Type 0} {G : Ghosts R} (x y z : LoopState G) → Broken x y → AskedOnce y.replica z.replica →
     z ≡ record y { replica = z.replica } → Broken x z
 asks_broken {R} {G} x y z b (command, f, call) rest =
-    let is : z ≡ y = rest ∙ ap {B = Stand G} (λ (r : Replica R G). record y { replica = r }) (call.still b.failed) in
-    subst (λ (w : Stand G). Broken x w) (sym is) b
+    let is : z ≡ y = rest ∙ ap {B = LoopState G} (λ (r : Replica R G). record y { replica = r }) (call.still b.failed) in
+    subst (λ (w : LoopState G). Broken x w) (sym is) b
 
 -- ---- one thing after another
 
-goes : {R : Type 0} {G : Ghosts R} (x y z : Stand G) → G.is_honest (records_of z.replica) →
+goes : {R : Type 0} {G : Ghosts R} (x y z : LoopState G) → G.is_honest (records_of z.replica) →
     GoesOn x y → Goes y z → GoesOn x z
 goes x y z honest (inl l) (inl ran) =
     inl (led_then (membership_of x.replica) x y z l (served_led y z ran l.works honest))
@@ -185,33 +185,33 @@ goes x y z honest (inr b) (inl ran) =
 goes x y z honest (inr b) (inr asked) =
     inr (asks_broken x y z b asked.asked asked.rest)
 
-steps : {R : Type 0} {G : Ghosts R} (n : ℕ) (x z : Stand G) → has_failed x.replica ≡ false →
+steps : {R : Type 0} {G : Ghosts R} (n : ℕ) (x z : LoopState G) → has_failed x.replica ≡ false →
     G.is_honest (records_of z.replica) → Steps n x z → GoesOn x z
 steps {R} {G} zero x z works honest is =
-    subst (λ (y : Stand G). GoesOn x y) (sym is)
+    subst (λ (y : LoopState G). GoesOn x y) (sym is)
     (inl (led_between x x (between_all x) works))
 steps (suc n) x z works honest (y, made, one) =
     goes x y z honest (steps n x y works (goes_before y z one honest) made) one
 
-stops_before : {R : Type 0} {G : Ghosts R} (y z : Stand G) (a : Option NodeFault) → Stops y z a → G.is_honest (records_of z.replica) →
+stops_before : {R : Type 0} {G : Ghosts R} (y z : LoopState G) (a : Option NodeFault) → Stops y z a → G.is_honest (records_of z.replica) →
     G.is_honest (records_of y.replica)
-stops_before {R} {G} y z None is honest = subst (λ (p : Stand G). G.is_honest (records_of p.replica)) is honest
+stops_before {R} {G} y z None is honest = subst (λ (p : LoopState G). G.is_honest (records_of p.replica)) is honest
 stops_before y z (Some e) ran honest = served_before y z (Some e) ran honest
 
-steps_before : {R : Type 0} {G : Ghosts R} (n : ℕ) (x z : Stand G) → Steps n x z → G.is_honest (records_of z.replica) →
+steps_before : {R : Type 0} {G : Ghosts R} (n : ℕ) (x z : LoopState G) → Steps n x z → G.is_honest (records_of z.replica) →
     G.is_honest (records_of x.replica)
-steps_before {R} {G} zero x z is honest = subst (λ (p : Stand G). G.is_honest (records_of p.replica)) is honest
+steps_before {R} {G} zero x z is honest = subst (λ (p : LoopState G). G.is_honest (records_of p.replica)) is honest
 steps_before (suc n) x z (y, made, one) honest = steps_before n x y made (goes_before y z one honest)
 
 -- a record that is honest in the end was honest at first
-pub hosted_before : {R : Type 0} {G : Ghosts R} (x z : Stand G) (a : Option NodeFault) → Hosted x z a →
+pub hosted_before : {R : Type 0} {G : Ghosts R} (x z : LoopState G) (a : Option NodeFault) → Hosted x z a →
     G.is_honest (records_of z.replica) → G.is_honest (records_of x.replica)
 hosted_before x z a o honest = steps_before o.steps x o.then o.made (stops_before o.then z a o.last honest)
 
 module _ {R : Type 0} (G : Ghosts R)
     (settled : (r : R) → G.is_honest r → G.failed r ≡ 0 → (d : Record Bytes) → G.may_leave r d → d ≡ G.stored r) where
   -- Where the call that failed was an ask, nothing but what is idle was done since.
-  broken_has_trace : (x z : Stand G) → Broken x z → HasTrace x z None
+  broken_has_trace : (x z : LoopState G) → Broken x z → HasTrace x z None
   broken_has_trace x z b =
       let l = b.led in
       let d = b.ended in
@@ -249,13 +249,13 @@ module _ {R : Type 0} (G : Ghosts R)
         membership = d.membership ∙ l.membership;
       }
 
-  stops : (x y z : Stand G) (a : Option NodeFault) → G.is_honest (records_of z.replica) →
+  stops : (x y z : LoopState G) (a : Option NodeFault) → G.is_honest (records_of z.replica) →
       GoesOn x y → Stops y z a → HasTrace x z a
   stops x y z None honest (inl l) is =
-      subst (λ (p : Stand G). HasTrace x p None) (sym is)
-      (led_has_trace G settled x y (subst (λ (p : Stand G). G.is_honest (records_of p.replica)) is honest) l)
+      subst (λ (p : LoopState G). HasTrace x p None) (sym is)
+      (led_has_trace G settled x y (subst (λ (p : LoopState G). G.is_honest (records_of p.replica)) is honest) l)
   stops x y z None honest (inr b) is =
-      subst (λ (p : Stand G). HasTrace x p None) (sym is)
+      subst (λ (p : LoopState G). HasTrace x p None) (sym is)
       (broken_has_trace x y b)
   stops x y z (Some e) honest (inl l) ran =
       let s = served_ended y z e ran l.works honest in

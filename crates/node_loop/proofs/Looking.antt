@@ -8,9 +8,9 @@ use Rattle.node_loop.specs.declared.timer.View.{View}
 
 looks_append : (ts us : List TimerEvent) → looks_in (ts ++ us) ≡ looks_in ts + looks_in us
 looks_append [] us = omega arith
-looks_append (TimerEvent.Looks now view ∷ ts) us = let r = looks_append ts us in omega (arith, r)
+looks_append (TimerEvent.Looks now view tick ∷ ts) us = let r = looks_append ts us in omega (arith, r)
 looks_append (TimerEvent.Sends now ∷ ts) us = looks_append ts us
-looks_append (TimerEvent.Repeats now ∷ ts) us = looks_append ts us
+looks_append (TimerEvent.Repeats now is_due ∷ ts) us = looks_append ts us
 looks_append (TimerEvent.Ends ∷ ts) us = looks_append ts us
 
 sends_none : (q : Bool) (now : ℕ) → looks_in (sends_if q now) ≡ 0
@@ -22,12 +22,12 @@ pub looks_never : (a : List TimerEvent → Type 0) → LooksTimes 0 a a
 looks_never a = ([], refl, adds_none a a (λ ts t. t))
 
 -- once in a round
-pub looks_once : (a b c : List TimerEvent → Type 0) (now : ℕ) (v : View) (t : PeerProgress) → Adds a b (looks now v t) →
-    Adds b c (TimerEvent.Repeats now ∷ []) → LooksTimes 1 a c
-looks_once a b c now v t g h =
+pub looks_once : (a b c : List TimerEvent → Type 0) (now : ℕ) (v : View) (k d : Bool) (t : PeerProgress) → Adds a b (looks now v k t) →
+    Adds b c (TimerEvent.Repeats now d ∷ []) → LooksTimes 1 a c
+looks_once a b c now v k d t g h =
     let none = sends_none (nat_lt v.front t.accepting) now in
-    let all = looks_append (looks now v t) (TimerEvent.Repeats now ∷ []) in
-    (looks now v t ++ TimerEvent.Repeats now ∷ [], omega (arith, none, all), adds_then a b c (looks now v t) (TimerEvent.Repeats now ∷ []) g h)
+    let all = looks_append (looks now v k t) (TimerEvent.Repeats now d ∷ []) in
+    (looks now v k t ++ TimerEvent.Repeats now d ∷ [], omega (arith, none, all), adds_then a b c (looks now v k t) (TimerEvent.Repeats now d ∷ []) g h)
 
 -- it is given something else
 pub looks_not : (a b : List TimerEvent → Type 0) (ts : List TimerEvent) → looks_in ts ≡ 0 → Adds a b ts → LooksTimes 0 a b

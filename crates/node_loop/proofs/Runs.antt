@@ -26,7 +26,7 @@ use Rattle.px_replica.specs.declared.state.Replica.{Replica}
 use Rattle.node_loop.specs.Again.{AreAmong}
 use Rattle.node_loop.proofs.Among.{among_is, among_front, among_then, among_none, among_both}
 use Rattle.node_loop.specs.Resending.{came_in}
-use Rattle.node_loop.specs.Turns.{Acts, Stand, IsHeard, IsIdle, Between, Turns, Ends, Served, handed_over}
+use Rattle.node_loop.specs.Turns.{Acts, LoopState, IsHeard, IsIdle, Between, Turns, Ends, Served, handed_over}
 use Rattle.node_loop.specs.Moves.{Heard, message_in, messages_of, AllFromMembers, AreBrought, sent_by, LeavesThere, HasTrace, TurnsAreTraces}
 use Rattle.node_loop.specs.Moves.{Move, Does, Passes, trace_of, events_of, came_by, IsBrought, AreMoves}
 use Rattle.node_loop.proofs.Traffic.{sent_then, members_then, brought_more, none_brought, one_brought, among_chain, trace_then, events_then, came_then, moves_then}
@@ -42,7 +42,7 @@ traced_then g me s t u (Stops x left ∷ xs) ys (up, input, leaves, rest) b = (u
 traced_then g me s t u (Opens ∷ xs) ys rest b = traced_then g me _ t u xs ys rest b
 
 -- what calls without a fault lead to
-pub record Led {R : Type 0} {G : Ghosts R} (m : Membership) (x y : Stand G) : Type 0 where
+pub record Led {R : Type 0} {G : Ghosts R} (m : Membership) (x y : LoopState G) : Type 0 where
   pub moves : List Move
   pub traced : Traced (group m) m.me (state_in x.replica) (trace_of moves) (state_in y.replica)
   pub are : AreMoves (group m) m.me x.hears_asks moves x.requests x.kept
@@ -59,7 +59,7 @@ some_none : (e : NodeFault) → Some e ≡ None → ⊥
 some_none e h = absurd cc
 
 -- a call that answered Ok, for which this came
-pub called : {R : Type 0} {G : Ghosts R} (x y : Stand G) (i : Input Bytes) (came : Option Bytes) (out : List Datagram) →
+pub called : {R : Type 0} {G : Ghosts R} (x y : LoopState G) (i : Input Bytes) (came : Option Bytes) (out : List Datagram) →
     has_failed x.replica ≡ false → G.is_honest (records_of y.replica) →
     IsInput (group (membership_of x.replica)) (membership_of x.replica).me i →
     IsBrought (group (membership_of x.replica)) (membership_of x.replica).me came i →
@@ -82,13 +82,13 @@ called {R} {G} x y i came out works honest input brought heard call went kept re
 }
 
 -- what is idle for a member, by what it knows and keeps
-pub idles_in : {R : Type 0} {G : Ghosts R} (x : Stand G) (e : WireEvent) → IsIdle x e →
+pub idles_in : {R : Type 0} {G : Ghosts R} (x : LoopState G) (e : WireEvent) → IsIdle x e →
     Idles (group (membership_of x.replica)) (membership_of x.replica).me x.hears_asks x.requests x.kept e
 idles_in x (Gave b) i = i
 idles_in x (Handed to b) i = i
 
 -- no turn is made
-pub led_between : {R : Type 0} {G : Ghosts R} (x y : Stand G) → Between x y → has_failed x.replica ≡ false → Led (membership_of x.replica) x y
+pub led_between : {R : Type 0} {G : Ghosts R} (x y : LoopState G) → Between x y → has_failed x.replica ≡ false → Led (membership_of x.replica) x y
 led_between {R} {G} x y b works = record {
   moves = idly b.events;
   traced = subst (λ (ds : List TraceEvent). Traced (group (membership_of x.replica)) (membership_of x.replica).me (state_in x.replica) ds (state_in y.replica))
@@ -105,7 +105,7 @@ led_between {R} {G} x y b works = record {
   membership = ap (λ (z : Replica R G). membership_of z) b.replica;
 }
 
-received : {R : Type 0} {G : Ghosts R} (x y : Stand G) (bytes : Bytes) (out : List Datagram) (r : Result Received NodeFault) →
+received : {R : Type 0} {G : Ghosts R} (x y : LoopState G) (bytes : Bytes) (out : List Datagram) (r : Result Received NodeFault) →
     has_failed x.replica ≡ false → G.is_honest (records_of y.replica) → Receives x.replica y.replica bytes [] out r → fault_of r ≡ None →
     IsHeard x (Some bytes) →
     y.traffic ≡ x.traffic ++ (Gave bytes ∷ hands (handed_over out)) →
@@ -135,7 +135,7 @@ received {R} {G} x y bytes out r works honest (inr (inr handled)) none heard wen
     (subst (λ (o : Option NodeFault). Call x.replica y.replica (Comes handled.sender handled.message) [] out o) none handled.call) went
     kept requests hears
 
-acted : {R : Type 0} {G : Ghosts R} (x y : Stand G) (came : Option Bytes) (out : List Datagram) → has_failed x.replica ≡ false →
+acted : {R : Type 0} {G : Ghosts R} (x y : LoopState G) (came : Option Bytes) (out : List Datagram) → has_failed x.replica ≡ false →
     G.is_honest (records_of y.replica) → Acts x.replica y.replica came out None → IsHeard x came →
     y.traffic ≡ x.traffic ++ (gives came ++ hands (handed_over out)) → AreAmong y.kept (x.kept ++ handed_over out) →
     AreAmong y.requests (x.requests ++ came_in came) → y.hears_asks ≡ x.hears_asks → Led (membership_of x.replica) x y
@@ -148,7 +148,7 @@ sent_all : (ms ns : List Move) → sent_by (trace_of (ms ++ ns)) ≡ sent_by (tr
 sent_all ms ns = ap sent_by (trace_then ms ns) ∙ sent_then (trace_of ms) (trace_of ns)
 
 -- one behind the other
-pub led_then : {R : Type 0} {G : Ghosts R} (m : Membership) (x y z : Stand G) → Led m x y → Led (membership_of y.replica) y z → Led m x z
+pub led_then : {R : Type 0} {G : Ghosts R} (m : Membership) (x y z : LoopState G) → Led m x y → Led (membership_of y.replica) y z → Led m x z
 led_then {R} {G} m x y z a b =
     let traced : Traced (group m) m.me (state_in y.replica) (trace_of b.moves) (state_in z.replica) =
     subst (λ (n : Membership). Traced (group n) n.me (state_in y.replica) (trace_of b.moves) (state_in z.replica)) a.membership b.traced in
@@ -184,24 +184,24 @@ acted_before {R} {G} x y (Some bytes) out a (r, inr (inl passed), is) =
     subst (λ (z : Replica R G). G.is_honest (records_of z) → G.is_honest (records_of x)) (sym passed.still) (λ h. h)
 acted_before x y (Some bytes) out a (r, inr (inr handled), is) = handled.call.was
 
-turns_before : {R : Type 0} {G : Ghosts R} (n : ℕ) (x y : Stand G) → Turns n x y → G.is_honest (records_of y.replica) →
+turns_before : {R : Type 0} {G : Ghosts R} (n : ℕ) (x y : LoopState G) → Turns n x y → G.is_honest (records_of y.replica) →
     G.is_honest (records_of x.replica)
 turns_before {R} {G} zero x y b honest = subst (λ (z : Replica R G). G.is_honest (records_of z)) b.replica honest
 turns_before {R} {G} (suc n) x y (v, w, turns, turn, b) honest =
     turns_before n x v turns (acted_before v.replica w.replica turn.0.came turn.0.out None turn.0.acts
     (subst (λ (z : Replica R G). G.is_honest (records_of z)) b.replica honest))
 
-ends_before : {R : Type 0} {G : Ghosts R} (x y : Stand G) (a : Option NodeFault) → Ends x y a → G.is_honest (records_of y.replica) →
+ends_before : {R : Type 0} {G : Ghosts R} (x y : LoopState G) (a : Option NodeFault) → Ends x y a → G.is_honest (records_of y.replica) →
     G.is_honest (records_of x.replica)
 ends_before {R} {G} x y None same honest = subst (λ (z : Replica R G). G.is_honest (records_of z)) same.replica honest
 ends_before x y (Some e) turn honest = acted_before x.replica y.replica turn.0.came turn.0.out (Some e) turn.0.acts honest
 
 -- a record that is honest after turns was honest before them
-pub served_before : {R : Type 0} {G : Ghosts R} (x y : Stand G) (a : Option NodeFault) → Served x y a → G.is_honest (records_of y.replica) →
+pub served_before : {R : Type 0} {G : Ghosts R} (x y : LoopState G) (a : Option NodeFault) → Served x y a → G.is_honest (records_of y.replica) →
     G.is_honest (records_of x.replica)
 served_before x y a s honest = turns_before s.turns x s.then s.made (ends_before s.then y a s.last honest)
 
-turns_led : {R : Type 0} {G : Ghosts R} (n : ℕ) (x y : Stand G) → Turns n x y → has_failed x.replica ≡ false →
+turns_led : {R : Type 0} {G : Ghosts R} (n : ℕ) (x y : LoopState G) → Turns n x y → has_failed x.replica ≡ false →
     G.is_honest (records_of y.replica) → Led (membership_of x.replica) x y
 turns_led zero x y b works honest = led_between x y b works
 turns_led {R} {G} (suc n) x y (v, w, turns, turn, b) works honest =
@@ -212,7 +212,7 @@ turns_led {R} {G} (suc n) x y (v, w, turns, turn, b) works honest =
     led_then (membership_of x.replica) x w y c (led_between w y b c.works)
 
 -- turns without a fault
-pub served_led : {R : Type 0} {G : Ghosts R} (x y : Stand G) → Served x y None → has_failed x.replica ≡ false →
+pub served_led : {R : Type 0} {G : Ghosts R} (x y : LoopState G) → Served x y None → has_failed x.replica ≡ false →
     G.is_honest (records_of y.replica) → Led (membership_of x.replica) x y
 served_led {R} {G} x y s works honest =
     let a = turns_led s.turns x s.then s.made works (subst (λ (z : Replica R G). G.is_honest (records_of z)) s.last.replica honest) in
@@ -221,7 +221,7 @@ served_led {R} {G} x y s works honest =
 -- ---- the last turn
 
 -- What a last call that failed leaves. It came from w, which worked.
-pub record Ended {R : Type 0} {G : Ghosts R} (w z : Stand G) (e : NodeFault) : Type 0 where
+pub record Ended {R : Type 0} {G : Ghosts R} (w z : LoopState G) (e : NodeFault) : Type 0 where
   pub last : List WireEvent
   pub went : z.traffic ≡ w.traffic ++ last
   pub again : AreAmong (handed_in last) w.kept
@@ -254,7 +254,7 @@ went_silent old new came out none went =
     ∙ ap (λ (es : List WireEvent). old ++ es) (append-nil (gives came))
 
 -- the call that failed, for which this came
-unfoldable pub failed_call : {R : Type 0} {G : Ghosts R} (w z : Stand G) (i : Input Bytes) (came : Option Bytes) (out : List Datagram) (e : NodeFault) →
+unfoldable pub failed_call : {R : Type 0} {G : Ghosts R} (w z : LoopState G) (i : Input Bytes) (came : Option Bytes) (out : List Datagram) (e : NodeFault) →
     has_failed w.replica ≡ false → G.is_honest (records_of z.replica) →
     IsInput (group (membership_of w.replica)) (membership_of w.replica).me i →
     AreBrought (group (membership_of w.replica)) (membership_of w.replica).me (came_in came) (message_in i) →
@@ -277,7 +277,7 @@ failed_call {R} {G} w z i came out e works honest input brought call went kept r
   membership = call.membership;
 }
 
-failed_turn : {R : Type 0} {G : Ghosts R} (w z : Stand G) (came : Option Bytes) (out : List Datagram) (e : NodeFault) →
+failed_turn : {R : Type 0} {G : Ghosts R} (w z : LoopState G) (came : Option Bytes) (out : List Datagram) (e : NodeFault) →
     has_failed w.replica ≡ false → G.is_honest (records_of z.replica) → Acts w.replica z.replica came out (Some e) →
     z.traffic ≡ w.traffic ++ (gives came ++ hands (handed_over out)) → AreAmong z.kept (w.kept ++ handed_over out) →
     AreAmong z.requests (w.requests ++ came_in came) → z.hears_asks ≡ w.hears_asks → Ended w z e
@@ -294,8 +294,8 @@ failed_turn w z (Some bytes) out e works honest (r, inr (inr handled), is) went 
     kept requests hears
 
 -- turns that end with a fault: those without, and the last one
-pub served_ended : {R : Type 0} {G : Ghosts R} (x z : Stand G) (e : NodeFault) → Served x z (Some e) → has_failed x.replica ≡ false →
-    G.is_honest (records_of z.replica) → (w : Stand G) × Led (membership_of x.replica) x w × Ended w z e
+pub served_ended : {R : Type 0} {G : Ghosts R} (x z : LoopState G) (e : NodeFault) → Served x z (Some e) → has_failed x.replica ≡ false →
+    G.is_honest (records_of z.replica) → (w : LoopState G) × Led (membership_of x.replica) x w × Ended w z e
 served_ended x z e s works honest =
     let t = s.last.0 in
     let l = turns_led s.turns x s.then s.made works (acted_before s.then.replica z.replica t.came t.out (Some e) t.acts honest) in
@@ -304,7 +304,7 @@ served_ended x z e s works honest =
 -- ---- a member that has failed
 
 -- It does nothing and sends nothing but again what is kept; what its wire gave is lost.
-pub record Lost {R : Type 0} {G : Ghosts R} (y z : Stand G) : Type 0 where
+pub record Lost {R : Type 0} {G : Ghosts R} (y z : LoopState G) : Type 0 where
   pub replica : z.replica ≡ y.replica
   pub lost : List WireEvent
   pub went : z.traffic ≡ y.traffic ++ lost
@@ -314,7 +314,7 @@ pub record Lost {R : Type 0} {G : Ghosts R} (y z : Stand G) : Type 0 where
   pub hears : z.hears_asks ≡ y.hears_asks
 
 -- what is handed over where nothing but what is idle is done
-pub idle_handed : {R : Type 0} {G : Ghosts R} (x : Stand G) (es : List WireEvent) → ((e : WireEvent) → Among es e → IsIdle x e) →
+pub idle_handed : {R : Type 0} {G : Ghosts R} (x : LoopState G) (es : List WireEvent) → ((e : WireEvent) → Among es e → IsIdle x e) →
     AreAmong (handed_in es) x.kept
 idle_handed x [] i = among_none x.kept
 idle_handed x (Gave b ∷ es) i = idle_handed x es (λ e m. i e (inr m))
@@ -324,7 +324,7 @@ idle_handed x (Handed to b ∷ es) i =
       | inr later ↦ idle_handed x es (λ e n. i e (inr n)) d later
     ]
 
-unfoldable pub between_lost : {R : Type 0} {G : Ghosts R} (y z : Stand G) → Between y z → Lost y z
+unfoldable pub between_lost : {R : Type 0} {G : Ghosts R} (y z : LoopState G) → Between y z → Lost y z
 between_lost y z b = record {
   replica = b.replica;
   lost = b.events;
@@ -348,7 +348,7 @@ given_both olds mids news es fs a b =
     subst (λ (bs : List Bytes). AreAmong news (olds ++ bs)) (sym (given_append es fs))
     (among_chain olds mids news (given_in es) (given_in fs) a b)
 
-lost_then : {R : Type 0} {G : Ghosts R} (x y z : Stand G) → Lost x y → Lost y z → Lost x z
+lost_then : {R : Type 0} {G : Ghosts R} (x y z : LoopState G) → Lost x y → Lost y z → Lost x z
 lost_then x y z a b = record {
   replica = b.replica ∙ a.replica;
   lost = a.lost ++ b.lost;
@@ -370,19 +370,19 @@ no_turn x y (Some bytes) out broken (r, inl lost, is) = none_failed fault.Failed
 no_turn x y (Some bytes) out broken (r, inr (inl passed), is) = absurd (let h : true ≡ false = sym broken ∙ passed.works in cc)
 no_turn x y (Some bytes) out broken (r, inr (inr handled), is) = absurd (let h : true ≡ false = sym broken ∙ handled.works in cc)
 
-broken_turns : {R : Type 0} {G : Ghosts R} (n : ℕ) (x y : Stand G) → has_failed x.replica ≡ true → Turns n x y → Between x y
+broken_turns : {R : Type 0} {G : Ghosts R} (n : ℕ) (x y : LoopState G) → has_failed x.replica ≡ true → Turns n x y → Between x y
 broken_turns zero x y broken b = b
 broken_turns {R} {G} (suc n) x y broken (v, w, turns, turn, b) =
     let c = broken_turns n x v broken turns in
     absurd (no_turn v.replica w.replica turn.0.came turn.0.out (ap (λ (z : Replica R G). has_failed z) c.replica ∙ broken) turn.0.acts)
 
-still_kept : {R : Type 0} {G : Ghosts R} (x y : Stand G) (out : List Datagram) → out ≡ [] → AreAmong y.kept (x.kept ++ handed_over out) →
+still_kept : {R : Type 0} {G : Ghosts R} (x y : LoopState G) (out : List Datagram) → out ≡ [] → AreAmong y.kept (x.kept ++ handed_over out) →
     AreAmong y.kept x.kept
 still_kept x y out none kept =
     among_then y.kept (x.kept ++ []) x.kept (subst (λ (ds : List Datagram). AreAmong y.kept (x.kept ++ handed_over ds)) none kept)
     (among_is (x.kept ++ []) x.kept (append-nil x.kept))
 
-broken_turn : {R : Type 0} {G : Ghosts R} (x y : Stand G) (came : Option Bytes) (out : List Datagram) (e : NodeFault) →
+broken_turn : {R : Type 0} {G : Ghosts R} (x y : LoopState G) (came : Option Bytes) (out : List Datagram) (e : NodeFault) →
     has_failed x.replica ≡ true → Acts x.replica y.replica came out (Some e) →
     y.traffic ≡ x.traffic ++ (gives came ++ hands (handed_over out)) → AreAmong y.kept (x.kept ++ handed_over out) →
     AreAmong y.requests (x.requests ++ came_in came) → y.hears_asks ≡ x.hears_asks → Lost x y
@@ -410,7 +410,7 @@ broken_turn x y (Some bytes) out e broken (r, inr (inr handled), is) went kept r
     absurd (let h : true ≡ false = sym broken ∙ handled.works in cc)
 
 -- turns that it makes, with whatever end
-pub broken_served : {R : Type 0} {G : Ghosts R} (x z : Stand G) (a : Option NodeFault) → has_failed x.replica ≡ true → Served x z a → Lost x z
+pub broken_served : {R : Type 0} {G : Ghosts R} (x z : LoopState G) (a : Option NodeFault) → has_failed x.replica ≡ true → Served x z a → Lost x z
 broken_served x z None broken s =
     lost_then x s.then z (between_lost x s.then (broken_turns s.turns x s.then broken s.made)) (between_lost s.then z s.last)
 broken_served {R} {G} x z (Some e) broken s =
@@ -419,11 +419,11 @@ broken_served {R} {G} x z (Some e) broken s =
     lost_then x s.then z (between_lost x s.then b)
     (broken_turn s.then z t.came t.out e (ap (λ (y : Replica R G). has_failed y) b.replica ∙ broken) t.acts t.went t.kept t.requests t.hears)
 
-pub broken_between : {R : Type 0} {G : Ghosts R} (x z : Stand G) → has_failed x.replica ≡ true → Served x z None → Between x z
+pub broken_between : {R : Type 0} {G : Ghosts R} (x z : LoopState G) → has_failed x.replica ≡ true → Served x z None → Between x z
 broken_between x z broken s = between_then x s.then z (broken_turns s.turns x s.then broken s.made) s.last
 
 -- a call that failed, and what was lost after it
-unfoldable pub ended_more : {R : Type 0} {G : Ghosts R} (w y z : Stand G) (e : NodeFault) → Ended w y e → Lost y z → Ended w z e
+unfoldable pub ended_more : {R : Type 0} {G : Ghosts R} (w y z : LoopState G) (e : NodeFault) → Ended w y e → Lost y z → Ended w z e
 ended_more {R} {G} w y z e d l =
     let m = membership_of w.replica in record {
       last = d.last ++ l.lost;
@@ -447,7 +447,7 @@ ended_more {R} {G} w y z e d l =
 module _ {R : Type 0} (G : Ghosts R)
     (settled : (r : R) → G.is_honest r → G.failed r ≡ 0 → (d : Record Bytes) → G.may_leave r d → d ≡ G.stored r) where
   -- calls without a fault alone
-  pub led_has_trace : (x z : Stand G) → G.is_honest (records_of z.replica) → Led (membership_of x.replica) x z → HasTrace x z None
+  pub led_has_trace : (x z : LoopState G) → G.is_honest (records_of z.replica) → Led (membership_of x.replica) x z → HasTrace x z None
   led_has_trace x z honest l = record {
     moves = l.moves;
     then = state_in z.replica;
@@ -468,7 +468,7 @@ module _ {R : Type 0} (G : Ghosts R)
   }
 
   -- and then the call that failed, whichever fault is reported in the end
-  pub ended_has_trace : (x w z : Stand G) (e : NodeFault) (a : Option NodeFault) → Led (membership_of x.replica) x w →
+  pub ended_has_trace : (x w z : LoopState G) (e : NodeFault) (a : Option NodeFault) → Led (membership_of x.replica) x w →
       (d : Ended w z e) → (a ≡ None → d.last ≡ []) → HasTrace x z a
   ended_has_trace x w z e a l d whole = record {
     moves = l.moves;
@@ -490,7 +490,7 @@ module _ {R : Type 0} (G : Ghosts R)
     membership = d.membership ∙ l.membership;
   }
 
-  ended : (x w z : Stand G) (a : Option NodeFault) (n : ℕ) → G.is_honest (records_of z.replica) → has_failed x.replica ≡ false →
+  ended : (x w z : LoopState G) (a : Option NodeFault) (n : ℕ) → G.is_honest (records_of z.replica) → has_failed x.replica ≡ false →
       Turns n x w → Ends w z a → HasTrace x z a × (a ≢ Some fault.Store → G.failed (records_of z.replica) ≡ 0)
   ended x w z None n honest works turns same =
       let honest' = subst (λ (y : Replica R G). G.is_honest (records_of y)) same.replica honest in

@@ -20,7 +20,7 @@ use Rattle.px_replica.specs.declared.fault.NodeFault.TheVariants as fault
 use Rattle.node_loop.specs.Again.{AreAmong}
 use Rattle.node_loop.specs.Hosting.{Hosted}
 use Rattle.node_loop.specs.Resending.{IsPassedOver, came_in}
-use Rattle.node_loop.specs.Turns.{Stand, Served, handed_over}
+use Rattle.node_loop.specs.Turns.{LoopState, Served, handed_over}
 
 -- ---- what comes
 
@@ -126,7 +126,7 @@ LeavesThere g me gave s left =
 -- Its moves are what went over its wire: each message that it received was given in its place, and what each step sends
 -- was handed over after it, each datagram once, in order. And then, where a call failed, what came for that call and
 -- after it, and what was handed over again.
-pub record HasTrace {R : Type 0} {G : Ghosts R} (x z : Stand G) (answered : Option NodeFault) : Type 0 where
+pub record HasTrace {R : Type 0} {G : Ghosts R} (x z : LoopState G) (answered : Option NodeFault) : Type 0 where
   pub moves : List Move
   pub then : NodeState Bytes
   pub traced : Traced (group (membership_of x.replica)) (membership_of x.replica).me (state_in x.replica)
@@ -154,12 +154,12 @@ pub record HasTrace {R : Type 0} {G : Ghosts R} (x z : Stand G) (answered : Opti
 -- and no call on its record failed, unless they end with a fault of the store.
 abbrev pub TurnsAreTraces : {R : Type 0} → Ghosts R → Type 0
 TurnsAreTraces G =
-    (x z : Stand G) (answered : Option NodeFault) → G.is_honest (records_of z.replica) →
+    (x z : LoopState G) (answered : Option NodeFault) → G.is_honest (records_of z.replica) →
     has_failed x.replica ≡ false → Served x z answered →
     HasTrace x z answered × (answered ≢ Some fault.Store → G.failed (records_of z.replica) ≡ 0)
 
 -- The same of turns with commands asked between them.
 abbrev pub HostingsAreTraces : {R : Type 0} → Ghosts R → Type 0
 HostingsAreTraces G =
-    (x z : Stand G) (answered : Option NodeFault) → G.is_honest (records_of z.replica) →
+    (x z : LoopState G) (answered : Option NodeFault) → G.is_honest (records_of z.replica) →
     has_failed x.replica ≡ false → Hosted x z answered → HasTrace x z answered

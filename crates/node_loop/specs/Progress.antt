@@ -11,7 +11,7 @@ use Rattle.px_wire.specs.declared.kind.Kind.{Kind}
 use Rattle.px_wire.specs.declared.kind.Kind.TheVariants as kinds
 use Rattle.px_replica.specs.Replicas.{membership_of, IsUnspelled}
 use Rattle.px_replica.specs.declared.state.Replica.{Replica}
-use Rattle.node_loop.specs.Turns.{Stand, IsHeard, Took, Passed, Same}
+use Rattle.node_loop.specs.Turns.{LoopState, IsHeard, Took, Passed, Same}
 use Rattle.node_loop.specs.declared.turn_buffers.TurnBuffers.{TurnBuffers}
 use Rattle.node_loop.specs.declared.counts.RoundCounts.{RoundCounts}
 use Rattle.node_loop.specs.declared.peer_progress.PeerProgress.{PeerProgress}
@@ -120,7 +120,7 @@ looked s = record { reached = s.reached; has_learned = false; accepting = 0; lac
 
 -- A datagram was taken. Where it is nobody's, the member is as it was, and nothing more is seen; else what its message
 -- shows.
-pub record Saw {R : Type 0} {G : Ghosts R} (x y : Stand G) (s t : PeerProgress) : Type 0 where
+pub record Saw {R : Type 0} {G : Ghosts R} (x y : LoopState G) (s t : PeerProgress) : Type 0 where
   pub took : Took x y None
   pub still : IsNobodys x.replica took.bytes → y.replica ≡ x.replica
   pub unseen : IsNobodys x.replica took.bytes → t ≡ s
@@ -129,10 +129,10 @@ pub record Saw {R : Type 0} {G : Ghosts R} (x y : Stand G) (s t : PeerProgress) 
   pub members : IsHeard x (Some took.bytes)
 
 -- a datagram was taken, or passed over, of which nothing is seen
-abbrev pub SawOne : {R : Type 0} {G : Ghosts R} → (x y : Stand G) → (s t : PeerProgress) → Type 0
+abbrev pub SawOne : {R : Type 0} {G : Ghosts R} → (x y : LoopState G) → (s t : PeerProgress) → Type 0
 SawOne x y s t = Saw x y s t ⊎ (Passed x y × (t ≡ s))
 
 -- n datagrams were taken or passed over, one after the other
-abbrev pub SawAll : {R : Type 0} {G : Ghosts R} → (datagrams : ℕ) → (x y : Stand G) → (s t : PeerProgress) → Type 0
+abbrev pub SawAll : {R : Type 0} {G : Ghosts R} → (datagrams : ℕ) → (x y : LoopState G) → (s t : PeerProgress) → Type 0
 SawAll zero x y s t = Same x y × (t ≡ s)
-SawAll {G = G} (suc n) x z s u = (y : Stand G) × (t : PeerProgress) × SawAll n x y s t × SawOne y z t u
+SawAll {G = G} (suc n) x z s u = (y : LoopState G) × (t : PeerProgress) × SawAll n x y s t × SawOne y z t u

@@ -20,7 +20,7 @@ me_of r = r.me
 abbrev pub members_of : Resender → ℕ
 members_of r = r.members
 
--- the time that it was told last
+-- the time that it was given last
 abbrev pub time_of : Resender → ℕ
 time_of r = r.now
 

@@ -16,7 +16,7 @@ use Rattle.px_replica.specs.declared.fault.NodeFault.{NodeFault}
 use Rattle.px_replica.specs.declared.fault.NodeFault.TheVariants as fault
 use Rattle.pf_node.specs.Nodes.{replica_of, records_of, learned_by, membership_of, has_failed, state_in, applied_of}
 use Rattle.pf_node.specs.declared.state.Node.{Node}
-use Rattle.node_loop.specs.Turns.{Stand, Served}
+use Rattle.node_loop.specs.Turns.{LoopState, Served}
 use Rattle.node_loop.specs.Hosting.{Hosted}
 use Rattle.node_loop.specs.Moves.{message_in, AllFromMembers, AreBrought, sent_by, LeavesThere}
 use Rattle.node_loop.specs.Moves.{Move, trace_of, events_of, AreMoves}
@@ -37,8 +37,8 @@ abbrev pub new_buffers : (hears_asks : Bool) → Buffers
 new_buffers hears = record { kept = []; requests = []; hears_asks = hears }
 
 -- a node with what went over its wire, and its buffers
-abbrev pub stands : {R : Type 0} {G : Ghosts R} → Node R G → (traffic : List WireEvent) → Buffers → Stand G
-stands n traffic b = record {
+abbrev pub run_state : {R : Type 0} {G : Ghosts R} → Node R G → (traffic : List WireEvent) → Buffers → LoopState G
+run_state n traffic b = record {
   replica = replica_of n;
   traffic = traffic;
   kept = b.kept;
@@ -48,9 +48,9 @@ stands n traffic b = record {
 
 -- The end of turns after which n positions are learned without a gap and this many are applied: these two numbers, or
 -- the fault. Where there is no wire, or it is out of memory before the first turn, none is made.
-abbrev pub Tells : (front applied : ℕ) → (answered : Option NodeFault) → Ended → Type 0
-Tells n applied None ended = (ended ≡ Front n applied) ⊎ ((ended ≡ NoWire) ⊎ (ended ≡ Fault fault.Memory))
-Tells n applied (Some e) ended = ended ≡ Fault e
+abbrev pub Reports : (front applied : ℕ) → (answered : Option NodeFault) → Ended → Type 0
+Reports n applied None ended = (ended ≡ Front n applied) ⊎ ((ended ≡ NoWire) ⊎ (ended ≡ Fault fault.Memory))
+Reports n applied (Some e) ended = ended ≡ Fault e
 
 -- this holds where all turns were made
 abbrev pub OnFront : Ended → (holds : Type 0) → Type 0
@@ -67,15 +67,15 @@ pub record Serves {R : Type 0} {G : Ghosts R} (s t : Node R G) (w v : List WireE
   pub answered : Option NodeFault
   pub hears : Bool
   pub buffers : Buffers
-  pub served : Served (stands s w (new_buffers hears)) (stands t v buffers) answered
-  pub reported : Tells (front (learned_by t)) (applied_of t) answered ended
+  pub served : Served (run_state s w (new_buffers hears)) (run_state t v buffers) answered
+  pub reported : Reports (front (learned_by t)) (applied_of t) answered ended
 
 -- The same where commands are asked between turns, as at a control socket, and the end too. If that socket or its port
 -- is missing, no turn is made.
-abbrev pub HostTells : (front applied : ℕ) → (answered : Option NodeFault) → Ended → Type 0
-HostTells n applied None ended =
-    Tells n applied None ended ⊎ ((ended ≡ Stopped n applied) ⊎ ((ended ≡ NoControlSocket) ⊎ (ended ≡ NoPort)))
-HostTells n applied (Some e) ended = Tells n applied (Some e) ended
+abbrev pub HostReports : (front applied : ℕ) → (answered : Option NodeFault) → Ended → Type 0
+HostReports n applied None ended =
+    Reports n applied None ended ⊎ ((ended ≡ Stopped n applied) ⊎ ((ended ≡ NoControlSocket) ⊎ (ended ≡ NoPort)))
+HostReports n applied (Some e) ended = Reports n applied (Some e) ended
 
 -- turns of the node, and commands asked of it between them, led from one to the other, and these went over its wire;
 -- asks from outside were heard or weren't
@@ -83,8 +83,8 @@ pub record Hosts {R : Type 0} {G : Ghosts R} (s t : Node R G) (w v : List WireEv
     Type 0 where
   pub answered : Option NodeFault
   pub buffers : Buffers
-  pub hosted : Hosted (stands s w (new_buffers hears)) (stands t v buffers) answered
-  pub reported : HostTells (front (learned_by t)) (applied_of t) answered ended
+  pub hosted : Hosted (run_state s w (new_buffers hears)) (run_state t v buffers) answered
+  pub reported : HostReports (front (learned_by t)) (applied_of t) answered ended
 
 -- A record is opened, the node goes on in some way, and the record is given back.
 pub record OneRun {R : Type 0} (G : Ghosts R) (How : (s t : Node R G) → Type 0) (m : Membership) (given back : R) :

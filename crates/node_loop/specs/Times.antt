@@ -18,9 +18,9 @@ between (Some start) (Some now) = min ((instant_nanos now - instant_nanos start)
 -- the times at which a timer was given what is seen, in order
 abbrev pub times_in : List TimerEvent → List ℕ
 times_in [] = []
-times_in (TimerEvent.Looks now view ∷ ts) = now ∷ times_in ts
+times_in (TimerEvent.Looks now view tick ∷ ts) = now ∷ times_in ts
 times_in (TimerEvent.Sends now ∷ ts) = times_in ts
-times_in (TimerEvent.Repeats now ∷ ts) = times_in ts
+times_in (TimerEvent.Repeats now is_due ∷ ts) = times_in ts
 times_in (TimerEvent.Ends ∷ ts) = times_in ts
 
 -- it was given what is seen at these times

@@ -8,7 +8,7 @@ use Rattle.px_transport.specs.Wires.{Adds}
 use Rattle.px_replica.specs.Replicas.{learned_by, state_in}
 use Rattle.px_replica.specs.declared.state.Replica.{Replica}
 use Rattle.node_loop.specs.Progress.{SawAll, looked}
-use Rattle.node_loop.specs.Turns.{Stand}
+use Rattle.node_loop.specs.Turns.{LoopState, Resent, TickedIf}
 use Rattle.node_loop.specs.declared.peer_progress.PeerProgress.{PeerProgress}
 use Rattle.node_loop.specs.declared.timer.Action.{Action}
 use Rattle.node_loop.specs.declared.timer.Action.TheVariants as actions
@@ -19,14 +19,19 @@ abbrev pub IsShort : Action → Type 0
 IsShort actions.Tick = Unit {0}
 IsShort (actions.Wait milliseconds) = (1 ≤ milliseconds) × (milliseconds ≤ 100)
 
--- what a timer is given
+-- the clock is to tick
+abbrev pub is_tick : Action → Bool
+is_tick actions.Tick = true
+is_tick (actions.Wait milliseconds) = false
+
+-- what a timer is given, and what it answers
 pub data TimerEvent : Type 0 where
-  -- what is seen at this time, to decide whether the clock ticks
-  Looks : (now : ℕ) (view : View) → TimerEvent
+  -- what is seen at this time, and whether the clock is to tick, by its answer
+  Looks : (now : ℕ) (view : View) (is_tick : Bool) → TimerEvent
   -- votes were sent
   Sends : (now : ℕ) → TimerEvent
-  -- it is asked whether what was sent is sent again
-  Repeats : (now : ℕ) → TimerEvent
+  -- it is asked whether what was sent is to be sent again, with its answer
+  Repeats : (now : ℕ) (is_due : Bool) → TimerEvent
   -- the node accepts no more commands
   Ends : TimerEvent
 
@@ -47,28 +52,34 @@ sends_if true now = TimerEvent.Sends now ∷ []
 sends_if false now = []
 
 -- what it is given at a look: also that votes were sent, where they were for a position that isn't learned
-abbrev pub looks : (now : ℕ) → View → PeerProgress → List TimerEvent
-looks now v t = TimerEvent.Looks now v ∷ sends_if (nat_lt v.front t.accepting) now
+abbrev pub looks : (now : ℕ) → View → (is_tick : Bool) → PeerProgress → List TimerEvent
+looks now v tick t = TimerEvent.Looks now v tick ∷ sends_if (nat_lt v.front t.accepting) now
 
--- n datagrams were taken, one after the other; then the timer was given what they left to see, and nothing else; and
--- what was seen was looked at.
-pub record SawThenLooked {R : Type 0} {G : Ghosts R} (n now : ℕ) (x : Stand G) (s u : PeerProgress)
+-- A round: datagrams were taken or passed over, one after the other; then the timer was given what they left to see,
+-- and nothing else; something was sent again; and the clock ticked if the timer answered that, and only then.
+pub record MakesRound {R : Type 0} {G : Ghosts R} (now : ℕ) (x z : LoopState G) (s u : PeerProgress)
     (before after : List TimerEvent → Type 0) : Type 0 where
-  pub then : Stand G
+  pub datagrams : ℕ
+  pub then : LoopState G
   pub seen : PeerProgress
-  pub saw : SawAll n x then s seen
+  pub saw : SawAll datagrams x then s seen
   pub looked : u ≡ looked seen
-  pub timer_events : Adds before after (looks now (view_of then.replica (front (learned_by x.replica)) seen) seen ++
-      (TimerEvent.Repeats now ∷ []))
+  pub tick : Bool
+  pub repeats : Bool
+  pub timer_events : Adds before after (looks now (view_of then.replica (front (learned_by x.replica)) seen) tick seen ++
+      (TimerEvent.Repeats now repeats ∷ []))
+  pub next : LoopState G
+  pub again : Resent then next
+  pub ticked : TickedIf tick next z
 
 -- ---- how many rounds there were
 
 -- how often it was given what is seen
 abbrev pub looks_in : List TimerEvent → ℕ
 looks_in [] = 0
-looks_in (TimerEvent.Looks now view ∷ ts) = suc (looks_in ts)
+looks_in (TimerEvent.Looks now view tick ∷ ts) = suc (looks_in ts)
 looks_in (TimerEvent.Sends now ∷ ts) = looks_in ts
-looks_in (TimerEvent.Repeats now ∷ ts) = looks_in ts
+looks_in (TimerEvent.Repeats now is_due ∷ ts) = looks_in ts
 looks_in (TimerEvent.Ends ∷ ts) = looks_in ts
 
 -- it was given what is seen n times from one to the other

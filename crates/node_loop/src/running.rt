@@ -9,9 +9,9 @@ ghost use Rattle.pf_node.specs.Nodes.{applied_of, replica_of, state_in};
 ghost use Rattle.node_loop.specs.Counting.{CountsRound, CountsTickedIf};
 ghost use Rattle.node_loop.specs.Counts.{nothing_of};
 ghost use Rattle.node_loop.specs.Progress.{counts_in, looked, seen_in};
-ghost use Rattle.node_loop.specs.Timing.{IsShort, LooksTimes, SawThenLooked, WorksOff, looks, view_of};
+ghost use Rattle.node_loop.specs.Timing.{IsShort, LooksTimes, MakesRound, WorksOff, is_tick, looks, view_of};
 ghost use Rattle.node_loop.specs.Times.{IsTimed, LooksAt};
-ghost use Rattle.node_loop.specs.Turns.{Served, TickedIf, TookThenTicked, standing};
+ghost use Rattle.node_loop.specs.Turns.{Served, TickedIf, in_loop};
 
 use crate::peer_progress::PeerProgress;
 use crate::resender::Resender;
@@ -67,13 +67,13 @@ fn tick_if<R: Records, W: Wire>(
     has_own: bool,
 ) -> Result<Progress, NodeFault>
     ensures served { Moves (W.traffic wire.old) (W.traffic wire.new)
-        (λ es es'. Served (standing node.old es buffers.old) (standing node.new es' buffers.new) (fault_of result)) }
-    ensures ticked { OnOk result (Moves (W.traffic wire.old) (W.traffic wire.new) (λ es es'. (is_due : Bool) ×
-        TickedIf is_due (standing node.old es buffers.old) (standing node.new es' buffers.new))) }
+        (λ es es'. Served (in_loop node.old es buffers.old) (in_loop node.new es' buffers.new) (fault_of result)) }
+    ensures ticked { OnOk result (Moves (W.traffic wire.old) (W.traffic wire.new) (λ es es'.
+        TickedIf (is_tick action) (in_loop node.old es buffers.old) (in_loop node.new es' buffers.new))) }
     ensures few { IfOk result (λ made. made.turns ≤ handled + 1) }
     ensures unseen { seen_in buffers.new ≡ seen_in buffers.old }
-    ensures counts { OnOk result (Moves (W.traffic wire.old) (W.traffic wire.new) (λ es es'. (is_due : Bool) ×
-        CountsTickedIf is_due (standing node.old es buffers.old) (standing node.new es' buffers.new)
+    ensures counts { OnOk result (Moves (W.traffic wire.old) (W.traffic wire.new) (λ es es'.
+        CountsTickedIf (is_tick action) (in_loop node.old es buffers.old) (in_loop node.new es' buffers.new)
         (counts_in buffers.old) (counts_in buffers.new))) }
     ensures wait { IsShort action → IfOk result (λ p. p.wait ≤ 100) }
     ensures grows { applied_of node.old ≤ applied_of node.new }
@@ -102,7 +102,7 @@ fn tick_if<R: Records, W: Wire>(
 fn action<T: Timer>(timer: &mut T, peer_progress: &mut PeerProgress, now: u64, view: View) -> Action
     ensures looked { peer_progress.new ≡ looked peer_progress.old }
     ensures timer_events { Adds (T.timer_events timer.old) (T.timer_events timer.new)
-        (looks now view peer_progress.old) }
+        (looks now view (is_tick result) peer_progress.old) }
     ensures short { IsShort result }
 {
     let action = timer.action(now, view);
@@ -211,15 +211,13 @@ pub fn round<R: Records, W: Wire, T: Timer>(
     now: u64,
 ) -> Result<Progress, NodeFault>
     ensures served { Moves (W.traffic wire.old) (W.traffic wire.new)
-        (λ es es'. Served (standing node.old es buffers.old) (standing node.new es' buffers.new) (fault_of result)) }
-    ensures took { OnOk result (Moves (W.traffic wire.old) (W.traffic wire.new) (λ es es'. (n : ℕ) × (is_due : Bool) ×
-        TookThenTicked n is_due (standing node.old es buffers.old) (standing node.new es' buffers.new))) }
-    ensures saw { OnOk result ((es : List WireEvent) → W.traffic wire.old es → (n : ℕ) × SawThenLooked n now
-        (standing node.old es buffers.old) (seen_in buffers.old) (seen_in buffers.new) (T.timer_events timer.old)
-        (T.timer_events timer.new)) }
+        (λ es es'. Served (in_loop node.old es buffers.old) (in_loop node.new es' buffers.new) (fault_of result)) }
+    ensures made { OnOk result (Moves (W.traffic wire.old) (W.traffic wire.new) (λ es es'. MakesRound now
+        (in_loop node.old es buffers.old) (in_loop node.new es' buffers.new) (seen_in buffers.old) (seen_in buffers.new)
+        (T.timer_events timer.old) (T.timer_events timer.new))) }
     ensures counts { OnOk result (Moves (W.traffic wire.old) (W.traffic wire.new)
-        (λ es es'. CountsRound (counts_in buffers.old).me (standing node.old es buffers.old)
-        (standing node.new es' buffers.new)
+        (λ es es'. CountsRound (counts_in buffers.old).me (in_loop node.old es buffers.old)
+        (in_loop node.new es' buffers.new)
         (counts_in buffers.new))) }
     ensures few { IfOk result (λ made. made.turns ≤ 65) }
     ensures looks { OnOk result (LooksTimes 1 (T.timer_events timer.old) (T.timer_events timer.new)) }
@@ -255,7 +253,7 @@ pub fn finish<R: Records, W: Wire, T: Timer, S: Stopwatch>(
     start: Option<Instant>,
 ) -> Result<(), NodeFault>
     ensures served { Moves (W.traffic wire.old) (W.traffic wire.new)
-        (λ es es'. Served (standing node.old es buffers.old) (standing node.new es' buffers.new) (fault_of result)) }
+        (λ es es'. Served (in_loop node.old es buffers.old) (in_loop node.new es' buffers.new) (fault_of result)) }
     ensures grows { applied_of node.old ≤ applied_of node.new }
     ensures worked { OnOk result (WorksOff (length (state_in node.new).volatile.waiting)
         (T.timer_events timer.old) (T.timer_events timer.new)) }

@@ -13,7 +13,7 @@ ghost use Rattle.node_loop.specs.Counting.{CountsAll, CountsTicked};
 ghost use Rattle.node_loop.specs.Counts.{PassedOver};
 ghost use Rattle.node_loop.specs.Resends.{kept_of, requests_of};
 ghost use Rattle.node_loop.specs.Progress.{IsFrom, counts_in, heads_in, IsNobodys, SawAll, seen_in, shown_by};
-ghost use Rattle.node_loop.specs.Turns.{Acts, Ticked, Served, standing};
+ghost use Rattle.node_loop.specs.Turns.{Acts, Ticked, Served, in_loop};
 ghost use Rattle.node_loop.specs.Resending.{IsKnown};
 ghost use Rattle.node_loop.specs.inner.Turns.{CountsIf, SawIf};
 
@@ -65,10 +65,10 @@ pub fn tick_now<R: Records, W: Wire>(
     buffers: &mut TurnBuffers,
 ) -> Result<(), NodeFault>
     ensures ticked { Moves (W.traffic wire.old) (W.traffic wire.new)
-        (λ es es'. Ticked (standing node.old es buffers.old) (standing node.new es' buffers.new) (fault_of result)) }
+        (λ es es'. Ticked (in_loop node.old es buffers.old) (in_loop node.new es' buffers.new) (fault_of result)) }
     ensures unseen { seen_in buffers.new ≡ seen_in buffers.old }
     ensures counts { Moves (W.traffic wire.old) (W.traffic wire.new)
-        (λ es es'. CountsTicked (standing node.old es buffers.old) (standing node.new es' buffers.new) (fault_of result)
+        (λ es es'. CountsTicked (in_loop node.old es buffers.old) (in_loop node.new es' buffers.new) (fault_of result)
         (counts_in buffers.old) (counts_in buffers.new)) }
     ensures grows { applied_of node.old ≤ applied_of node.new }
     ensures same { W.identity wire.new ≡ W.identity wire.old }
@@ -195,12 +195,12 @@ fn take_one<R: Records, W: Wire>(
     buffers: &mut TurnBuffers,
 ) -> Result<bool, NodeFault>
     ensures served { Moves (W.traffic wire.old) (W.traffic wire.new)
-        (λ es es'. Served (standing node.old es buffers.old) (standing node.new es' buffers.new) (fault_of result)) }
+        (λ es es'. Served (in_loop node.old es buffers.old) (in_loop node.new es' buffers.new) (fault_of result)) }
     ensures saw { IfOk result (λ had. Moves (W.traffic wire.old) (W.traffic wire.new) (λ es es'. SawIf had
-        (standing node.old es buffers.old) (standing node.new es' buffers.new) (seen_in buffers.old)
+        (in_loop node.old es buffers.old) (in_loop node.new es' buffers.new) (seen_in buffers.old)
         (seen_in buffers.new))) }
     ensures counts { IfOk result (λ had. Moves (W.traffic wire.old) (W.traffic wire.new) (λ es es'. CountsIf had
-        (standing node.old es buffers.old) (standing node.new es' buffers.new) (counts_in buffers.old)
+        (in_loop node.old es buffers.old) (in_loop node.new es' buffers.new) (counts_in buffers.old)
         (counts_in buffers.new))) }
     ensures grows { applied_of node.old ≤ applied_of node.new }
     ensures same { W.identity wire.new ≡ W.identity wire.old }
@@ -249,12 +249,12 @@ pub(crate) fn drain<R: Records, W: Wire>(
     most: u32,
 ) -> Result<u32, NodeFault>
     ensures served { Moves (W.traffic wire.old) (W.traffic wire.new)
-        (λ es es'. Served (standing node.old es buffers.old) (standing node.new es' buffers.new) (fault_of result)) }
+        (λ es es'. Served (in_loop node.old es buffers.old) (in_loop node.new es' buffers.new) (fault_of result)) }
     ensures saw { IfOk result (λ n. Moves (W.traffic wire.old) (W.traffic wire.new) (λ es es'. SawAll n
-        (standing node.old es buffers.old) (standing node.new es' buffers.new) (seen_in buffers.old)
+        (in_loop node.old es buffers.old) (in_loop node.new es' buffers.new) (seen_in buffers.old)
         (seen_in buffers.new))) }
     ensures counts { IfOk result (λ n. Moves (W.traffic wire.old) (W.traffic wire.new) (λ es es'. CountsAll n
-        (standing node.old es buffers.old) (standing node.new es' buffers.new) (counts_in buffers.old)
+        (in_loop node.old es buffers.old) (in_loop node.new es' buffers.new) (counts_in buffers.old)
         (counts_in buffers.new))) }
     ensures few { IfOk result (λ n. n ≤ most) }
     ensures grows { applied_of node.old ≤ applied_of node.new }

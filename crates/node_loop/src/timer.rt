@@ -2,7 +2,7 @@
 
 ghost use Rattle.std.specs.Prelude.{◌≡◌, ℕ, Bool, List, [], ◌∷◌};
 ghost use Rattle.px_transport.specs.Wires.{Adds};
-ghost use Rattle.node_loop.specs.Timing.{IsShort, TimerEvent};
+ghost use Rattle.node_loop.specs.Timing.{IsShort, TimerEvent, is_tick};
 ghost use Rattle.node_loop.specs.Timing.TimerEvent.{Looks, Sends, Repeats, Ends};
 
 /// What is seen of a node when it is to be decided whether its clock ticks.
@@ -42,7 +42,7 @@ pub trait Timer {
 
     /// What the node does next, at this time, where this is seen of it.
     fn action(&mut self, now: u64, view: View) -> Action
-        ensures timer_events { Adds (timer_events self.old) (timer_events self.new) (Looks now view ∷ []) }
+        ensures timer_events { Adds (timer_events self.old) (timer_events self.new) (Looks now view (is_tick result) ∷ []) }
         ensures short { IsShort result };
 
     /// Votes were sent for what another proposes at a position that isn't learned; they may be lost.
@@ -52,7 +52,7 @@ pub trait Timer {
     /// Whether the accept requests and votes that were sent of the front's position are sent again now, since they may
     /// be lost. It is asked after [`Timer::action`], at the same time.
     fn repeats(&mut self, now: u64) -> bool
-        ensures timer_events { Adds (timer_events self.old) (timer_events self.new) (Repeats now ∷ []) };
+        ensures timer_events { Adds (timer_events self.old) (timer_events self.new) (Repeats now result ∷ []) };
 
     /// From now on the node accepts no command.
     fn end(&mut self)

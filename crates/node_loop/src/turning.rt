@@ -7,7 +7,7 @@ ghost use Rattle.px_transport.specs.Wires.{Adds, Moves, gives, hands};
 ghost use Rattle.node_loop.specs.Again.{AreAmong};
 ghost use Rattle.node_loop.specs.Counts.{all_out, but_unsent};
 ghost use Rattle.node_loop.specs.Resends.{kept_of, requests_of};
-ghost use Rattle.node_loop.specs.Turns.{Acts, Turned, handed_over, standing};
+ghost use Rattle.node_loop.specs.Turns.{Acts, Turned, handed_over, in_loop};
 
 use crate::counts::RoundCounts;
 use crate::resender::Resender;
@@ -90,7 +90,7 @@ pub fn turn<R: Records, W: Wire>(
     buffers: &mut TurnBuffers,
 ) -> Result<(), NodeFault>
     ensures turned { Moves (W.traffic wire.old) (W.traffic wire.new)
-        (λ es es'. Turned (standing node.old es buffers.old) (standing node.new es' buffers.new) (fault_of result)) }
+        (λ es es'. Turned (in_loop node.old es buffers.old) (in_loop node.new es' buffers.new) (fault_of result)) }
     ensures grows { applied_of node.old ≤ applied_of node.new }
     ensures same { W.identity wire.new ≡ W.identity wire.old }
 {

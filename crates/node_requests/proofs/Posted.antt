@@ -22,7 +22,7 @@ use Rattle.node_requests.specs.declared.routing.TheConstants.{PACKETS_MAX}
 use Rattle.node_requests.specs.Routing.{RoutedValue, Asked, Refused, Unread, Changes, Reads, Stops, is_newline}
 use Rattle.node_requests.specs.Routing.{changes_if, change_of, change_asked, showing, on_table, looked_up, lists, lists_if, test_of, target_asked}
 use Rattle.node_requests.specs.Routing.{asked_by, request_number}
-use Rattle.node_requests.specs.Routing.{reads, Verdicts, Standing, asked_at, standing_of, behind, routed_behind, routed, lines_in}
+use Rattle.node_requests.specs.Routing.{reads, Verdicts, RequestStatus, asked_at, status_for, behind, routed_behind, routed, lines_in}
 use Rattle.node_requests.specs.Answers.{status_of}
 use Rattle.node_requests.specs.Posting.{PostsChange, PostsStop, refused_with, is_of_clients}
 
@@ -100,10 +100,10 @@ tests given None = refl
 tests given (Some packets) =
     still_if (nat_lt 0 (length packets) && nat_le (length packets) PACKETS_MAX) (reads given (Verdicts packets)) (Unread 40) refl refl
 
-standings : (o : Option (ℕ × ℕ)) (method query : List ℕ) → still (standing_of o method query) ≡ true
-standings None method query = refl
-standings (Some r) method query =
-    guarded (bytes_eq method (codes "GET")) (are_parameters to.Requests (parameters query)) (reads (parameters query) (Standing r.0 r.1)) refl
+request_statuses : (o : Option (ℕ × ℕ)) (method query : List ℕ) → still (status_for o method query) ≡ true
+request_statuses None method query = refl
+request_statuses (Some r) method query =
+    guarded (bytes_eq method (codes "GET")) (are_parameters to.Requests (parameters query)) (reads (parameters query) (RequestStatus r.0 r.1)) refl
 
 -- ---- paths
 
@@ -245,7 +245,7 @@ at_target m p q b j (Some to.Stop) e = stops m p q b j (at_stop p (ap is_stop e)
 
 by_front : (m p q b : List ℕ) (j : Bool) (o : Option Text) → Outcome m p q b (routed_behind o m p q b j)
 by_front m p q b j None = at_target m p q b j (plain_target p) refl
-by_front m p q b j (Some name) = inl (standings (request_number name) m q)
+by_front m p q b j (Some name) = inl (request_statuses (request_number name) m q)
 
 outcome : (m p q b : List ℕ) (j : Bool) → Outcome m p q b (routed m p q b j)
 outcome m p q b j = by_front m p q b j (behind p)

@@ -12,7 +12,7 @@ pub mod Queries
 pub mod Requests
 pub mod Routing
 pub mod Sizes
-pub mod Standing
+pub mod RequestStatus
 pub mod Status
 pub mod StatusJson
 pub mod Targets

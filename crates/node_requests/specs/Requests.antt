@@ -24,7 +24,7 @@ use Rattle.node_requests.specs.EntryLines.{entries_answer, log_answer}
 use Rattle.node_requests.specs.Health.{health, health_answer, ready_answer}
 use Rattle.node_requests.specs.Metrics.{metrics_text}
 use Rattle.node_requests.specs.Sizes.{rules_below, tables_below, entries_below}
-use Rattle.node_requests.specs.Standing.{standing}
+use Rattle.node_requests.specs.RequestStatus.{request_status}
 use Rattle.node_requests.specs.StatusJson.{status_as}
 
 -- ---- reads
@@ -63,7 +63,7 @@ pub record AreMetrics {R : Type 0} {G : Ghosts R} (n : Node R G) (t : Counters) 
 abbrev pub IsRead : {R : Type 0} {G : Ghosts R} → Node R G → Option (ℕ × ℕ) → Counters → Read → AnswerValue → Type 0
 IsRead n accepted t (read.List action) a = a ≡ answered (listed (config_of n) (action_value action))
 IsRead n accepted t (read.Test packets) a = a ≡ verdicts_within (config_of n) (map (λ p. p.now) packets.items)
-IsRead n accepted t (read.Standing origin number) a = a ≡ standing n accepted origin number
+IsRead n accepted t (read.RequestStatus origin number) a = a ≡ request_status n accepted origin number
 IsRead n accepted t (read.Log from) a = a ≡ log_answer n from
 IsRead n accepted t (read.Entries from count) a = a ≡ entries_answer n from count
 IsRead n accepted t (read.Status json) a = IsStatus n t json a

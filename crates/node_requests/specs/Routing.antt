@@ -30,7 +30,7 @@ use Rattle.node_requests.specs.Targets.{plain_target, method_of}
 pub data ReadValue : Type 0 where
   Lists : ActionValue → ReadValue
   Verdicts : (packets : List Text) → ReadValue
-  Standing : (origin number : ℕ) → ReadValue
+  RequestStatus : (origin number : ℕ) → ReadValue
   Log : (from : Option ℕ) → ReadValue
   Entries : (from count : Option ℕ) → ReadValue
   Status : (json : Bool) → ReadValue
@@ -188,15 +188,16 @@ request_number text =
     then request_of (number_in (before_first is_dot text)) (number_in (after_first is_dot text))
     else None
 
-abbrev pub standing_of : Option (ℕ × ℕ) → (method query : List ℕ) → RoutedValue
-standing_of None method query = Refused 404
-standing_of (Some r) method query =
+abbrev pub status_for : Option (ℕ × ℕ) → (method query : List ℕ) → RoutedValue
+status_for None method query = Refused 404
+status_for (Some r) method query =
     if bytes_eq method (codes "GET") then
-    (if are_parameters to.Requests (parameters query) then reads (parameters query) (Standing r.0 r.1) else Refused 400)
+    (if are_parameters to.Requests (parameters query) then reads (parameters query) (RequestStatus r.0 r.1)
+    else Refused 400)
     else Refused 405
 
-abbrev pub standing_asked : (method name query : List ℕ) → RoutedValue
-standing_asked method name query = standing_of (request_number name) method query
+abbrev pub status_asked : (method name query : List ℕ) → RoutedValue
+status_asked method name query = status_for (request_number name) method query
 
 -- what is behind the path of requests
 abbrev pub behind : (path : Text) → Option Text
@@ -206,7 +207,7 @@ behind path = if bytes_eq (take 13 path) (codes "/v1/requests/") then Some (drop
 
 abbrev pub routed_behind : Option Text → (method path query body : List ℕ) → (json : Bool) → RoutedValue
 routed_behind None method path query body json = plain_asked method path query body json
-routed_behind (Some name) method path query body json = standing_asked method name query
+routed_behind (Some name) method path query body json = status_asked method name query
 
 -- what a method, a path, a query and a body ask for; json is whether the answer may be JSON
 abbrev pub routed : (method path query body : List ℕ) → (json : Bool) → RoutedValue
@@ -217,7 +218,7 @@ routed method path query body json = routed_behind (behind path) method path que
 abbrev pub read_value : Read → ReadValue
 read_value (read.List action) = Lists (action_value action)
 read_value (read.Test packets) = Verdicts (map (λ p. p.now) packets.items)
-read_value (read.Standing origin number) = Standing origin number
+read_value (read.RequestStatus origin number) = RequestStatus origin number
 read_value (read.Log from) = Log from
 read_value (read.Entries from count) = Entries from count
 read_value (read.Status json) = Status json

@@ -10,7 +10,7 @@ ghost use Rattle.node_requests.specs.Bounded.{verdicts_within};
 ghost use Rattle.node_requests.specs.Changing.{Changes, with_number};
 ghost use Rattle.node_requests.specs.Health.{health};
 ghost use Rattle.node_requests.specs.Requests.{IsStatus, AreMetrics, IsRead, IsReadIf, IsChange, Answers};
-ghost use Rattle.node_requests.specs.Standing.{standing};
+ghost use Rattle.node_requests.specs.RequestStatus.{request_status};
 ghost use Rattle.node_requests.specs.StatusJson.{status_as};
 
 use crate::answer::Answer;
@@ -24,7 +24,7 @@ use crate::json::status_json;
 use crate::metrics::metrics;
 use crate::packets::test;
 use crate::request::{Read, Request};
-use crate::standing::standing;
+use crate::request_status::request_status;
 use crate::status::status;
 use pf_arguments::{Action, Command};
 use pf_node::Node;
@@ -97,10 +97,10 @@ impl<R: Records> RequestHandler<R> {
 
     /// What became of a request: `applied`, its position and what came of it where that is applied, `waiting` where it
     /// is learned, or was accepted here and isn't learned below the front, else 404 and `unknown`.
-    pub fn standing(&self, origin: u8, number: u64) -> Result<Answer, AllocError>
-        ensures { IfOk result (λ a. answer_value a ≡ standing self.now.node self.now.accepted origin number) }
+    pub fn request_status(&self, origin: u8, number: u64) -> Result<Answer, AllocError>
+        ensures { IfOk result (λ a. answer_value a ≡ request_status self.now.node self.now.accepted origin number) }
     {
-        standing(self.alloc, &self.node, self.accepted, origin, number)
+        request_status(self.alloc, &self.node, self.accepted, origin, number)
     }
 
     /// The node's health.
@@ -133,7 +133,7 @@ impl<R: Records> RequestHandler<R> {
         match read {
             Read::List(action) => self.list(action),
             Read::Test { packets } => self.test(packets),
-            Read::Standing { origin, number } => self.standing(*origin, *number),
+            Read::RequestStatus { origin, number } => self.request_status(*origin, *number),
             Read::Log { from } => log(self.alloc, &self.node, *from),
             Read::Entries { from, count } => entries(self.alloc, &self.node, *from, *count),
             Read::Status { json } => self.status(*json, counters),

@@ -55,8 +55,8 @@ mod packets;
 mod positions;
 mod query;
 mod request;
+mod request_status;
 mod routing;
-mod standing;
 mod status;
 mod target;
 

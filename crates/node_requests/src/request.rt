@@ -13,7 +13,7 @@ pub enum Read<'a> {
         packets: Vec<&'a str>,
     },
     /// What became of a request.
-    Standing {
+    RequestStatus {
         /// The node that accepted it.
         origin: u8,
         /// Its number there.

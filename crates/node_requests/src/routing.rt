@@ -10,7 +10,7 @@ ghost use Rattle.node_requests.specs.inner.Parameters.{pairs_of};
 ghost use Rattle.node_requests.specs.Routing.{is_newline, change_asked, lines_in, reads, routed_value, lists};
 ghost use Rattle.node_requests.specs.Routing.{looked_up};
 ghost use Rattle.node_requests.specs.Routing.{test_asked, log_asked, entries_asked, asked_at, target_asked};
-ghost use Rattle.node_requests.specs.Routing.{plain_asked, request_number, standing_asked, behind, routed, read_value};
+ghost use Rattle.node_requests.specs.Routing.{plain_asked, request_number, status_asked, behind, routed, read_value};
 
 use crate::listing::{rules, table, table_test, tables};
 use crate::query::{Parameter, are_parameters, number_in, parameters, position_of};
@@ -209,13 +209,13 @@ fn target_asked<'a>(
 }
 
 /// What the path behind `/v1/requests/` asks for: what became of that request.
-fn standing_asked<'a>(
+fn status_asked<'a>(
     alloc: Global,
     method: &str,
     name: &str,
     query: &str,
 ) -> Result<Routed<'a>, AllocError>
-    ensures { IfOk result (λ r. routed_value r ≡ standing_asked method.now name.now query.now) }
+    ensures { IfOk result (λ r. routed_value r ≡ status_asked method.now name.now query.now) }
 {
     let Some((origin, number)) = request_number(name) else {
         return Ok(Routed::Refused(404));
@@ -227,7 +227,7 @@ fn standing_asked<'a>(
     if !are_parameters(Target::Requests, &given) {
         return Ok(Routed::Refused(400));
     }
-    Ok(reads(&given, Read::Standing { origin, number }))
+    Ok(reads(&given, Read::RequestStatus { origin, number }))
 }
 
 /// What any other path asks for.
@@ -273,7 +273,7 @@ pub fn request_in<'a>(
     ensures { IfOk result (λ r. routed_value r ≡ routed method.now path.now query.now body.now json) }
 {
     match behind(path) {
-        Some(name) => standing_asked(alloc, method, name, query),
+        Some(name) => status_asked(alloc, method, name, query),
         None => plain_asked(alloc, method, path, query, body, json),
     }
 }

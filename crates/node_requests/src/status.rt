@@ -44,7 +44,7 @@ pub(crate) fn progress(f: &Figures) -> [Row<'static>; 5]
     ]
 }
 
-/// Why its front may stand.
+/// Why its front may not move.
 #[tactic(auto, unfolding(crate::specs::Status::stall))]
 pub(crate) fn stall(t: &Counters) -> [Row<'static>; 3]
     ensures { map (λ r. (r.0.now, r.1)) result ≡ stall t.now }

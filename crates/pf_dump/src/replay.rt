@@ -21,7 +21,7 @@ use std::alloc::{AllocError, Global};
 
 /// Where a script is behind a line.
 #[derive(Drop)]
-pub(crate) struct Stand<'a> {
+pub(crate) struct ReplayState<'a> {
     /// Whether it goes on: the line was a change, or it is of a ruleset.
     pub(crate) goes_on: bool,
     /// The arguments that wait for the end of their text.
@@ -91,14 +91,14 @@ fn run_pfctl<'a>(
     alloc: Global,
     config: &mut Config,
     words: Vec<&'a str>,
-) -> Result<Stand<'a>, AllocError>
+) -> Result<ReplayState<'a>, AllocError>
     ensures leads { IfOk result (λ s. s.goes_on ≡ true →
         StepsTo (pfctl_line config.old (map (λ x. x.now) words.entry.items)) config.new s.waiting) }
     ensures done { IfOk result (λ s. IsPlace
         (pfctl_done config.old (map (λ x. x.now) words.entry.items)) s.goes_on config.new s.waiting) }
 {
     if takes_text(alloc, &words)? {
-        return Ok(Stand {
+        return Ok(ReplayState {
             goes_on: true,
             waiting: Some(Waiting {
                 words,
@@ -107,7 +107,7 @@ fn run_pfctl<'a>(
         });
     }
     let goes_on = run_words(alloc, config, &words, &[])?;
-    Ok(Stand {
+    Ok(ReplayState {
         goes_on,
         waiting: None,
     })
@@ -118,7 +118,7 @@ fn run_line<'a>(
     alloc: Global,
     config: &mut Config,
     words: Vec<&'a str>,
-) -> Result<Stand<'a>, AllocError>
+) -> Result<ReplayState<'a>, AllocError>
     ensures leads { IfOk result (λ s. s.goes_on ≡ true →
         StepsTo (at_words config.old (Some (map (λ x. x.now) words.entry.items))) config.new s.waiting) }
     ensures done { IfOk result (λ s. IsPlace
@@ -129,12 +129,12 @@ fn run_line<'a>(
             if *first == "pfctl" {
                 return run_pfctl(alloc, config, words);
             }
-            Ok(Stand {
+            Ok(ReplayState {
                 goes_on: false,
                 waiting: None,
             })
         }
-        [] => Ok(Stand {
+        [] => Ok(ReplayState {
             goes_on: true,
             waiting: None,
         }),
@@ -147,7 +147,7 @@ fn step<'a>(
     config: &mut Config,
     waiting: Option<Waiting<'a>>,
     line: Line<'a>,
-) -> Result<Stand<'a>, AllocError>
+) -> Result<ReplayState<'a>, AllocError>
     ensures leads { IfOk result (λ s. s.goes_on ≡ true →
         StepsTo (stepped config.old (option_map waiting_of waiting.entry) (line_of line.entry)) config.new
         s.waiting) }
@@ -158,7 +158,7 @@ fn step<'a>(
     match waiting {
         None => match words_in(alloc, line.content)? {
             Some(words) => run_line(alloc, config, words),
-            None => Ok(Stand {
+            None => Ok(ReplayState {
                 goes_on: false,
                 waiting: None,
             }),
@@ -166,14 +166,14 @@ fn step<'a>(
         Some(waiting) => {
             if line.content == b".".as_slice() {
                 let goes_on = run_words(alloc, config, &waiting.words, &waiting.text)?;
-                return Ok(Stand {
+                return Ok(ReplayState {
                     goes_on,
                     waiting: None,
                 });
             }
             let mut text = waiting.text;
             push_bytes(&mut text, line)?;
-            Ok(Stand {
+            Ok(ReplayState {
                 goes_on: true,
                 waiting: Some(Waiting {
                     words: waiting.words,

@@ -15,7 +15,7 @@
 -- - A reader of words: one method a production over `left`, `Reads result (left new) (production (left old))`, each with
 --   `unfolding` of its own definition and no proof file. `let Some(x) = .. else { return Err(..) }` where memory may run
 --   out too.
--- - The verdict in two walks (`specs/inner/TwoWalks.antt`): what either walk comes to is said over rules, anchors and
+-- - The verdict in two walks (`specs/inner/TwoWalks.antt`): what either walk gives is said over rules, anchors and
 --   depth, as the code goes; `Deciding` joins it to the hits. `Agrees stop other hs` says that the first walk is the first
 --   stop and that, where there is none, the second is the last hit. It is kept by `++` (the first from the front, the
 --   second from the back), by `stop_last` (then the first is both, and the second none), by filter rules, wildcards and
@@ -40,7 +40,7 @@
 --   first one in the bucket). `Column::row` halves with the invariant that the bucket's bound is at most the number and
 --   the next one's is past it. `Row::next` is exact over rows of any length: std's `bit_at-trailing_zeros` and masks, in
 --   `proofs/Words`. How bounds are chosen has no clause: it is a matter of time alone.
--- - A search that passes over candidates (`next_passing`): what lies between two places is refused by a sieve, so the rest
+-- - A search that passes over candidates (`next_passing`): what stands between two places is refused by a sieve, so the rest
 --   of the list gives the same from either place; the walk's contract is that over the whole list.
 -- - `run`: the clause cites `fault_of` and `subcommand_of` of `clap`'s own specs, so it speaks of the words. Facts about
 --   `clap`'s command are taken over to the program's by lemmas over a variable command and an equation (`subst`); a `rw`

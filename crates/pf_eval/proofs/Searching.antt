@@ -96,7 +96,7 @@ rest_at f rules k key cs a at c is first got =
 
 -- ---- the walk over them
 
--- what its rule comes to is what all come to
+-- what its rule gives is what all give
 pub found_there : (f : ℕ → AnyRule → Option Spot) (rules : List AnyRule) (k : PacketValue) (key : Key) (cs : List Candidate) (a at : ℕ) (d : Candidate) (s : Spot) (whole : Option Spot) → key ≡ key_of k → PassesFirst cs key a at →
     first_some (candidate_spot f rules k) (drop a cs) ≡ whole → Some s ≡ some_rule (f (get_or cs at d).index) (slice_get rules (get_or cs at d).index) → Some s ≡ whole
 found_there f rules k key cs a at d s whole is first rest e =

@@ -1,4 +1,4 @@
--- The anchor rules that a statement comes to fit.
+-- The anchor rules that a statement expands to fit.
 use Rattle.std.proofs.Common.{◌≡◌, ℕ, ◌≤◌, ◌&&◌, Bool, true, false, cond, List, [], ◌∷◌, length, map, Option, Some, None, refl, subst, nat_le}
 use Rattle.std.specs.List.{AllByRecursion}
 use Rattle.pf_addr.specs.Spelling.{pieces}
@@ -154,7 +154,7 @@ with_target : (profile : Profile) (a : AnchorText) → FitsTarget a.target → (
 with_target profile a target [] all none = tt
 with_target profile a target (c ∷ cs) all none = (record { target = target; conditions = all.0; no_type = none.0 }, with_target profile a target cs all.1 none.1)
 
--- each anchor rule that a statement comes to
+-- each anchor rule that a statement expands to
 pub headings_fit : (profile : Profile) (a : AnchorText) → FitsAnchorText profile a → bad_ports a.conditions ≡ false → bad_types a.conditions ≡ false → AllByRecursion (FitsHeading profile) (headings a)
 unfolding headings
 headings_fit profile a fits no_bad_ports no_bad_types =

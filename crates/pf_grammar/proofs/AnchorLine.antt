@@ -118,7 +118,7 @@ anchor_spelled profile h fits = record {
 anchor_value : (profile : Profile) (h : Heading) → FitsHeading profile h → value_of profile (anchor_tokens h) ≡ Some (Anchors (written_anchor h))
 anchor_value profile h fits = statement_reads profile (anchor_tokens h) (Anchors (written_anchor h)) (AnchorStatement _ (written_anchor h) (anchor_spelled profile h fits))
 
--- ---- it comes to itself
+-- ---- it expands to itself
 
 pub headings_again : (profile : Profile) (h : Heading) → FitsHeading profile h → headings (written_anchor h) ≡ h ∷ []
 unfolding headings

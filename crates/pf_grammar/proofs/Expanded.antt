@@ -1,4 +1,4 @@
--- A shown rule is refused by no cause, and comes to itself.
+-- A shown rule is refused by no cause, and expands to itself.
 use Rattle.std.proofs.Common.{◌≡◌, ℕ, ◌+◌, ◌<◌, ◌==◌, ◌&&◌, ◌||◌, Bool, true, false, List, [], ◌∷◌, Option, Some, None, refl, sym, ap, ◌∙◌, arith, length}
 use Rattle.std.specs.Prelude.{is_some, not, nat_lt, flat_map, map}
 use Rattle.std.proofs.lemmas.List.{append-nil}
@@ -142,7 +142,7 @@ combined_again profile r fits =
     one_combination (rule_flags (written r)) r
     ∙ rw (type_family_again r.conditions.icmp_type, fits.conditions.family, flags_of_rule r fits.state) (ap (λ (c : Conditions). c ∷ []) (conditions_again r))
 
--- a shown rule comes to itself
+-- a shown rule expands to itself
 pub expanded_again : (profile : Profile) (p : Policy) (r : Rule) → FitsRule profile r → expanded p (written r) ≡ r ∷ []
 unfolding expanded
 expanded_again profile p r fits = ap (map (rule_with p (written r))) (combined_again profile r fits) ∙ ap (λ (s : Rule). s ∷ []) (rule_again p r fits.state)

@@ -245,7 +245,7 @@ flattened_none (p ∷ ps) w = ap (λ (qs : List Placed). qs ++ flat_map (replace
 abbrev pub so_far : Policy → List Name → List TableValue → List ItemValue → Sofar
 so_far p skip tables items = record { macros = []; policy = p; content = record { skip = skip; tables = tables; items = items } }
 
--- what a statement comes to, from its tokens
+-- what a statement expands to, from its tokens
 abbrev ended : Place → Profile → Sofar → ℕ → List Placed → Result Sofar Refusal
 ended place profile sofar n rest = reading_from macros_of (judge place profile) sofar [] rest
 

@@ -1,4 +1,4 @@
--- The rules that a statement comes to fit.
+-- The rules that a statement expands to fit.
 use Rattle.std.proofs.Common.{◌≡◌, ℕ, ◌≤◌, ◌&&◌, ◌||◌, Bool, true, false, List, [], ◌∷◌, ◌++◌, map, Option, Some, None, refl, sym, ap, subst, ◌∙◌, eqb-true}
 use Rattle.std.specs.Prelude.{is_some, is_none, not, flat_map}
 use Rattle.std.specs.List.{AllByRecursion, list_any, list_all}
@@ -374,7 +374,7 @@ with_state : (profile : Profile) (p : Policy) (text : RuleText) (cs : List Condi
 with_state profile p text [] all = tt
 with_state profile p text (c ∷ cs) all = (record { conditions = all.0; state = state_ok p text.action text.state }, with_state profile p text cs all.1)
 
--- each rule that a statement comes to
+-- each rule that a statement expands to
 pub expanded_fit : (profile : Profile) (p : Policy) (text : RuleText) → FitsText profile text.conditions → bad_ports text.conditions ≡ false → bad_types text.conditions ≡ false → AllByRecursion (FitsRule profile) (expanded p text)
 unfolding expanded
 expanded_fit profile p text fits no_bad_ports no_bad_types =

@@ -88,7 +88,7 @@ new_fits profile _ _ (TableSign name e) = record { name = e; entries = tt }
 pub table_text_fits : (profile : Profile) (ts : List Token) (t : TableText) → IsTableText profile ts t → FitsTableText profile t
 table_text_fits profile _ _ (TableOptions ts us name all is are) = options_fit profile (new_table name) us all are (new_fits profile ts name is)
 
--- ---- what it comes to
+-- ---- what it expands to
 
 or_false : (a b : Bool) → (a || b) ≡ false → b ≡ false
 or_false true b e = absurd (false≢true (sym e))

@@ -20,7 +20,7 @@ use Rattle.std.proofs.lemmas.Bool.{and_from}
 use Rattle.px_wire.specs.Message.{Group}
 use Rattle.pf_lab.specs.Coming as coming
 use Rattle.pf_lab.specs.Coming.{action_of, event_of, is_long, model_events}
-use Rattle.pf_lab.specs.Outcomes.{Tells, is_bad, becomes, is_unknown, outcome_in}
+use Rattle.pf_lab.specs.Outcomes.{Reports, is_bad, becomes, is_unknown, outcome_in}
 use Rattle.pf_lab.specs.declared.event.LabFault.{LabFault}
 use Rattle.pf_lab.specs.declared.event.LabFault.TheVariants as fault
 use Rattle.std.specs.Prelude.{OnOk, OnErr}
@@ -192,7 +192,7 @@ delivered_none b v l k is world bad =
 pub delivered_step : {E : Type 0} (b : Bench) (v : LabValue) (l : Lab) (k : ℕ) (r : Result Outcome LabFault) (q : Result (Unit {0}) E) → IsBench b v →
     OnOk r (IsWorld l (cluster_of v.members) (run same v.members (model_events (event.Runs (lab.Deliver k))) v.world)) →
     OnErr r (IsWorld l (cluster_of v.members) v.world) →
-    Tells r (is_bad v.members v.world (event.Runs (lab.Deliver k))) (becomes v.members v.world (event.Runs (lab.Deliver k))) →
+    Reports r (is_bad v.members v.world (event.Runs (lab.Deliver k))) (becomes v.members v.world (event.Runs (lab.Deliver k))) →
     OnOk q (r ≢ Err fault.Memory) →
     OnOk q (IsBench (record b { lab = l }) (with_world v (happens same v.members v.world (worlds.Event.Runs (worlds.Action.Deliver k)))))
 delivered_step b v l k (Ok o) (Ok u) is happened stays reported not = in_world b v l _ is happened

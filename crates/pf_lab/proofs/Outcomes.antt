@@ -23,7 +23,7 @@ use Rattle.pf_lab.specs.declared.event.LabFault.{LabFault}
 use Rattle.pf_lab.specs.declared.event.LabFault.TheVariants as fault
 use Rattle.pf_lab.specs.declared.event.Outcome.{Outcome}
 use Rattle.pf_lab.specs.declared.event.Outcome.TheVariants as outcome
-use Rattle.pf_lab.specs.Outcomes.{is_nobodys, is_unknown, outcome_of, outcome_at, outcome_in, is_bad, becomes, Tells}
+use Rattle.pf_lab.specs.Outcomes.{is_nobodys, is_unknown, outcome_of, outcome_at, outcome_in, is_bad, becomes, Reports}
 
 -- somebody is addressed
 pub addressed : (n m : ℕ) (w : World Bytes) (a : Action Bytes) (x : Input Bytes) → comes_to w a ≡ Some (m, x) → m < n → is_nobodys n (comes_to w a) ≡ false
@@ -40,7 +40,7 @@ pub outcome_down : (w : World Bytes) (m : ℕ) (a : Action Bytes) (x : Input Byt
 outcome_down w m a x does come down = ap (λ (t : Option (ℕ × Input Bytes)). outcome_at w t does) come ∙ cond-false _ (does m x) outcome.Stopped down
 
 -- what a member that runs answers
-pub takes_reported : (r : Result Outcome LabFault) (bad : Bool) (o p : Outcome) → OnErr r (r ≡ Err fault.Memory) → IfOk r (λ q. q ≡ o) → bad ≡ false → o ≡ p → Tells r bad p
+pub takes_reported : (r : Result Outcome LabFault) (bad : Bool) (o p : Outcome) → OnErr r (r ≡ Err fault.Memory) → IfOk r (λ q. q ≡ o) → bad ≡ false → o ≡ p → Reports r bad p
 takes_reported (Ok q) bad o p e h k l = (k, h ∙ l)
 takes_reported (Err fault.Memory) bad o p e h k l = tt
 takes_reported (Err fault.BadEvent) bad o p e h k l = absurd cc
@@ -48,7 +48,7 @@ takes_reported (Err fault.BadEvent) bad o p e h k l = absurd cc
 -- an action happens at a member that runs
 pub runs_reported : (r : Result Outcome LabFault) (n m : ℕ) (w : World Bytes) (s : NodeState Bytes) (a : Action Bytes) (x : Input Bytes) →
     comes_to w a ≡ Some (m, x) → m < n → w.nodes m ≡ s → s.is_up ≡ true → OnErr r (r ≡ Err fault.Memory) →
-    IfOk r (λ q. q ≡ outcome_of s.stored.meta x (answer n m s x)) → Tells r (is_unknown n w (Runs a)) (outcome_in n w (Runs a))
+    IfOk r (λ q. q ≡ outcome_of s.stored.meta x (answer n m s x)) → Reports r (is_unknown n w (Runs a)) (outcome_in n w (Runs a))
 unfolding outcome_in
 runs_reported r n m w s a x come below here up e h =
     let D : NodeState Bytes → Outcome = λ z. outcome_of z.stored.meta x (step_of same n m z x) in
@@ -57,28 +57,28 @@ runs_reported r n m w s a x come below here up e h =
 
 -- one that is stopped
 pub down_reported : (n m : ℕ) (w : World Bytes) (a : Action Bytes) (x : Input Bytes) → comes_to w a ≡ Some (m, x) → m < n → (w.nodes m).is_up ≡ false →
-    Tells (Ok outcome.Stopped) (is_unknown n w (Runs a)) (outcome_in n w (Runs a))
+    Reports (Ok outcome.Stopped) (is_unknown n w (Runs a)) (outcome_in n w (Runs a))
 unfolding outcome_in
 down_reported n m w a x come below down = (addressed n m w a x come below, sym (outcome_down w m a x _ come down))
 
 pub down_before : (n m : ℕ) (w : World Bytes) (a : Action Bytes) (x : Input Bytes) → comes_to w a ≡ Some (m, x) → m < n → (w.nodes m).is_up ≡ false →
-    Tells (Ok outcome.Stopped) (is_unknown n w (StopBefore a)) (outcome_in n w (StopBefore a))
+    Reports (Ok outcome.Stopped) (is_unknown n w (StopBefore a)) (outcome_in n w (StopBefore a))
 unfolding outcome_in
 down_before n m w a x come below down = (addressed n m w a x come below, sym (outcome_down w m a x _ come down))
 
 pub down_after : (n m : ℕ) (w : World Bytes) (a : Action Bytes) (x : Input Bytes) → comes_to w a ≡ Some (m, x) → m < n → (w.nodes m).is_up ≡ false →
-    Tells (Ok outcome.Stopped) (is_unknown n w (StopAfter a)) (outcome_in n w (StopAfter a))
+    Reports (Ok outcome.Stopped) (is_unknown n w (StopAfter a)) (outcome_in n w (StopAfter a))
 unfolding outcome_in
 down_after n m w a x come below down = (addressed n m w a x come below, sym (outcome_down w m a x _ come down))
 
 -- a stop of one that runs
 pub up_before : (n m : ℕ) (w : World Bytes) (a : Action Bytes) (x : Input Bytes) → comes_to w a ≡ Some (m, x) → m < n → (w.nodes m).is_up ≡ true →
-    Tells (Ok outcome.Nothing) (is_unknown n w (StopBefore a)) (outcome_in n w (StopBefore a))
+    Reports (Ok outcome.Nothing) (is_unknown n w (StopBefore a)) (outcome_in n w (StopBefore a))
 unfolding outcome_in
 up_before n m w a x come below up = (addressed n m w a x come below, sym (outcome_up w m a x _ come up))
 
 pub up_after : (n m : ℕ) (w : World Bytes) (a : Action Bytes) (x : Input Bytes) → comes_to w a ≡ Some (m, x) → m < n → (w.nodes m).is_up ≡ true →
-    Tells (Ok outcome.Nothing) (is_unknown n w (StopAfter a)) (outcome_in n w (StopAfter a))
+    Reports (Ok outcome.Nothing) (is_unknown n w (StopAfter a)) (outcome_in n w (StopAfter a))
 unfolding outcome_in
 up_after n m w a x come below up = (addressed n m w a x come below, sym (outcome_up w m a x _ come up))
 
@@ -99,13 +99,13 @@ unknown_stays n w (StopBefore a) h = nowhere n w (comes_to w a) _ h
 unknown_stays n w (StopAfter a) h = nowhere n w (comes_to w a) _ h
 unknown_stays n w (Restart m) h = cond-false _ (emptied w m true) w (le-ltb m n (leb-true n m h))
 
-pub restart_reported : (n m : ℕ) (w : World Bytes) → m < n → Tells (Ok outcome.Nothing) (is_unknown n w (Restart m)) (outcome_in n w (Restart m))
+pub restart_reported : (n m : ℕ) (w : World Bytes) → m < n → Reports (Ok outcome.Nothing) (is_unknown n w (Restart m)) (outcome_in n w (Restart m))
 unfolding outcome_in
 restart_reported n m w below = (lt-leb n m below, refl)
 
 -- ---- in the lab
 
-pub err_reported : (e : LabFault) (bad : Bool) (o : Outcome) → ◌≡◌ {A = Result Outcome LabFault} (Err e) (Err fault.Memory) → Tells (Err e) bad o
+pub err_reported : (e : LabFault) (bad : Bool) (o : Outcome) → ◌≡◌ {A = Result Outcome LabFault} (Err e) (Err fault.Memory) → Reports (Err e) bad o
 err_reported fault.Memory bad o h = tt
 err_reported fault.BadEvent bad o h = absurd cc
 
@@ -114,7 +114,7 @@ pub takes_at : (r : Result Outcome LabFault) (hosts : List Host) (g : Group) (m 
     HostsAre hosts g sent w → slice_get hosts m ≡ Some y → y.is_up ≡ true → Came g w a m what → OnErr r (r ≡ Err fault.Memory) →
     ((x : Input Bytes) → IsInput (group (group_of y)) (group_of y).me what x →
     IfOk r (λ o. o ≡ outcome_of (state_in y.node).stored.meta x (answer (group_of y).members (group_of y).me (state_in y.node) x))) →
-    Tells r (is_unknown g.members w (Runs a)) (outcome_in g.members w (Runs a))
+    Reports r (is_unknown g.members w (Runs a)) (outcome_in g.members w (Runs a))
 takes_at r hosts g m w a what y sent world at up came memory reported =
     let host = world.hosts m y at in
     let p = group_of y in
@@ -138,16 +138,16 @@ long_of (event.Restart m) a h = absurd h
 
 -- a command that is too long
 pub refused_reported : (n : ℕ) (w : World Bytes) (e : LabEvent) (a : LabAction) → IsOf e a → is_too_long a ≡ true →
-    Tells (Ok (outcome.Refused 41)) (is_bad n w e) (becomes n w e)
+    Reports (Ok (outcome.Refused 41)) (is_bad n w e) (becomes n w e)
 refused_reported n w e a is long =
     let all : is_long e ≡ true = long_of e a is ∙ long in
     (cond-true _ false (is_unknown n w (event_of e)) all, sym (cond-true _ (outcome.Refused 41) (outcome_in n w (event_of e)) all))
 
 -- any other
 pub reported_of : (r : Result Outcome LabFault) (n : ℕ) (w : World Bytes) (e : LabEvent) (a : LabAction) (x : Event Bytes) → IsOf e a → is_too_long a ≡ false → event_of e ≡ x →
-    Tells r (is_unknown n w x) (outcome_in n w x) → Tells r (is_bad n w e) (becomes n w e)
+    Reports r (is_unknown n w x) (outcome_in n w x) → Reports r (is_bad n w e) (becomes n w e)
 reported_of r n w e a x is short same reported =
     let none : is_long e ≡ false = long_of e a is ∙ short in
     let bad : is_bad n w e ≡ is_unknown n w x = cond-false _ false (is_unknown n w (event_of e)) none ∙ ap (is_unknown n w) same in
     let out : becomes n w e ≡ outcome_in n w x = cond-false _ (outcome.Refused 41) (outcome_in n w (event_of e)) none ∙ ap (outcome_in n w) same in
-    subst (λ (b : Bool). Tells r b (becomes n w e)) (sym bad) (subst (λ (o : Outcome). Tells r (is_unknown n w x) o) (sym out) reported)
+    subst (λ (b : Bool). Reports r b (becomes n w e)) (sym bad) (subst (λ (o : Outcome). Reports r (is_unknown n w x) o) (sym out) reported)

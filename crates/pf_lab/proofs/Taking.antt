@@ -32,7 +32,7 @@ use Rattle.px_replica.specs.declared.receiving.Received.{Received}
 use Rattle.pf_node.specs.Nodes.{state_in}
 use Rattle.pf_lab.specs.Coming.{model_events}
 use Rattle.pf_lab.specs.inner.Coming.{IsInput, Came}
-use Rattle.pf_lab.specs.Outcomes.{are_known, is_bad, Tells}
+use Rattle.pf_lab.specs.Outcomes.{are_known, is_bad, Reports}
 use Rattle.pf_lab.specs.declared.event.LabFault.{LabFault}
 use Rattle.pf_lab.specs.declared.event.LabFault.TheVariants as fault
 use Rattle.pf_lab.specs.declared.event.Outcome.{Outcome}
@@ -164,7 +164,7 @@ same_at (Ok v) hosts g m w y z sent world at up kept same_group is = tt
 same_at (Err e) hosts g m w y z sent world at up kept same_group is =
     lab_same hosts state_of group_of g m w y z sent world at (state_up z (kept ∙ up) ∙ is ∙ sym (state_up y up)) same_group
 
--- a member stops after what comes to it
+-- a member stops after what it receives
 pub stops_at : (hosts : List Host) (g : Group) (m : ℕ) (w : World Bytes) (a : Action Bytes) (what : What)
     (y z q : Host) (sent out : List Datagram) → HostsAre hosts g sent w → slice_get hosts m ≡ Some y → y.is_up ≡ true →
     z.is_up ≡ y.is_up → group_of z ≡ group_of y → group_of q ≡ group_of z → state_of q ≡ emptied_state false (state_of z) →
@@ -267,7 +267,7 @@ known_no_more n (y ∷ zs) x ys w bad =
     (known_no_more n zs x ys v (ap (λ (u : World Bytes). is_bad n u x) (sym (run_append n (model_events y) (flat_map model_events zs) w)) ∙ bad))
 
 -- 81 comes of an event that isn't known
-pub bad_reported : {X : Type 0} (r : Result X LabFault) (f : LabFault) (bad : Bool) (o : Outcome) → r ≡ Err f → r ≡ Err fault.BadEvent → Tells (Err f) bad o → bad ≡ true
+pub bad_reported : {X : Type 0} (r : Result X LabFault) (f : LabFault) (bad : Bool) (o : Outcome) → r ≡ Err f → r ≡ Err fault.BadEvent → Reports (Err f) bad o → bad ≡ true
 bad_reported r fault.BadEvent bad o same is is_spelled = is_spelled
 bad_reported r fault.Memory bad o same is is_spelled = absurd cc
 

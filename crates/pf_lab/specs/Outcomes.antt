@@ -58,10 +58,10 @@ is_bad n w e = if is_long e then false else is_unknown n w (event_of e)
 
 -- What is returned of an event: what becomes of it where it names a member and a message, 81 where it doesn't. Out of
 -- memory isn't specified.
-abbrev pub Tells : Result Outcome LabFault → (bad : Bool) → (becomes : Outcome) → Type 0
-Tells (Ok o) bad becomes = (bad ≡ false) × (o ≡ becomes)
-Tells (Err fault.BadEvent) bad becomes = bad ≡ true
-Tells (Err fault.Memory) bad becomes = Unit {0}
+abbrev pub Reports : Result Outcome LabFault → (bad : Bool) → (becomes : Outcome) → Type 0
+Reports (Ok o) bad becomes = (bad ≡ false) × (o ≡ becomes)
+Reports (Err fault.BadEvent) bad becomes = bad ≡ true
+Reports (Err fault.Memory) bad becomes = Unit {0}
 
 -- each event in its turn names a member, and a message that was sent
 abbrev pub are_known : (n : ℕ) → List LabEvent → World Bytes → Bool

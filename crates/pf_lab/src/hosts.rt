@@ -13,7 +13,7 @@ ghost use Rattle.px_replica.specs.declared.datagram.Datagram as datagrams;
 ghost use Rattle.pf_lab.specs.inner.Coming.{Came, IsAskable};
 ghost use Rattle.px_replica.specs.Spelled.{for_members};
 ghost use Rattle.pf_lab.specs.Labs.{HostsAre};
-ghost use Rattle.pf_lab.specs.Outcomes.{Tells, is_unknown, outcome_in};
+ghost use Rattle.pf_lab.specs.Outcomes.{Reports, is_unknown, outcome_in};
 ghost use Rattle.px_core.specs.declared.limits.TheConstants.{MEMBERS};
 
 use crate::coming::What;
@@ -38,7 +38,7 @@ pub(crate) fn run_at(
         (happens same g.members w (Runs a))) }
     ensures reported { (g : Group) (w : World Bytes) (a : Action Bytes) (sent : List datagrams.Datagram) →
         HostsAre hosts.old.items g sent w → Came g w a m what.entry →
-        Tells result (is_unknown g.members w (Runs a)) (outcome_in g.members w (Runs a)) }
+        Reports result (is_unknown g.members w (Runs a)) (outcome_in g.members w (Runs a)) }
     ensures stays { (g : Group) (w : World Bytes) (sent : List datagrams.Datagram) →
         HostsAre hosts.old.items g sent w → OnErr result (HostsAre hosts.new.items g sent w) }
     ensures few { OnOk result (length out.new.items ≤ MEMBERS) }
@@ -74,7 +74,7 @@ pub(crate) fn stop_before_at(hosts: &mut Vec<Host>, m: u8) -> Result<Outcome, La
     ensures reported { (g : Group) (w : World Bytes) (a : Action Bytes) (x : Input Bytes)
         (sent : List datagrams.Datagram) →
         HostsAre hosts.old.items g sent w → comes_to w a ≡ Some (m, x) →
-        Tells result (is_unknown g.members w (StopBefore a)) (outcome_in g.members w (StopBefore a)) }
+        Reports result (is_unknown g.members w (StopBefore a)) (outcome_in g.members w (StopBefore a)) }
     ensures stays { OnErr result (hosts.new.items ≡ hosts.old.items) }
     ensures count { length hosts.new.items ≡ length hosts.old.items }
     ensures bad { (result ≡ Err LabFault.BadEvent) ↔ (length hosts.old.items ≤ m) }
@@ -104,7 +104,7 @@ pub(crate) fn stop_after_at(
         OnOk result (HostsAre hosts.new.items g sent (happens same g.members w (StopAfter a))) }
     ensures reported { (g : Group) (w : World Bytes) (a : Action Bytes) (sent : List datagrams.Datagram) →
         HostsAre hosts.old.items g sent w → Came g w a m what.entry →
-        Tells result (is_unknown g.members w (StopAfter a)) (outcome_in g.members w (StopAfter a)) }
+        Reports result (is_unknown g.members w (StopAfter a)) (outcome_in g.members w (StopAfter a)) }
     ensures stays { (g : Group) (w : World Bytes) (sent : List datagrams.Datagram) →
         HostsAre hosts.old.items g sent w → OnErr result (HostsAre hosts.new.items g sent w) }
     ensures count { length hosts.new.items ≡ length hosts.old.items }

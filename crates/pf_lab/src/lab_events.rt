@@ -9,7 +9,7 @@ ghost use Rattle.px_wire.specs.Message.{Group};
 ghost use Rattle.px_replica.specs.Made.{same};
 ghost use Rattle.pf_lab.specs.Coming.{action_of, model_events};
 ghost use Rattle.pf_lab.specs.inner.Coming.{IsNamed, IsOf};
-ghost use Rattle.pf_lab.specs.Outcomes.{Tells, is_unknown, outcome_in, is_bad, becomes, are_known};
+ghost use Rattle.pf_lab.specs.Outcomes.{Reports, is_unknown, outcome_in, is_bad, becomes, are_known};
 ghost use Rattle.pf_lab.specs.Ever.{ever_of, IsEver, IsAgreed};
 ghost use Rattle.pf_lab.specs.Same.{AreEqual};
 ghost use Rattle.pf_lab.specs.Labs.{IsHost, IsWorld, cluster_of, state_of, group_of};
@@ -24,7 +24,7 @@ use pf_node::{Membership, Node};
 use px_records::MemoryRecords;
 use std::alloc::Global;
 
-/// So many messages a member sends in a step at most.
+/// How many messages a member sends in a step at most.
 const MESSAGES: usize = 15;
 
 impl Lab {
@@ -34,7 +34,7 @@ impl Lab {
         ensures happens { (g : Group) (w : World Bytes) → IsWorld self.old g w →
             OnOk result (IsWorld self.new g (happens same g.members w (Runs (action_of action.now)))) }
         ensures reported { (g : Group) (w : World Bytes) → IsWorld self.old g w →
-            Tells result (is_unknown g.members w (Runs (action_of action.now)))
+            Reports result (is_unknown g.members w (Runs (action_of action.now)))
             (outcome_in g.members w (Runs (action_of action.now))) }
         ensures stays { (g : Group) (w : World Bytes) → IsWorld self.old g w → OnErr result (IsWorld self.new g w) }
     {
@@ -59,7 +59,7 @@ impl Lab {
         ensures happens { (g : Group) (w : World Bytes) → IsWorld self.old g w →
             OnOk result (IsWorld self.new g (happens same g.members w (StopBefore (action_of action.now)))) }
         ensures reported { (g : Group) (w : World Bytes) → IsWorld self.old g w →
-            Tells result (is_unknown g.members w (StopBefore (action_of action.now)))
+            Reports result (is_unknown g.members w (StopBefore (action_of action.now)))
             (outcome_in g.members w (StopBefore (action_of action.now))) }
         ensures stays { (g : Group) (w : World Bytes) → IsWorld self.old g w → OnErr result (IsWorld self.new g w) }
     {
@@ -75,7 +75,7 @@ impl Lab {
         ensures happens { (g : Group) (w : World Bytes) → IsWorld self.old g w →
             OnOk result (IsWorld self.new g (happens same g.members w (StopAfter (action_of action.now)))) }
         ensures reported { (g : Group) (w : World Bytes) → IsWorld self.old g w →
-            Tells result (is_unknown g.members w (StopAfter (action_of action.now)))
+            Reports result (is_unknown g.members w (StopAfter (action_of action.now)))
             (outcome_in g.members w (StopAfter (action_of action.now))) }
         ensures stays { (g : Group) (w : World Bytes) → IsWorld self.old g w → OnErr result (IsWorld self.new g w) }
     {
@@ -90,7 +90,7 @@ impl Lab {
         ensures happens { (g : Group) (w : World Bytes) → IsWorld self.old g w →
             OnOk result (IsWorld self.new g (happens same g.members w (Restart m))) }
         ensures reported { (g : Group) (w : World Bytes) → IsWorld self.old g w →
-            Tells result (is_unknown g.members w (Restart m)) (outcome_in g.members w (Restart m)) }
+            Reports result (is_unknown g.members w (Restart m)) (outcome_in g.members w (Restart m)) }
         ensures stays { (g : Group) (w : World Bytes) → IsWorld self.old g w → OnErr result (IsWorld self.new g w) }
     {
         let m = m as usize;
@@ -107,7 +107,7 @@ impl Lab {
         ensures happens { (g : Group) (w : World Bytes) → IsWorld self.old g w →
             OnOk result (IsWorld self.new g (run same g.members (model_events event.now) w)) }
         ensures reported { (g : Group) (w : World Bytes) → IsWorld self.old g w →
-            Tells result (is_bad g.members w event.now) (becomes g.members w event.now) }
+            Reports result (is_bad g.members w event.now) (becomes g.members w event.now) }
         ensures stays { (g : Group) (w : World Bytes) → IsWorld self.old g w → OnErr result (IsWorld self.new g w) }
     {
         let bytes = match named(self.alloc, action) {
@@ -131,7 +131,7 @@ impl Lab {
         ensures happens { (g : Group) (w : World Bytes) → IsWorld self.old g w →
             OnOk result (IsWorld self.new g (run same g.members (model_events event.now) w)) }
         ensures reported { (g : Group) (w : World Bytes) → IsWorld self.old g w →
-            Tells result (is_bad g.members w event.now) (becomes g.members w event.now) }
+            Reports result (is_bad g.members w event.now) (becomes g.members w event.now) }
         ensures stays { (g : Group) (w : World Bytes) → IsWorld self.old g w → OnErr result (IsWorld self.new g w) }
     {
         match event {

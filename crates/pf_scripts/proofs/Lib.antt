@@ -12,7 +12,7 @@
 -- - `clap`: a private function for each kind of option, one that adds an option, and two of four options each; all eight
 --   in one function gave up. The rows of matches: `value_in` by `first_value-rows`, `addresses_in` by `raw_values-rows`,
 --   and then the struct of what was given closes by itself.
--- - A list read whole with the lowest fault: `behind` (values so far, lowest fault so far, what the rest comes to), by
+-- - A list read whole with the lowest fault: `behind` (values so far, lowest fault so far, what the rest gives), by
 --   cases of three faults.
 -- - `strip_prefix("!")` has the simpler clause than `strip_prefix('!')`.
 -- - Scripts: the definition goes line by line with what waits as an argument; the loop carries `out ++ printed_from config

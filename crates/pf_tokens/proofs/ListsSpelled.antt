@@ -474,7 +474,7 @@ blanked_no_longer (t ∷ us) (suc k) = one_longer k t us (is_newline t) (blanked
 max_one : (d : ℕ) → max 1 (1 + d) ≡ d + 1
 max_one d = grind arith
 
--- what a list comes to
+-- what a list gives
 abbrev listed : {X : Type 0} → List X → ℕ → List Token → Elements X × List Token
 listed xs d behind = (record { items = xs; deepest = d }, behind)
 

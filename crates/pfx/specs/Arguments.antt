@@ -1,7 +1,10 @@
 -- The arguments with which the program makes its run, of those that it is given; the program's name is the first.
-use Rattle.std.specs.Prelude.{ℕ, Bool, cond, not, ◌&&◌, ◌||◌, ◌==◌, List, [], ◌∷◌, Option, None, Some}
-use Rattle.std.specs.Prelude.{bytes_eq, codes}
+use Rattle.std.specs.Prelude.{ℕ, Bool, true, false, cond, not, ◌&&◌, ◌||◌, ◌==◌, List, [], ◌∷◌, Option, None, Some}
+use Rattle.std.specs.Prelude.{bytes_eq, codes, if◌then◌else◌}
 use Rattle.std.specs.List.{list_any, starts_with}
+use Rattle.cli_nft.specs.Running.{asks_nft}
+use Rattle.pfx.specs.declared.kind.Kind.{Kind}
+use Rattle.pfx.specs.declared.kind.Kind.TheVariants as kind
 
 -- the first argument behind the program's name, empty where there is none
 abbrev pub subcommand_of : (arguments : List (List ℕ)) → List ℕ
@@ -27,13 +30,23 @@ helped (name ∷ first ∷ subcommand ∷ []) =
     cond (bytes_eq first (codes "help") && has_help subcommand) (Some subcommand) None
 helped _ = None
 
+-- an argument that asks for help
+abbrev pub is_help : (argument : List ℕ) → Bool
+is_help argument = bytes_eq argument (codes "--help") || bytes_eq argument (codes "-h")
+
 -- ---- the control socket
+
+-- an argument is `--control` or `--to`, with its value or without
+-- Example: --control=run/pfx.
+abbrev pub names_control : (argument : List ℕ) → Bool
+names_control argument = starts_with (λ a b. a == b) argument (codes "--control")
+
+abbrev pub names_node : (argument : List ℕ) → Bool
+names_node argument = starts_with (λ a b. a == b) argument (codes "--to")
 
 -- with this argument the environment names no control socket: it names one, or a node's address, or asks for help
 abbrev pub excludes_control : (argument : List ℕ) → Bool
-excludes_control argument = starts_with (λ a b. a == b) argument (codes "--control")
-    || starts_with (λ a b. a == b) argument (codes "--to")
-    || bytes_eq argument (codes "--help") || bytes_eq argument (codes "-h")
+excludes_control argument = names_control argument || names_node argument || is_help argument
 
 -- ask or follow, without such an argument
 abbrev pub lacks_control : (arguments : List (List ℕ)) → Bool
@@ -50,6 +63,46 @@ with_control (name ∷ subcommand ∷ rest) path = name ∷ subcommand ∷ codes
 abbrev pub at_control : (arguments : List (List ℕ)) → (control : Option (List ℕ)) → List (List ℕ)
 at_control arguments None = arguments
 at_control arguments (Some path) = cond (lacks_control arguments) (with_control arguments path) arguments
+
+-- ---- what a command line is
+
+-- a control socket is named
+abbrev pub has_control : (arguments : List (List ℕ)) → Bool
+has_control arguments = list_any names_control arguments
+
+-- help is asked for, and no node is named
+abbrev pub asks_help : (arguments : List (List ℕ)) → Bool
+asks_help arguments = list_any is_help arguments && not (list_any names_node arguments)
+
+-- `ask` at a control socket where one is named, else its help or the one over UDP
+abbrev pub ask_kind : (arguments : List (List ℕ)) → Kind
+ask_kind arguments = if has_control arguments then kind.Socket else
+    if asks_help arguments then kind.AskHelp else kind.Net
+
+-- Example: of `pfx ask --control=run/pfx list` it is Socket, of `pfx key` Net, of `pfx check --nft` Nft.
+abbrev pub kind_by : (subcommand : List ℕ) → (arguments : List (List ℕ)) → Kind
+kind_by subcommand arguments =
+    if bytes_eq subcommand (codes "--version") || bytes_eq subcommand (codes "-V") then kind.Version else
+    if bytes_eq subcommand (codes "ask") then ask_kind arguments else
+    if bytes_eq subcommand (codes "node") || bytes_eq subcommand (codes "key") then kind.Net else
+    if bytes_eq subcommand (codes "show") then kind.Show else
+    if bytes_eq subcommand (codes "follow") then kind.Follow else
+    if asks_nft arguments then kind.Nft else kind.Tool
+
+abbrev pub kind_of : (arguments : List (List ℕ)) → Kind
+kind_of arguments = kind_by (subcommand_of arguments) arguments
+
+-- asks at a control socket
+abbrev pub is_asking : Kind → Bool
+is_asking kind.Socket = true
+is_asking kind.AskHelp = true
+is_asking k = false
+
+-- runs a node, asks one over UDP, or makes a key
+abbrev pub is_netting : Kind → Bool
+is_netting kind.Net = true
+is_netting kind.AskHelp = true
+is_netting k = false
 
 -- ---- the run
 

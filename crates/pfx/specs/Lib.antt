@@ -1,2 +1,3 @@
 pub mod Arguments
+pub mod Batches
 pub mod Runs

@@ -7,8 +7,14 @@
 //! begins with `#` begins a comment. `chmod MODE FILE..` sets the mode of files. Of each command line the output has
 //! the same line, what it writes, each line of its standard error behind `! `, and `-- STATUS`.
 
-use crate::line::{BEGIN, Line, LineFault, arguments_of, line_of, mode_of};
-use crate::running::{Runner, is_batch, subcommand_of};
+ghost use Rattle.std.specs.Prelude.{◌≡◌, ◌⊎◌, ◌∷◌, [], Some, IfOk, IfErr};
+ghost use Rattle.cli_follow.specs.Exchanges.{Adds};
+ghost use Rattle.pfx.specs.Batches.{EndsAsRun, RanBatch, RanLine, RanLines, ending_by, is_good, lines_of};
+ghost use Rattle.pfx.specs.Runs.{RunEvent};
+
+use crate::kind::{is_batch, subcommand_of};
+use crate::line::{BEGIN, Line, LineFault, arguments_of, line_of, mode_of, must_fail};
+use crate::running::Runner;
 use bstr::ByteSlice;
 use clap::{Arg, ArgAction, Command};
 use cli_io::{InputFault, Status, misused, out_of_memory, read_all};
@@ -55,7 +61,9 @@ fn command<'a>(alloc: Global) -> Result<Command<'a>, AllocError> {
 }
 
 /// The status of a run behind which this was written.
-fn after(written: io::Result<()>, status: Status) -> Status {
+fn after(written: io::Result<()>, status: Status) -> Status
+    ensures { (result ≡ status) ⊎ (result ≡ Status.Failed) }
+{
     match written {
         Ok(()) => status,
         Err(_) => Status::Failed,
@@ -95,7 +103,9 @@ fn run_kept<T: Runner, W: Write>(
     kept: &mut Vec<u8>,
     writer: &mut W,
     errors: &mut Vec<u8>,
-) -> Status {
+) -> Status
+    ensures { (run : RunEvent) × Adds (T.did runner.old) (T.did runner.new) (run ∷ []) × EndsAsRun (Some run) result }
+{
     kept.clear();
     match runner.run(arguments, &mut b"".as_slice(), kept, errors, false) {
         // a growth of what is kept was refused
@@ -127,7 +137,10 @@ fn status_of<F: Files, T: Runner, W: Write>(
     kept: &mut Vec<u8>,
     writer: &mut W,
     errors: &mut Vec<u8>,
-) -> Result<Status, LineFault> {
+) -> Result<Status, LineFault>
+    ensures run { IfOk result (RanLine (T.did runner.old) (T.did runner.new)) }
+    ensures none { IfErr result (λ _. Adds (T.did runner.old) (T.did runner.new) []) }
+{
     let arguments = arguments_of(alloc, shared, line.arguments)?;
     let arguments = arguments.as_slice();
     if is_batch(arguments) {
@@ -154,7 +167,9 @@ fn run_one<F: Files, T: Runner, W: Write>(
     line: Line<'_>,
     kept: &mut Vec<u8>,
     writer: &mut W,
-) -> io::Result<Status> {
+) -> io::Result<Status>
+    ensures { IfOk result (RanLine (T.did runner.old) (T.did runner.new)) }
+{
     write_line(writer, b"==", line.header)?;
     let mut errors = Vec::new(alloc);
     let status = match status_of(
@@ -182,7 +197,29 @@ fn run_one<F: Files, T: Runner, W: Write>(
     Ok(status)
 }
 
-/// Runs the command lines of a batch: refused where one didn't end by its mark.
+/// Whether a command line ended as it is marked.
+fn is_good(part: &[u8], status: Status) -> bool
+    ensures { result ≡ is_good part.now status }
+{
+    if must_fail(part) {
+        status != Status::Done
+    } else {
+        status == Status::Done
+    }
+}
+
+/// How a batch ends, by whether each line ended as it is marked.
+fn ending_by(are_good: bool) -> Status
+    ensures { result ≡ ending_by are_good }
+{
+    if are_good {
+        Status::Done
+    } else {
+        Status::Refused
+    }
+}
+
+/// Runs the command lines of a batch: refused where one didn't end as it is marked.
 fn run_all<F: Files, T: Runner, W: Write, E: Write>(
     files: &F,
     runner: &mut T,
@@ -190,21 +227,23 @@ fn run_all<F: Files, T: Runner, W: Write, E: Write>(
     batch: &[u8],
     writer: &mut W,
     errors: &mut E,
-) -> io::Result<Status> {
+) -> io::Result<Status>
+    ensures { IfOk result (RanLines (T.did runner.old) (T.did runner.new) (lines_of batch.now)) }
+{
     let mut parts = batch.split_str(BEGIN);
     let shared = parts.next().unwrap_or(b"");
     let mut kept = Vec::new(alloc);
-    let mut ending = Status::Done;
+    let mut are_good = true;
     for part in parts {
         let line = line_of(part);
         let status = run_one(files, runner, alloc, shared, line, &mut kept, writer)?;
-        if (status == Status::Done) == line.must_fail {
-            ending = Status::Refused;
+        if !is_good(part, status) {
+            are_good = false;
             // a message that can't be written changes nothing
             let _written = write_line(errors, b"pfx: not as marked: ==", line.header);
         }
     }
-    Ok(ending)
+    Ok(ending_by(are_good))
 }
 
 /// The batch without its last newline, behind one more, so that its first line may be a command line; none where the
@@ -242,7 +281,9 @@ pub(crate) fn run_batch<F: Files, T: Runner, R: Read, W: Write, E: Write>(
     reader: &mut R,
     writer: &mut W,
     errors: &mut E,
-) -> Status {
+) -> Status
+    ensures { result ≡ Status.Done → RanBatch (T.did runner.old) (T.did runner.new) }
+{
     let Ok(command) = command(alloc) else {
         return out_of_memory(writer);
     };

@@ -1,5 +1,8 @@
 //! The command lines of a batch.
 
+ghost use Rattle.std.specs.Prelude.{◌≡◌};
+ghost use Rattle.pfx.specs.Batches.{must_fail};
+
 use bstr::ByteSlice;
 use std::alloc::Global;
 
@@ -25,12 +28,17 @@ pub(crate) struct Line<'i> {
     pub header: &'i [u8],
     /// Its arguments, none where it doesn't begin with a blank.
     pub arguments: &'i [u8],
-    /// Whether it must fail.
-    pub must_fail: bool,
     /// Whether its input begins with what the last `show` wrote.
     pub is_piped: bool,
     /// Its input, or the rest of it.
     pub text: &'i [u8],
+}
+
+/// Whether the command line that begins this part of a batch is marked as one that must fail.
+pub(crate) fn must_fail(part: &[u8]) -> bool
+    ensures { result ≡ must_fail part.now }
+{
+    part.starts_with(b" !\t")
 }
 
 /// What is behind a mark, and whether the mark was there.
@@ -48,12 +56,11 @@ pub(crate) fn line_of<'i>(part: &'i [u8]) -> Line<'i> {
         None => (part, b"".as_slice()),
     };
     let arguments = header.strip_prefix(b" ").unwrap_or(b"");
-    let (arguments, must_fail) = after_mark(arguments, b"!\t");
+    let (arguments, _must_fail) = after_mark(arguments, b"!\t");
     let (arguments, is_piped) = after_mark(arguments, b"|\t");
     Line {
         header,
         arguments,
-        must_fail,
         is_piped,
         text,
     }

@@ -8,10 +8,12 @@ ghost use Rattle.cli_io.specs.Status.{code_of};
 ghost use Rattle.cli_follow.specs.Exchanges.{Adds};
 ghost use Rattle.pfx.specs.Arguments.{excludes_control, has_help, helped, is_batch, lacks_control, program_arguments};
 ghost use Rattle.pfx.specs.Arguments.{with_control};
+ghost use Rattle.pfx.specs.Batches.{RanBatch};
 ghost use Rattle.pfx.specs.Runs.{IsProgram, Ran};
 
+use crate::kind::{is_help, names_control, names_node, subcommand_of};
 use crate::reporting::{Output, run_line};
-use crate::running::{Runner, subcommand_of};
+use crate::running::Runner;
 use cli_io::{Status, out_of_memory};
 use std::alloc::{AllocError, Global};
 use std::env::{self, VarError};
@@ -106,11 +108,7 @@ fn helped<'a>(arguments: &[&'a str]) -> Option<&'a str>
 fn excludes_control(argument: &str) -> bool
     ensures { result ≡ excludes_control argument.now }
 {
-    let bytes = argument.as_bytes();
-    bytes.starts_with(b"--control")
-        || bytes.starts_with(b"--to")
-        || argument == "--help"
-        || argument == "-h"
+    names_control(argument) || names_node(argument) || is_help(argument)
 }
 
 /// Whether one of these is such an argument.
@@ -197,6 +195,8 @@ pub(crate) fn run_program<I: Invocation + Files + Net, T: Runner, R: Read, W: Wr
     ensures ran { IfOk result (λ ended. IsProgram (I.has_arguments rt.now) (I.has_control rt.now) (λ arguments.
         is_batch arguments ≡ false → Adds (T.did runner.old) (T.did runner.new) (Ran arguments (R.remaining reader.old)
         (W.contents output.old.inner) (W.contents output.new.inner) is_terminal ended.status ∷ []))) }
+    ensures batch { IfOk result (λ ended. IsProgram (I.has_arguments rt.now) (I.has_control rt.now) (λ arguments.
+        is_batch arguments ≡ true → ended.status ≡ Status.Done → RanBatch (T.did runner.old) (T.did runner.new))) }
     ensures none { OnErr result (Adds (T.did runner.old) (T.did runner.new) []) }
     ensures unwritten { OnErr result (W.contents output.new.inner ≡ W.contents output.old.inner) }
 {

@@ -1,11 +1,13 @@
 //! One command line, and the message on a refusal of which an argument's crate prints only the number.
 
-ghost use Rattle.std.specs.Prelude.{◌≡◌, ◌∷◌, [], false, map};
+ghost use Rattle.std.specs.Prelude.{◌≡◌, ◌∷◌, [], true, false, map};
 ghost use Rattle.cli_follow.specs.Exchanges.{Adds};
 ghost use Rattle.pfx.specs.Arguments.{is_batch};
+ghost use Rattle.pfx.specs.Batches.{RanBatch};
 ghost use Rattle.pfx.specs.Runs.{Ran};
 
-use crate::running::{Runner, run_any, subcommand_of};
+use crate::kind::subcommand_of;
+use crate::running::{Runner, run_any};
 use cli_io::{REFUSALS, Shown, Status, explanation, knock};
 use std::alloc::Global;
 use std::io::{self, Read, Write};
@@ -104,9 +106,11 @@ pub(crate) fn run_line<RT: Files + Net, T: Runner, R: Read, W: Write, E: Write>(
     errors: &mut E,
     is_terminal: bool,
 ) -> Status
-    ensures { is_batch (map (λ a. a.now) arguments.now) ≡ false →
+    ensures run { is_batch (map (λ a. a.now) arguments.now) ≡ false →
         Adds (T.did runner.old) (T.did runner.new) (Ran (map (λ a. a.now) arguments.now) (R.remaining reader.old)
         (W.contents output.old.inner) (W.contents output.new.inner) is_terminal result ∷ []) }
+    ensures batch { is_batch (map (λ a. a.now) arguments.now) ≡ true → result ≡ Status.Done →
+        RanBatch (T.did runner.old) (T.did runner.new) }
 {
     let status = run_any(
         rt,

@@ -10,8 +10,8 @@ use Rattle.pf_node.specs.declared.state.Node.{Node}
 use Rattle.node_loop.specs.Moves.{sent_by}
 use Rattle.pfx_laws.specs.Clusters.{Cluster, ClusterEvent, MayAllHappen, after, begun}
 use Rattle.pfx_laws.specs.Promised.{IsNode}
-use Rattle.pfx_laws.specs.Wires.{Stretch, AreStretches, AreCarried, trace_in, stand, cluster_event, history_of}
-use Rattle.pfx_laws.specs.Carried.{Goes, WiresNeverDiffer, WiresLearnWhatWasAsked, EquallyAppliedOverWires, StandsSo}
+use Rattle.pfx_laws.specs.Wires.{Stretch, AreStretches, AreCarried, trace_in, end_state, cluster_event, history_of}
+use Rattle.pfx_laws.specs.Carried.{Goes, WiresNeverDiffer, WiresLearnWhatWasAsked, EquallyAppliedOverWires, HasState}
 use Rattle.pfx_laws.proofs.Agreeing.{never_differ, learn_what_was_asked, equally_applied}
 use Rattle.pfx_laws.proofs.Carrying.{wires_are_histories, traced_front}
 
@@ -41,8 +41,8 @@ goes_first g xs ys goes = record {
   are = are_first g xs ys goes.are;
   traced = λ m below.
       let s = started nothing_stored in
-      traced_front g m s (stand (xs ++ ys) m) (trace_in m xs) (trace_in m ys)
-      (subst (λ (ds : List TraceEvent). Traced g m s ds (stand (xs ++ ys) m)) (trace_then m xs ys) (goes.traced m below));
+      traced_front g m s (end_state (xs ++ ys) m) (trace_in m xs) (trace_in m ys)
+      (subst (λ (ds : List TraceEvent). Traced g m s ds (end_state (xs ++ ys) m)) (trace_then m xs ys) (goes.traced m below));
   carried = carried_first g xs ys [] goes.carried;
 }
 
@@ -54,11 +54,11 @@ history_then (x ∷ xs) ys =
 
 -- ---- two moments
 
--- at both the history leaves the members as they stand
+-- at both the history leaves the members in the state in which they are
 record Both (g : Group) (before more : List Stretch) : Type 0 where
   may : MayAllHappen g (history_of before ++ history_of more) begun
-  early : (m : ℕ) → (after (history_of before) begun).nodes m ≡ stand before m
-  late : (m : ℕ) → (after (history_of before ++ history_of more) begun).nodes m ≡ stand (before ++ more) m
+  early : (m : ℕ) → (after (history_of before) begun).nodes m ≡ end_state before m
+  late : (m : ℕ) → (after (history_of before ++ history_of more) begun).nodes m ≡ end_state (before ++ more) m
 
 both : (g : Group) (before more : List Stretch) → Goes g (before ++ more) → Both g before more
 both g before more goes =
@@ -84,12 +84,12 @@ wires_learn_what_was_asked g xs goes =
     let learn = learn_what_was_asked g goes.group (history_of xs) all.0 in
     (λ m p e has. learn.0 m p e (ap (λ (s : NodeState Bytes). s.stored.learned p) (all.1 m) ∙ has), learn.1, learn.2)
 
-node_of : {R : Type 0} {G : Ghosts R} (x : Node R G) (c : Cluster) (m : ℕ) (s : NodeState Bytes) → c.nodes m ≡ s → StandsSo x s → IsNode x c m
+node_of : {R : Type 0} {G : Ghosts R} (x : Node R G) (c : Cluster) (m : ℕ) (s : NodeState Bytes) → c.nodes m ≡ s → HasState x s → IsNode x c m
 node_of x c m s is so = record { works = so.works; honest = so.honest; state = is ∙ so.state }
 
 pub equally_applied_over_wires : {R Q : Type 0} (G : Ghosts R) (H : Ghosts Q) → EquallyAppliedOverWires G H
 equally_applied_over_wires G H g before more goes i j x y mine theirs equal =
     let b = both g before more goes in
     equally_applied G H g goes.group (history_of before) (history_of more) b.may i j x y
-    (node_of x (after (history_of before) begun) i (stand before i) (b.early i) mine)
-    (node_of y (after (history_of before ++ history_of more) begun) j (stand (before ++ more) j) (b.late j) theirs) equal
+    (node_of x (after (history_of before) begun) i (end_state before i) (b.early i) mine)
+    (node_of y (after (history_of before ++ history_of more) begun) j (end_state (before ++ more) j) (b.late j) theirs) equal

@@ -173,37 +173,37 @@ trace_may g m (TraceEvent.Opens ∷ ds) c t below l delivered = (
 )
 
 -- its member is in the state after its trace
-stands_here : (g : Group) (m : ℕ) (ds : List TraceEvent) (c : Cluster) (t : NodeState Bytes) → Traced g m (c.nodes m) ds t →
+final_here : (g : Group) (m : ℕ) (ds : List TraceEvent) (c : Cluster) (t : NodeState Bytes) → Traced g m (c.nodes m) ds t →
     (after (map (cluster_event m) ds) c).nodes m ≡ t
-stands_here g m [] c t l = sym l
-stands_here g m (TraceEvent.Calls x u out ∷ ds) c t l =
-    stands_here g m ds (next c (ClusterEvent.Calls m x u out)) t (traced_from g c.nodes m u t ds l.3)
-stands_here g m (TraceEvent.Stops x left ∷ ds) c t l =
-    stands_here g m ds (next c (ClusterEvent.Stops m x left)) t (traced_from g c.nodes m (stopped left) t ds l.3)
-stands_here g m (TraceEvent.Opens ∷ ds) c t l =
-    stands_here g m ds (next c (ClusterEvent.Opens m)) t (traced_from g c.nodes m (started (c.nodes m).stored) t ds l)
+final_here g m [] c t l = sym l
+final_here g m (TraceEvent.Calls x u out ∷ ds) c t l =
+    final_here g m ds (next c (ClusterEvent.Calls m x u out)) t (traced_from g c.nodes m u t ds l.3)
+final_here g m (TraceEvent.Stops x left ∷ ds) c t l =
+    final_here g m ds (next c (ClusterEvent.Stops m x left)) t (traced_from g c.nodes m (stopped left) t ds l.3)
+final_here g m (TraceEvent.Opens ∷ ds) c t l =
+    final_here g m ds (next c (ClusterEvent.Opens m)) t (traced_from g c.nodes m (started (c.nodes m).stored) t ds l)
 
 -- the others are in the states in which they were
-stands_else : (m k : ℕ) (ds : List TraceEvent) (c : Cluster) → nat_eq k m ≡ false → (after (map (cluster_event m) ds) c).nodes k ≡ c.nodes k
-stands_else m k [] c other = refl
-stands_else m k (TraceEvent.Calls x u out ∷ ds) c other =
-    stands_else m k ds (next c (ClusterEvent.Calls m x u out)) other ∙ cond-false (nat_eq k m) u (c.nodes k) other
-stands_else m k (TraceEvent.Stops x left ∷ ds) c other =
-    stands_else m k ds (next c (ClusterEvent.Stops m x left)) other ∙ cond-false (nat_eq k m) (stopped left) (c.nodes k) other
-stands_else m k (TraceEvent.Opens ∷ ds) c other =
-    stands_else m k ds (next c (ClusterEvent.Opens m)) other ∙ cond-false (nat_eq k m) (started (c.nodes m).stored) (c.nodes k) other
+final_else : (m k : ℕ) (ds : List TraceEvent) (c : Cluster) → nat_eq k m ≡ false → (after (map (cluster_event m) ds) c).nodes k ≡ c.nodes k
+final_else m k [] c other = refl
+final_else m k (TraceEvent.Calls x u out ∷ ds) c other =
+    final_else m k ds (next c (ClusterEvent.Calls m x u out)) other ∙ cond-false (nat_eq k m) u (c.nodes k) other
+final_else m k (TraceEvent.Stops x left ∷ ds) c other =
+    final_else m k ds (next c (ClusterEvent.Stops m x left)) other ∙ cond-false (nat_eq k m) (stopped left) (c.nodes k) other
+final_else m k (TraceEvent.Opens ∷ ds) c other =
+    final_else m k ds (next c (ClusterEvent.Opens m)) other ∙ cond-false (nat_eq k m) (started (c.nodes m).stored) (c.nodes k) other
 
 -- the cluster's state, member by member
-abbrev Stands : Cluster → (ℕ → NodeState Bytes) → Type 0
-Stands c nodes = (k : ℕ) → c.nodes k ≡ nodes k
+abbrev FinalStates : Cluster → (ℕ → NodeState Bytes) → Type 0
+FinalStates c nodes = (k : ℕ) → c.nodes k ≡ nodes k
 
-stands_then : (g : Group) (m : ℕ) (ds : List TraceEvent) (c : Cluster) (nodes : ℕ → NodeState Bytes) (t : NodeState Bytes) →
-    Stands c nodes → Traced g m (c.nodes m) ds t → Stands (after (map (cluster_event m) ds) c) (put nodes m t)
-stands_then g m ds c nodes t stands l k =
+final_then : (g : Group) (m : ℕ) (ds : List TraceEvent) (c : Cluster) (nodes : ℕ → NodeState Bytes) (t : NodeState Bytes) →
+    FinalStates c nodes → Traced g m (c.nodes m) ds t → FinalStates (after (map (cluster_event m) ds) c) (put nodes m t)
+final_then g m ds c nodes t final_state l k =
     let d = after (map (cluster_event m) ds) c in
     elim (eqb_tells k m) [
-      | inl is ↦ ap (λ (j : ℕ). d.nodes j) is.1 ∙ stands_here g m ds c t l ∙ sym (cond-true (nat_eq k m) t (nodes k) is.0)
-      | inr other ↦ stands_else m k ds c other.0 ∙ stands k ∙ sym (cond-false (nat_eq k m) t (nodes k) other.0)
+      | inl is ↦ ap (λ (j : ℕ). d.nodes j) is.1 ∙ final_here g m ds c t l ∙ sym (cond-true (nat_eq k m) t (nodes k) is.0)
+      | inr other ↦ final_else m k ds c other.0 ∙ final_state k ∙ sym (cond-false (nat_eq k m) t (nodes k) other.0)
     ]
 
 holds_all : (handed : List (ℕ × Bytes)) (x : ℕ × Bytes) → Among (handed ++ []) x → Among handed x
@@ -330,10 +330,10 @@ no_client : (n m : ℕ) → n ≤ 15 → m < n → m ≢ client
 no_client n m few below is = let is' : m ≡ 255 = is in omega (arith, few, below, is')
 
 goes_on : (g : Group) (xs : List Stretch) (c : Cluster) (nodes : ℕ → NodeState Bytes) (handed : List (ℕ × Bytes)) → g.members ≤ 15 →
-    Stands c nodes → Holds handed c.sent → AreStretches g xs → Live g nodes xs → AreCarried g xs handed →
+    FinalStates c nodes → Holds handed c.sent → AreStretches g xs → Live g nodes xs → AreCarried g xs handed →
     MayAllHappen g (history_of xs) c × ((k : ℕ) → (after (history_of xs) c).nodes k ≡ led_to (nodes k) (trace_in k xs))
-goes_on g [] c nodes handed few stands holds are live carried = (tt, stands)
-goes_on g (x ∷ xs) c nodes handed few stands holds are live carried =
+goes_on g [] c nodes handed few final_state holds are live carried = (tt, final_state)
+goes_on g (x ∷ xs) c nodes handed few final_state holds are live carried =
     let m = x.member in
     let hs = map (cluster_event m) x.trace in
     let then = led_to (nodes m) x.trace in
@@ -341,11 +341,11 @@ goes_on g (x ∷ xs) c nodes handed few stands holds are live carried =
     traced_front g m (nodes m) (led_to (nodes m) (trace_in m (x ∷ xs))) x.trace (trace_in m xs)
     (subst (λ (ds : List TraceEvent). Traced g m (nodes m) ds (led_to (nodes m) (trace_in m (x ∷ xs)))) (own_trace m x xs (eq-eqb m m refl)) (live m are.0)) in
     let from : Traced g m (c.nodes m) x.trace then =
-    subst (λ (z : NodeState Bytes). Traced g m z x.trace then) (sym (stands m)) mine in
+    subst (λ (z : NodeState Bytes). Traced g m z x.trace then) (sym (final_state m)) mine in
     let other = no_client g.members m few are.0 in
     let delivered = all_delivered g handed c.sent m x.gave x.trace other holds carried.0 are.1 in
     let rest = goes_on g xs (after hs c) (put_on nodes x) (handed ++ sent_by x.trace) few
-    (stands_then g m x.trace c nodes then stands from) (holds_after m x.trace c handed holds) are.2 (live_on g nodes x xs live) carried.1 in (
+    (final_then g m x.trace c nodes then final_state from) (holds_after m x.trace c handed holds) are.2 (live_on g nodes x xs live) carried.1 in (
       may_then g hs (history_of xs) c (trace_may g m x.trace c then are.0 from delivered) rest.0,
       λ k. ap (λ (d : Cluster). d.nodes k) (after_both hs (history_of xs) c) ∙ rest.1 k ∙ led_on nodes x xs k,
     )

@@ -17,7 +17,7 @@ use Rattle.px_replica.specs.Traces.TraceEvent.{Calls, Stops, Opens}
 use Rattle.px_replica.specs.Made.{same, answer, LeavesOne}
 use Rattle.node_loop.specs.Moves.{LeavesThere}
 use Rattle.pfx_laws.specs.Carried.{HasLearned}
-use Rattle.pfx_laws.specs.Members.{RunEvent, Run, AreRuns, EverLearned, stands_after}
+use Rattle.pfx_laws.specs.Members.{RunEvent, Run, AreRuns, EverLearned, final_state_from}
 
 -- the record has the entry as learned
 abbrev Has : Record Bytes → (position : ℕ) → Entry Bytes → Type 0
@@ -63,7 +63,7 @@ KeepsLearned {K} {X} Is = (r : Run K) (own : List X) (p : ℕ) (e : Entry Bytes)
 
 module _ {K X : Type 0} (g : Group) (m : ℕ) (Is : Run K → List X → Type 0) (keeps : KeepsLearned Is) (p : ℕ) (e : Entry Bytes) where
   then_learned : (IsLeft : Record Bytes → Type 0) (s : NodeState Bytes) (rs : List (Run K)) (events : List (RunEvent K X)) →
-      ((d : Record Bytes) → IsLeft d → Has d p e) → AreRuns g m Is IsLeft rs events → HasLearned s p e → HasLearned (stands_after s rs) p e
+      ((d : Record Bytes) → IsLeft d → Has d p e) → AreRuns g m Is IsLeft rs events → HasLearned s p e → HasLearned (final_state_from s rs) p e
   then_learned IsLeft s [] events kept are h = h
   then_learned IsLeft s (r ∷ rs) events kept (left, own, later, is, all, more) h =
       let end = keeps r own p e is (kept r.first left) in
@@ -72,7 +72,7 @@ module _ {K X : Type 0} (g : Group) (m : ℕ) (Is : Run K → List X → Type 0)
 
   -- what it had as learned in the end of a run it has in the end of the last
   pub ever_learned : (IsLeft : Record Bytes → Type 0) (s : NodeState Bytes) (rs : List (Run K)) (events : List (RunEvent K X)) →
-      AreRuns g m Is IsLeft rs events → EverLearned rs p e → HasLearned (stands_after s rs) p e
+      AreRuns g m Is IsLeft rs events → EverLearned rs p e → HasLearned (final_state_from s rs) p e
   ever_learned IsLeft s [] events are (r, among, h) = absurd among
   ever_learned IsLeft s (r ∷ rs) events (left, own, later, is, all, more) (t, inl same, h) =
       let end : HasLearned r.end p e = ap (λ (x : Run K). x.end.stored.learned p) same ∙ h in

@@ -12,9 +12,9 @@ use Rattle.pf_eval.specs.Verdicts.{judgement}
 use Rattle.pf_node.specs.Applied.{entry_applied, after}
 use Rattle.pf_node.specs.Nodes.{applied_of, config_of}
 use Rattle.pf_node.specs.declared.state.Node.{Node}
-use Rattle.pfx_laws.specs.Wires.{Stretch, stand}
-use Rattle.pfx_laws.specs.Carried.{Goes, HasLearned, StandsSo}
-use Rattle.pfx_laws.specs.Members.{Runs, EverLearned, stands, InStretches, NeverDiffer, LearnWhatWasAsked, EquallyApplied}
+use Rattle.pfx_laws.specs.Wires.{Stretch, end_state}
+use Rattle.pfx_laws.specs.Carried.{Goes, HasLearned, HasState}
+use Rattle.pfx_laws.specs.Members.{Runs, EverLearned, final_state, InStretches, NeverDiffer, LearnWhatWasAsked, EquallyApplied}
 use Rattle.pfx_laws.proofs.Carried.{wires_never_differ, wires_learn_what_was_asked}
 
 -- and no stretches more
@@ -23,13 +23,13 @@ and_none g runs xs n = subst (λ (ys : List Stretch). Goes g ys) (sym (append-ni
 
 -- what a member ever had as learned it has in the end
 abbrev pub AllLearned : {K : Type 0} → Group → Runs K → Type 0
-AllLearned g runs = (m p : ℕ) (e : Entry Bytes) → m < g.members → EverLearned (runs m) p e → HasLearned (stands runs m) p e
+AllLearned g runs = (m p : ℕ) (e : Entry Bytes) → m < g.members → EverLearned (runs m) p e → HasLearned (final_state runs m) p e
 
 pub never_differ : {K : Type 0} (g : Group) (runs : Runs K) (xs : List Stretch) → InStretches g runs xs → AllLearned g runs → NeverDiffer g runs
 never_differ g runs xs n all i j p q e f mine theirs has also =
     wires_never_differ g xs [] (and_none g runs xs n) i j p q e f
     (ap (λ (s : NodeState Bytes). s.stored.learned p) (n.leaves i mine) ∙ all i p e mine has)
-    (ap (λ (ys : List Stretch). (stand ys j).stored.learned q) (append-nil xs)
+    (ap (λ (ys : List Stretch). (end_state ys j).stored.learned q) (append-nil xs)
     ∙ ap (λ (s : NodeState Bytes). s.stored.learned q) (n.leaves j theirs) ∙ all j q f theirs also)
 
 pub learn_what_was_asked : {K : Type 0} (g : Group) (runs : Runs K) (xs : List Stretch) → InStretches g runs xs → AllLearned g runs →
@@ -62,7 +62,7 @@ one_configuration l m one zero c d a b = cc
 one_configuration l m one (suc k) c d a b = one_step (after l k) (after m k) (l k) (m k) c d (one_configuration l m one k) (one k) a b
 
 -- a node's configuration is that of what it has as learned
-configured : {R : Type 0} {G : Ghosts R} (x : Node R G) (s : NodeState Bytes) → StandsSo x s → after s.stored.learned (applied_of x) ≡ Some (config_of x)
+configured : {R : Type 0} {G : Ghosts R} (x : Node R G) (s : NodeState Bytes) → HasState x s → after s.stored.learned (applied_of x) ≡ Some (config_of x)
 configured x s so =
     ap (λ (z : NodeState Bytes). after z.stored.learned (applied_of x)) so.state
     ∙ ap (λ (l : Log Bytes). after l (applied_of x)) (x.replica.agrees so.works so.honest)

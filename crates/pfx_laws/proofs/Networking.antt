@@ -29,7 +29,7 @@ use Rattle.node_loop.proofs.Runs.{traced_then}
 use Rattle.node_control.specs.Sockets.{Ran}
 use Rattle.pfx_laws.specs.Promised.{IsGroup}
 use Rattle.pfx_laws.specs.Wires.{Stretch, AreStretches, IsCarried, AreCarried, trace_in, led_to}
-use Rattle.pfx_laws.specs.Members.{RunEvent, Starts, During, Run, AreRuns, IsEmpty, events_at, stands, stands_after, IsTrace, IsLaterTrace, InStretches}
+use Rattle.pfx_laws.specs.Members.{RunEvent, Starts, During, Run, AreRuns, IsEmpty, events_at, final_state, final_state_from, IsTrace, IsLaterTrace, InStretches}
 use Rattle.pfx_laws.specs.Sockets.{WasHanded}
 use Rattle.pfx_laws.proofs.Carrying.{traced_to}
 use Rattle.pfx_laws.proofs.Lifting.{during, during_append, below_or}
@@ -681,7 +681,7 @@ module _ {K : Type 0} (g : Group) (m : ℕ) where
     acts : List (Act K)
     happens : happen acts ≡ events
     sound : SoundAfter acts unanswered
-    traced : Traced g m s (trace_of_acts acts) (stands_after s runs)
+    traced : Traced g m s (trace_of_acts acts) (final_state_from s runs)
     happened : IsLaterTrace runs (trace_of_acts acts)
 
   later : (s : NodeState Bytes) (unanswered : List Bytes) (runs : List (Run K)) (events : List (RunEvent K WireEvent)) → s.is_up ≡ true →
@@ -703,7 +703,7 @@ module _ {K : Type 0} (g : Group) (m : ℕ) where
           refl,
           run_sound r own ran l.acts l.sound came sent,
         );
-        traced = (up, left.1, left.3, run_traces r own ran l.acts (stands_after r.end rs) l.traced);
+        traced = (up, left.1, left.3, run_traces r own ran l.acts (final_state_from r.end rs) l.traced);
         happened = (x, trace_of_acts l.acts, ap (λ (ds : List TraceEvent). Stops x r.first ∷ (Opens ∷ ds)) (run_leads r own ran l.acts), l.happened);
       }
 
@@ -712,7 +712,7 @@ module _ {K : Type 0} (g : Group) (m : ℕ) where
     pub acts : List (Act K)
     pub happens : happen acts ≡ events
     pub sound : AreSound g m acts [] []
-    pub traced : Traced g m (started nothing_stored) (trace_of_acts acts) (stands_after (started nothing_stored) runs)
+    pub traced : Traced g m (started nothing_stored) (trace_of_acts acts) (final_state_from (started nothing_stored) runs)
     pub happened : IsTrace runs (trace_of_acts acts)
 
   acted : (runs : List (Run K)) (events : List (RunEvent K WireEvent)) → AreRuns g m (IsRun g m) IsEmpty runs events → Acted runs events
@@ -725,8 +725,8 @@ module _ {K : Type 0} (g : Group) (m : ℕ) where
         happens = ap (λ (es : List (RunEvent K WireEvent)). Starts r.key ∷ es)
             (run_happens r own ran l.acts ∙ ap (λ (es : List (RunEvent K WireEvent)). during own ++ es) l.happens) ∙ sym all;
         sound = (none_brought g m [], refl, run_sound r own ran l.acts l.sound [] []);
-        traced = subst (λ (d : Record Bytes). Traced g m (started d) (trace_of_acts acts) (stands_after r.end rs)) empty
-            (run_traces r own ran l.acts (stands_after r.end rs) l.traced);
+        traced = subst (λ (d : Record Bytes). Traced g m (started d) (trace_of_acts acts) (final_state_from r.end rs)) empty
+            (run_traces r own ran l.acts (final_state_from r.end rs) l.traced);
         happened = (trace_of_acts l.acts, run_leads r own ran l.acts, l.happened);
       }
 
@@ -754,9 +754,9 @@ module _ {K : Type 0} (g : Group) (network : List (ℕ × RunEvent K WireEvent))
   rest_at m (inr above) below = absurd (omega (arith, above, below))
 
   traced_at : (m : ℕ) (w : (m < g.members) ⊎ (g.members ≤ m)) → m < g.members → (ds : List TraceEvent) → ds ≡ trace_of_acts (plan_of m w) →
-      Traced g m (started nothing_stored) ds (stands runs m) × IsTrace (runs m) ds
+      Traced g m (started nothing_stored) ds (final_state runs m) × IsTrace (runs m) ds
   traced_at m (inl b) below ds e = (
-    subst (λ (xs : List TraceEvent). Traced g m (started nothing_stored) xs (stands runs m)) (sym e) (acted_at m b).traced,
+    subst (λ (xs : List TraceEvent). Traced g m (started nothing_stored) xs (final_state runs m)) (sym e) (acted_at m b).traced,
     subst (λ (xs : List TraceEvent). IsTrace (runs m) xs) (sym e) (acted_at m b).happened,
   )
   traced_at m (inr above) below ds e = absurd (omega (arith, above, below))
@@ -772,10 +772,10 @@ module _ {K : Type 0} (g : Group) (network : List (ℕ × RunEvent K WireEvent))
           goes = record {
             group = few;
             are = w.are;
-            traced = λ m below. as_led g m (started nothing_stored) (stands runs m) (trace_in m w.stretches) (traced m below).0;
+            traced = λ m below. as_led g m (started nothing_stored) (final_state runs m) (trace_in m w.stretches) (traced m below).0;
             carried = w.carried;
           };
           happened = λ m below. (traced m below).1;
-          leaves = λ m below. sym (traced_to g m (started nothing_stored) (stands runs m) (trace_in m w.stretches) (traced m below).0);
+          leaves = λ m below. sym (traced_to g m (started nothing_stored) (final_state runs m) (trace_in m w.stretches) (traced m below).0);
         },
       )

@@ -12,7 +12,7 @@ use Rattle.px_replica.specs.Traces.{TraceEvent, Traced, stopped}
 use Rattle.px_replica.specs.Traces.TraceEvent.{Stops}
 use Rattle.px_replica.specs.Replicas.{records_of, membership_of, state_in}
 use Rattle.px_replica.specs.declared.fault.NodeFault.{NodeFault}
-use Rattle.node_loop.specs.Turns.{Stand}
+use Rattle.node_loop.specs.Turns.{LoopState}
 use Rattle.node_loop.specs.Resending.{came_in}
 use Rattle.node_loop.specs.Moves.{Heard, message_in, messages_of, AreBrought, HasTrace}
 use Rattle.node_loop.specs.Moves.{Move, Does, Passes, Repeats, trace_of, came_by, IsBrought, AreMoves}
@@ -45,7 +45,7 @@ moves_brought g me hears (Does came i t out ∷ ms) before kept a =
     one_brings g me (Some c) Ticks b = absurd b
     one_brings g me (Some c) (Comes sender message) b = one_brought g me c sender message b
 
-whole : {R : Type 0} {G : Ghosts R} (x z : Stand G) (a : Option NodeFault) (l : HasTrace x z a) →
+whole : {R : Type 0} {G : Ghosts R} (x z : LoopState G) (a : Option NodeFault) (l : HasTrace x z a) →
     (membership_of x.replica).me < (membership_of x.replica).members →
     IsStretch (group (membership_of x.replica)) (state_in x.replica) (stretch_of x z a l)
 whole x z a l below =
@@ -57,7 +57,7 @@ whole x z a l below =
       brought = moves_brought g me x.hears_asks l.moves x.requests x.kept l.are;
     }
 
-cut : {R : Type 0} {G : Ghosts R} (x z : Stand G) (a : Option NodeFault) (l : HasTrace x z a) →
+cut : {R : Type 0} {G : Ghosts R} (x z : LoopState G) (a : Option NodeFault) (l : HasTrace x z a) →
     (membership_of x.replica).me < (membership_of x.replica).members → (left : Record Bytes) → G.may_leave (records_of z.replica) left →
     (input : Input Bytes) × IsStretch (group (membership_of x.replica)) (state_in x.replica) (stretch_to x z a l input left)
 cut x z a l below left may =
@@ -91,7 +91,7 @@ openings_are_stretches g s x i = record { below = i.below; traced = i.traced; br
 
 -- ---- members side by side
 
-new_traced : {R : Type 0} {G : Ghosts R} (g : Group) (m : ℕ) (x z : Stand G) (a : Option NodeFault) (l : HasTrace x z a) → IsNew g m x →
+new_traced : {R : Type 0} {G : Ghosts R} (g : Group) (m : ℕ) (x z : LoopState G) (a : Option NodeFault) (l : HasTrace x z a) → IsNew g m x →
     Traced g m (started nothing_stored) (trace_of l.moves) l.then
 new_traced {R} {G} g m x z a l new =
     subst (λ (s : NodeState Bytes). Traced g m s (trace_of l.moves) l.then) new.empty

@@ -13,7 +13,7 @@ use Rattle.pf_node.specs.declared.state.Node.{Node}
 use Rattle.pf_node.specs.Nodes.{applied_of, config_of, has_failed, records_of, state_in}
 use Rattle.pfx_laws.specs.Clusters.{MayAllHappen, after, begun}
 use Rattle.pfx_laws.specs.Promised.{IsGroup}
-use Rattle.pfx_laws.specs.Wires.{Stretch, AreStretches, AreCarried, trace_in, stand, history_of}
+use Rattle.pfx_laws.specs.Wires.{Stretch, AreStretches, AreCarried, trace_in, end_state, history_of}
 
 -- These are stretches of members' traces in a cluster, in this order. The events of each member in its own, one after
 -- another, are steps of the model from an empty record on. And the network gave a member no datagram but those that had
@@ -21,7 +21,8 @@ use Rattle.pfx_laws.specs.Wires.{Stretch, AreStretches, AreCarried, trace_in, st
 pub record Goes (g : Group) (stretches : List Stretch) : Type 0 where
   pub group : IsGroup g
   pub are : AreStretches g stretches
-  pub traced : (m : ℕ) → m < g.members → Traced g m (started nothing_stored) (trace_in m stretches) (stand stretches m)
+  pub traced : (m : ℕ) → m < g.members → Traced g m (started nothing_stored) (trace_in m stretches)
+      (end_state stretches m)
   pub carried : AreCarried g stretches []
 
 -- the members' events are a history of the cluster, which leaves each of them in the state after its stretches
@@ -29,7 +30,7 @@ abbrev pub WiresAreHistories : Type 0
 WiresAreHistories =
     (g : Group) (stretches : List Stretch) → Goes g stretches →
     MayAllHappen g (history_of stretches) begun ×
-    ((m : ℕ) → (after (history_of stretches) begun).nodes m ≡ stand stretches m)
+    ((m : ℕ) → (after (history_of stretches) begun).nodes m ≡ end_state stretches m)
 
 -- a member in this state has the entry as learned
 abbrev pub HasLearned : NodeState Bytes → (position : ℕ) → Entry Bytes → Type 0
@@ -40,7 +41,8 @@ HasLearned s p e = s.stored.learned p ≡ Some e
 abbrev pub WiresNeverDiffer : Type 0
 WiresNeverDiffer =
     (g : Group) (before more : List Stretch) → Goes g (before ++ more) →
-    (i j p q : ℕ) (e f : Entry Bytes) → HasLearned (stand before i) p e → HasLearned (stand (before ++ more) j) q f →
+    (i j p q : ℕ) (e f : Entry Bytes) → HasLearned (end_state before i) p e →
+    HasLearned (end_state (before ++ more) j) q f →
     (p ≡ q → e ≡ f) × (e ≡ f → p ≡ q)
 
 -- the entries whose commands were asked of members and accepted
@@ -52,13 +54,13 @@ asked_in stretches = (after (history_of stretches) begun).asked
 abbrev pub WiresLearnWhatWasAsked : Type 0
 WiresLearnWhatWasAsked =
     (g : Group) (stretches : List Stretch) → Goes g stretches →
-    ((m p : ℕ) (e : Entry Bytes) → HasLearned (stand stretches m) p e → Among (asked_in stretches) e) ×
+    ((m p : ℕ) (e : Entry Bytes) → HasLearned (end_state stretches m) p e → Among (asked_in stretches) e) ×
     NoneTwice (asked_in stretches) ×
     ((e f : Entry Bytes) → Among (asked_in stretches) e → Among (asked_in stretches) f →
     e.origin ≡ f.origin → e.number ≡ f.number → e ≡ f)
 
 -- the node is the member in this state; its record is honest: it returns what was written, and nobody else writes
-pub record StandsSo {R : Type 0} {G : Ghosts R} (x : Node R G) (s : NodeState Bytes) : Type 0 where
+pub record HasState {R : Type 0} {G : Ghosts R} (x : Node R G) (s : NodeState Bytes) : Type 0 where
   pub works : has_failed x ≡ false
   pub honest : G.is_honest (records_of x)
   pub state : s ≡ state_in x
@@ -69,5 +71,5 @@ abbrev pub EquallyAppliedOverWires : {R Q : Type 0} → Ghosts R → Ghosts Q �
 EquallyAppliedOverWires {R} {Q} G H =
     (g : Group) (before more : List Stretch) → Goes g (before ++ more) →
     (i j : ℕ) (x : Node R G) (y : Node Q H) →
-    StandsSo x (stand before i) → StandsSo y (stand (before ++ more) j) → applied_of x ≡ applied_of y →
+    HasState x (end_state before i) → HasState y (end_state (before ++ more) j) → applied_of x ≡ applied_of y →
     (config_of x ≡ config_of y) × ((p : Packet) → judgement (config_of x) p ≡ judgement (config_of y) p)

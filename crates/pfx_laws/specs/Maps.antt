@@ -1,4 +1,4 @@
--- A configuration as a map from paths: how the list that stands for it is written.
+-- A configuration as a map from paths: how the list that represents it is written.
 use Rattle.std.specs.Prelude.{◌≡◌, ◌≤◌, true, false, ◌&&◌, List, [], ◌∷◌, length, nat_le, Result, Ok, Err}
 use Rattle.std.specs.List.{list_all, AllByRecursion}
 use Rattle.pf_rules.specs.Words.{is_anchor_text}

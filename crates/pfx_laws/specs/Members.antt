@@ -13,8 +13,8 @@ use Rattle.pf_eval.specs.Verdicts.{judgement}
 use Rattle.pf_eval.specs.declared.packet.Packet.{Packet}
 use Rattle.pf_node.specs.declared.state.Node.{Node}
 use Rattle.pf_node.specs.Nodes.{applied_of, config_of}
-use Rattle.pfx_laws.specs.Wires.{Stretch, trace_in, stand}
-use Rattle.pfx_laws.specs.Carried.{Goes, HasLearned, StandsSo, asked_in}
+use Rattle.pfx_laws.specs.Wires.{Stretch, trace_in, end_state}
+use Rattle.pfx_laws.specs.Carried.{Goes, HasLearned, HasState, asked_in}
 
 -- ---- runs
 
@@ -56,12 +56,12 @@ abbrev pub IsEmpty : Record Bytes → Type 0
 IsEmpty d = d ≡ nothing_stored
 
 -- a member's state after runs; before its first one it has a new store
-abbrev pub stands_after : {K : Type 0} → NodeState Bytes → List (Run K) → NodeState Bytes
-stands_after s [] = s
-stands_after s (r ∷ rs) = stands_after r.end rs
+abbrev pub final_state_from : {K : Type 0} → NodeState Bytes → List (Run K) → NodeState Bytes
+final_state_from s [] = s
+final_state_from s (r ∷ rs) = final_state_from r.end rs
 
-abbrev pub stands : {K : Type 0} → Runs K → (m : ℕ) → NodeState Bytes
-stands runs m = stands_after (started nothing_stored) (runs m)
+abbrev pub final_state : {K : Type 0} → Runs K → (m : ℕ) → NodeState Bytes
+final_state runs m = final_state_from (started nothing_stored) (runs m)
 
 -- a member's trace in runs behind another one: before each a stop, at some moment of a call, and the opening of what
 -- that left
@@ -83,7 +83,7 @@ IsTrace (r ∷ rs) trace = (later : List TraceEvent) × (trace ≡ r.trace ++ la
 pub record InStretches {K : Type 0} (g : Group) (runs : Runs K) (stretches : List Stretch) : Type 0 where
   pub goes : Goes g stretches
   pub happened : (m : ℕ) → m < g.members → IsTrace (runs m) (trace_in m stretches)
-  pub leaves : (m : ℕ) → m < g.members → stand stretches m ≡ stands runs m
+  pub leaves : (m : ℕ) → m < g.members → end_state stretches m ≡ final_state runs m
 
 -- in the end of one of its runs a member had the entry as learned
 abbrev pub EverLearned : {K : Type 0} → List (Run K) → (position : ℕ) → Entry Bytes → Type 0
@@ -103,13 +103,13 @@ LearnWhatWasAsked g runs stretches =
     NoneTwice (asked_in stretches)
 
 -- the node is a member in its state at the end of one of its runs
-abbrev pub EverStood : {K R : Type 0} {G : Ghosts R} → Node R G → List (Run K) → Type 0
-EverStood {K} {R} {G} x rs = (r : Run K) × Among rs r × StandsSo x r.end
+abbrev pub EverHad : {K R : Type 0} {G : Ghosts R} → Node R G → List (Run K) → Type 0
+EverHad {K} {R} {G} x rs = (r : Run K) × Among rs r × HasState x r.end
 
 -- Two nodes that are members, and have applied equally many positions, have one configuration, and give every packet
 -- one verdict.
 abbrev pub EquallyApplied : {R Q K : Type 0} → Ghosts R → Ghosts Q → Group → Runs K → Type 0
 EquallyApplied {R} {Q} {K} G H g runs =
     (i j : ℕ) (x : Node R G) (y : Node Q H) → i < g.members → j < g.members →
-    EverStood x (runs i) → EverStood y (runs j) → applied_of x ≡ applied_of y →
+    EverHad x (runs i) → EverHad y (runs j) → applied_of x ≡ applied_of y →
     (config_of x ≡ config_of y) × ((p : Packet) → judgement (config_of x) p ≡ judgement (config_of y) p)

@@ -9,11 +9,11 @@ use Rattle.px_replica.specs.Traces.{Traced}
 use Rattle.px_replica.specs.Traces.TraceEvent.{Stops, Opens}
 use Rattle.px_replica.specs.Replicas.{records_of, membership_of, state_in}
 use Rattle.px_replica.specs.declared.fault.NodeFault.{NodeFault}
-use Rattle.node_loop.specs.Turns.{Stand}
+use Rattle.node_loop.specs.Turns.{LoopState}
 use Rattle.px_transport.specs.Wires.{given_in}
 use Rattle.node_loop.specs.Moves.{messages_of, trace_of, came_by, AreBrought, HasTrace}
 use Rattle.pfx_laws.specs.Promised.{IsGroup}
-use Rattle.pfx_laws.specs.Wires.{Stretch, AreStretches, AreCarried, trace_in, led_to, stand}
+use Rattle.pfx_laws.specs.Wires.{Stretch, AreStretches, AreCarried, trace_in, led_to, end_state}
 use Rattle.pfx_laws.specs.Carried.{Goes}
 
 -- ---- from a trace to a stretch
@@ -26,7 +26,7 @@ pub record IsStretch (g : Group) (from : NodeState Bytes) (x : Stretch) : Type 0
   pub brought : AreBrought g x.member x.gave (messages_of x.trace)
 
 -- the stretch of its trace, up to the call that failed, if one did
-abbrev pub stretch_of : {R : Type 0} {G : Ghosts R} (x z : Stand G) (answered : Option NodeFault) →
+abbrev pub stretch_of : {R : Type 0} {G : Ghosts R} (x z : LoopState G) (answered : Option NodeFault) →
     HasTrace x z answered → Stretch
 stretch_of x z answered l = record {
   member = (membership_of x.replica).me;
@@ -35,7 +35,7 @@ stretch_of x z answered l = record {
 }
 
 -- the stretch of its trace in which it stopped, in a call for this input
-abbrev pub stretch_to : {R : Type 0} {G : Ghosts R} (x z : Stand G) (answered : Option NodeFault) →
+abbrev pub stretch_to : {R : Type 0} {G : Ghosts R} (x z : LoopState G) (answered : Option NodeFault) →
     HasTrace x z answered → Input Bytes → Record Bytes → Stretch
 stretch_to x z answered l input left = record {
   member = (membership_of x.replica).me;
@@ -47,7 +47,7 @@ stretch_to x z answered l input left = record {
 -- of its record, there is a stretch of it that ends with that stop.
 abbrev pub TracesAreStretches : {R : Type 0} → Ghosts R → Type 0
 TracesAreStretches G =
-    (x z : Stand G) (answered : Option NodeFault) (l : HasTrace x z answered) →
+    (x z : LoopState G) (answered : Option NodeFault) (l : HasTrace x z answered) →
     (membership_of x.replica).me < (membership_of x.replica).members →
     IsStretch (group (membership_of x.replica)) (state_in x.replica) (stretch_of x z answered l) ×
     (l.then ≡ led_to (state_in x.replica) (trace_of l.moves)) ×
@@ -67,7 +67,7 @@ OpeningsAreStretches =
 -- ---- members that run side by side
 
 -- the member of this number, in this group, which was opened with an empty record
-pub record IsNew {R : Type 0} {G : Ghosts R} (g : Group) (m : ℕ) (x : Stand G) : Type 0 where
+pub record IsNew {R : Type 0} {G : Ghosts R} (g : Group) (m : ℕ) (x : LoopState G) : Type 0 where
   pub cluster : group (membership_of x.replica) ≡ g
   pub me : (membership_of x.replica).me ≡ m
   pub empty : state_in x.replica ≡ started nothing_stored
@@ -77,9 +77,9 @@ pub record IsNew {R : Type 0} {G : Ghosts R} (g : Group) (m : ℕ) (x : Stand G)
 -- Then the promises for stretches hold, and the state of each member is the one after its stretches.
 abbrev pub TracesGo : {R : Type 0} → Ghosts R → Type 0
 TracesGo G =
-    (g : Group) → IsGroup g → (from to : (m : ℕ) → Stand G) (answered : (m : ℕ) → Option NodeFault)
+    (g : Group) → IsGroup g → (from to : (m : ℕ) → LoopState G) (answered : (m : ℕ) → Option NodeFault)
     (all_traced : (m : ℕ) → m < g.members → HasTrace (from m) (to m) (answered m)) →
     ((m : ℕ) → m < g.members → IsNew g m (from m)) →
     (stretches : List Stretch) → ((m : ℕ) (it : m < g.members) → trace_in m stretches ≡ trace_of (all_traced m it).moves) →
     AreStretches g stretches → AreCarried g stretches [] →
-    Goes g stretches × ((m : ℕ) (it : m < g.members) → stand stretches m ≡ (all_traced m it).then)
+    Goes g stretches × ((m : ℕ) (it : m < g.members) → end_state stretches m ≡ (all_traced m it).then)

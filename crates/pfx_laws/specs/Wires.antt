@@ -29,8 +29,8 @@ led_to s (TraceEvent.Stops x left ∷ ds) = led_to (stopped left) ds
 led_to s (TraceEvent.Opens ∷ ds) = led_to (started s.stored) ds
 
 -- a member's state after these stretches, of one that began with an empty record
-abbrev pub stand : List Stretch → (member : ℕ) → NodeState Bytes
-stand stretches m = led_to (started nothing_stored) (trace_in m stretches)
+abbrev pub end_state : List Stretch → (member : ℕ) → NodeState Bytes
+end_state stretches m = led_to (started nothing_stored) (trace_in m stretches)
 
 -- each stretch is one of a member, and each message that it received there its wire gave it there, in a datagram
 abbrev pub AreStretches : Group → List Stretch → Type 0

@@ -1,5 +1,5 @@
 -- What a core stands for, and what its plans and their settling are: the terms of the public contracts.
-use Rattle.std.specs.Prelude.{◌≡◌, ℕ, ◌<◌, Option, Some, None, option_map, nat_eq}
+use Rattle.std.specs.Prelude.{◌≡◌, ℕ, Bool, ◌<◌, Option, Some, None, is_some, option_map, nat_eq}
 use Rattle.std.specs.Cmp.Lexicographic.{pointwise}
 use Rattle.px_model.specs.Node as node
 use Rattle.px_model.specs.Node.{Volatile, Log, Answer}
@@ -37,6 +37,10 @@ state_of core = state_in core
 -- a member that starts with an empty record
 abbrev pub empty_state : (members me : ℕ) → State
 empty_state n m = record { members = n; me = m; learned = λ p. None; volatile = nothing_volatile }
+
+-- it has a lead
+abbrev pub has_lead : Core → Bool
+has_lead core = is_some core.proposer.lead
 
 -- ---- plans
 

@@ -1,5 +1,5 @@
 //! What waits, and the clock that begins proposals for it (Paxos Made Simple, 2.2, phase 1a; section 3 for the lead).
-ghost use Rattle.std.specs.Prelude.{◌≡◌, ℕ, ◌+◌, ◌*◌, ◌^◌, ◌<◌, ◌≤◌, IfOk, option_map};
+ghost use Rattle.std.specs.Prelude.{◌≡◌, ◌≢◌, Err, false, ℕ, ◌+◌, ◌*◌, ◌^◌, ◌<◌, ◌≤◌, IfOk, option_map};
 ghost use Rattle.std.specs.Prelude.{map, Some, None, length};
 ghost use Rattle.std.specs.Vec.{vec_len};
 ghost use Rattle.px_model.specs.Node.{Volatile, Log, Answer};
@@ -9,7 +9,7 @@ ghost use Rattle.px_model.specs.Entries.{entry_of, view_of};
 ghost use Rattle.px_core.specs.Logs.{learned_in};
 ghost use Rattle.px_core.specs.declared.state.Core.{Core};
 ghost use Rattle.px_model.specs.Seen.{meta_of};
-ghost use Rattle.px_core.specs.Planning.{IsFor};
+ghost use Rattle.px_core.specs.Planning.{IsFor, has_lead};
 ghost use Rattle.px_core.specs.inner.Planning.{IsAnswer};
 ghost use Rattle.px_core.specs.Seen.{front_in, volatile_in, log_in, attempt_of, lead_of};
 ghost use Rattle.px_core.specs.inner.Seen.{plan_of, plan_in};
@@ -63,6 +63,7 @@ impl Core {
         ensures room { IfOk result (λ plan. IsFor plan self.now) }
         ensures step { IsAnswer self.now result
             (new_round self.now.members self.now.me (meta_of meta.now) (front_in self.now) (volatile_in self.now)) }
+        ensures enough { result ≢ Err CoreFault.Memory }
     {
         let highest = if meta.round < self.proposer.seen {
             self.proposer.seen
@@ -103,6 +104,7 @@ impl Core {
         ensures step { IsAnswer self.now result
             (propose self.now.members self.now.me (meta_of meta.now) (front_in self.now) (volatile_in self.now)
             (entry_of entry.now) (option_map lead_of self.now.proposer.lead)) }
+        ensures enough { has_lead self.now ≡ false → result ≢ Err CoreFault.Memory }
     {
         match self.proposer.lead {
             Some(lead) => {
@@ -124,6 +126,7 @@ impl Core {
         ensures room { IfOk result (λ plan. IsFor plan self.now) }
         ensures step { IsAnswer self.now result
             (on_tick self.now.members self.now.me (meta_of meta.now) (log_in self.now) (volatile_in self.now)) }
+        ensures enough { has_lead self.now ≡ false → result ≢ Err CoreFault.Memory }
     {
         let position = self.learner.front();
         if position == POSITIONS {

@@ -9,7 +9,7 @@ pub const POSITIONS: u32 = 1_000_000;
 /// Votes are kept at that many positions, from the front on.
 pub const WINDOW: u32 = 64;
 
-/// So many entries wait at most.
+/// How many entries wait at most.
 pub const WAITING: usize = 64;
 
 /// Rounds and numbers are below 2^48.

@@ -1,12 +1,12 @@
 //! One step of a member: what it gives, before any of it is done.
-ghost use Rattle.std.specs.Prelude.{◌≡◌, ◌<◌, IfOk, OnOk, MatchResult, length, nat_eq, Bool};
+ghost use Rattle.std.specs.Prelude.{◌≡◌, ◌≢◌, Err, false, ◌<◌, IfOk, OnOk, MatchResult, length, nat_eq, Bool};
 ghost use Rattle.std.specs.Cmp.Lexicographic.{pointwise};
 ghost use Rattle.px_model.specs.Node.Answer.{Planned};
 ghost use Rattle.px_model.specs.Step.{on_message};
 ghost use Rattle.px_model.specs.Spelling.{Bytes};
 ghost use Rattle.px_model.specs.Seen.{meta_of, slot_of, come_of};
 ghost use Rattle.px_core.specs.Planning.{state_in, state_of, planned, step_with, IsFor, IsRefusal, MayCome};
-ghost use Rattle.px_core.specs.Planning.{MayComeFrom};
+ghost use Rattle.px_core.specs.Planning.{MayComeFrom, has_lead};
 ghost use Rattle.px_core.specs.Fitting.{CoreFits, HandedFits, PlanFits};
 ghost use Rattle.px_core.specs.Seen.{volatile_in, log_in};
 ghost use Rattle.px_core.specs.inner.Seen.{plan_in, RoomToLearn};
@@ -105,6 +105,7 @@ impl Core {
             (λ fault. IsRefusal fault (step_with (state_in self.old) meta.now slot.now top event.now)) }
         ensures room { IfOk result (λ plan. IsFor plan self.new) }
         ensures state { state_in self.new ≡ state_in self.old }
+        ensures enough { event.now ≡ Event.Ticks → has_lead self.old ≡ false → result ≢ Err CoreFault.Memory }
     {
         match event {
             Event::Asks { entry } => self.ask(meta, entry),
@@ -149,6 +150,8 @@ impl Core {
         ensures fits { (test : Bytes → Bool) → CoreFits test (state_of self.old) →
             HandedFits test (state_of self.old) meta.now slot.now top event.now →
             IfOk result (λ plan. PlanFits test (state_of self.new) (planned self.new plan)) }
+        // A tick without a lead allocates nothing.
+        ensures enough { event.now ≡ Event.Ticks → has_lead self.old ≡ false → result ≢ Err CoreFault.Memory }
     {
         self.plan_event(meta, slot, top, event)
     }

@@ -32,7 +32,7 @@
 --   covered.
 -- - A relation by recursion on a literal count is `unfoldable`, or goals unroll it. A line made by `push_str` closes where
 --   one by `format!` stays open.
--- - **A lab's outcomes**: `Tells` states of each result what it means in the world, `told` of `step` has it for every
+-- - **A lab's outcomes**: `Reports` states of each result what it means in the world, `told` of `step` has it for every
 --   world that the lab is; `model_events` is stated by the same `event_of` and `is_long`.
 --
 -- - **Trials** are generic over `R: Records`, `S: Alter`, `D: Disk`, and few functions name the concrete type. A call

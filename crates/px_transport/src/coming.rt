@@ -4,7 +4,7 @@ use px_packet::PiecesHeld;
 
 /// What comes of a packet.
 pub(crate) enum Coming {
-    /// So many bytes are given.
+    /// A datagram of this many bytes is given.
     Given(usize),
     /// A member has these pieces of a datagram.
     Held(u8, PiecesHeld),

@@ -72,7 +72,7 @@ fn ruleset_names(rt: &HostRuntime, folder: &str) -> io::Result<Vec<String>> {
     Ok(names)
 }
 
-/// The answer with the node's standing.
+/// The answer with the node's front and the positions that it applied.
 fn reply_of(alloc: Global, answer: &Answer, front: u32, applied: u32) -> Result<Reply, AllocError> {
     Ok(Reply {
         code: answer.code,
@@ -161,7 +161,7 @@ impl Control for Peer<'_> {
         }
     }
 
-    fn tell<E: Write>(&self, _errors: &mut E) {}
+    fn report<E: Write>(&self, _errors: &mut E) {}
 }
 
 impl<'a> ControlSockets<'a> for FollowedNode<'a> {

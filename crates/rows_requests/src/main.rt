@@ -29,7 +29,9 @@
 //! | Step | Does |
 //! |---|---|
 //! | `pass N` | N milliseconds pass |
+//! | `wall N` | the time since 1970 is set forward by N milliseconds, or back where N is negative |
 //! | `datagram HEX` | a datagram comes |
+//! | `deaf` | what the node sends is refused from now on |
 //! | `pfx ARGUMENTS` | as a row `== PFX ARGUMENTS` |
 //! | `K` | client K connects; a client that isn't there connects first in the steps below too |
 //! | `K tcp` | client K connects to the port of figures |

@@ -35,10 +35,14 @@ pub(crate) struct Operator<'a> {
     pub(crate) rt: &'a HostRuntime,
     /// The time by its clock, in microseconds. Each reading, and each pause, adds some.
     now: Cell<u64>,
+    /// How far the time since 1970 is ahead of that, in microseconds.
+    wall: Cell<i64>,
     /// Whether connections are the system's.
     is_node: Cell<bool>,
     /// The datagram that comes next to a node that runs with this handle.
     pub(crate) coming: Cell<Option<Vec<u8>>>,
+    /// Whether the system refuses what such a node sends.
+    pub(crate) is_deaf: Cell<bool>,
     member: Cell<Option<Member>>,
     /// The other end of the connection that was made last.
     far: Cell<Option<UnixStream>>,
@@ -104,8 +108,10 @@ impl<'a> Operator<'a> {
         Operator {
             rt,
             now: Cell::new(0),
+            wall: Cell::new(0),
             is_node: Cell::new(false),
             coming: Cell::new(None),
+            is_deaf: Cell::new(false),
             member: Cell::new(member),
             far: Cell::new(None),
             mode: Cell::new(0),
@@ -124,10 +130,18 @@ impl<'a> Operator<'a> {
         self.add(time.saturating_mul(1_000));
     }
 
-    /// Whether a node is to run with this handle. Its clock begins anew.
+    /// The time since 1970 is set forward by this, in milliseconds, or back where it is negative.
+    pub(crate) fn set_wall(&self, by: i64) {
+        let by = by.saturating_mul(1_000);
+        self.wall.set(self.wall.get().saturating_add(by));
+    }
+
+    /// Whether a node is to run with this handle. Its clock begins anew, and what it sends is sent.
     pub(crate) fn set_node(&self, is_node: bool) {
         self.is_node.set(is_node);
         self.now.set(0);
+        self.wall.set(0);
+        self.is_deaf.set(false);
     }
 
     /// The mode of the control socket at the last answer.
@@ -185,11 +199,12 @@ impl Clock for Operator<'_> {
     fn monotonic(&self) -> io::Result<Duration> {
         self.answer()?;
         self.add(if self.is_node.get() { ROUND } else { READING });
-        self.since_1970()
+        Ok(Duration::from_micros(self.now.get()))
     }
 
     fn since_1970(&self) -> io::Result<Duration> {
-        Ok(Duration::from_micros(self.now.get()))
+        let now = self.now.get().saturating_add_signed(self.wall.get());
+        Ok(Duration::from_micros(now))
     }
 }
 

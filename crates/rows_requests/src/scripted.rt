@@ -26,13 +26,14 @@ const TURNS: u64 = 1_000;
 #[derive(Drop)]
 struct StepWire<'a> {
     operator: &'a Operator<'a>,
+    failures: u64,
 }
 
 impl Wire for StepWire<'_> {
     // what comes of it is shown by rows
     ghost traffic = { λ _ _. ⊤ };
 
-    ghost failed = { λ _. 0 };
+    ghost failed = { λ w. w.failures };
 
     ghost identity = { λ _. plain };
 
@@ -54,11 +55,15 @@ impl Wire for StepWire<'_> {
     }
 
     fn send(&mut self, _to: u8, _bytes: &[u8]) -> bool {
+        if self.operator.is_deaf.get() {
+            self.failures = self.failures.saturating_add(1);
+            return false;
+        }
         true
     }
 
     fn failures(&self) -> u64 {
-        0
+        self.failures
     }
 }
 
@@ -172,6 +177,8 @@ impl Steps<'_> {
         let (who, what) = step.split_once(' ').unwrap_or((step, ""));
         match who {
             "pass" => self.operator.pass(what.parse::<u64>().unwrap_or(0)),
+            "wall" => self.operator.set_wall(what.parse::<i64>().unwrap_or(0)),
+            "deaf" => self.operator.is_deaf.set(true),
             "datagram" => self.operator.coming.set(hex::decode(rt.alloc(), what).ok()),
             "pfx" => self.network.run(rt, what)?,
             _ => {
@@ -242,7 +249,11 @@ pub(crate) fn run_steps(
         return println!(rt; "memory");
     };
     let figures = Some(network.figures);
-    let mut wire = LoopbackWire::new(alloc, StepWire { operator }, 0);
+    let wire = StepWire {
+        operator,
+        failures: 0,
+    };
+    let mut wire = LoopbackWire::new(alloc, wire, 0);
     let mut steps = Steps {
         operator,
         network,

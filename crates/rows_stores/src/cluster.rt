@@ -18,7 +18,7 @@ use std::fmt::Write;
 
 const PACKET: &str = "in on em0 proto tcp from 10.0.0.1 port 4000 to 192.0.2.1 port 22 flags S";
 
-/// So many messages there are: three each that ask for promises, promise, and ask to accept, and nine votes.
+/// How many messages there are: three each that ask for promises, promise, and ask to accept, and nine votes.
 const MESSAGES: usize = 18;
 
 /// A load of `block from 10/8` at main.

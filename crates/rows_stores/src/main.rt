@@ -84,7 +84,7 @@ fn done(rt: &HostRuntime, line: &str, out: &mut String) -> bool {
 }
 
 /// Does what the line asks for, and prints what came of it.
-fn tell(rt: &HostRuntime, line: &str) -> io::Result<()> {
+fn print(rt: &HostRuntime, line: &str) -> io::Result<()> {
     let mut out = String::new(rt.alloc());
     let shown = if done(rt, line, &mut out) {
         out.as_str()
@@ -97,7 +97,7 @@ fn tell(rt: &HostRuntime, line: &str) -> io::Result<()> {
 fn main(rt: HostRuntime) -> io::Result<()> {
     let input = io::read_to_string(rt.alloc(), rt.reader())?;
     for line in input.lines() {
-        tell(&rt, line)?;
+        print(&rt, line)?;
     }
     Ok(())
 }

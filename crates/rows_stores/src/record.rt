@@ -66,7 +66,7 @@ fn show<R: Records>(records: &mut R, out: &mut String) -> bool
 }
 
 /// Reports a number that was read.
-fn tell(out: &mut String, name: &str, number: Result<u32, StoreFault>) -> bool {
+fn report(out: &mut String, name: &str, number: Result<u32, StoreFault>) -> bool {
     match number {
         Ok(number) => say_number(out, name, number as u64),
         Err(fault) => say_fault(out, fault),
@@ -173,9 +173,9 @@ pub(crate) fn step<R: Records>(alloc: Global, records: &mut R, step: &str, out: 
         "show" => show(records, out),
         "slot" => slot(records, numbers[0], out),
         "learned" => learned(records, numbers[0], out),
-        "entries" => tell(out, "entries", entries(records, numbers[0], numbers[1])),
-        "top" => tell(out, "top", top(records)),
-        "end" => tell(out, "end", end(records)),
+        "entries" => report(out, "entries", entries(records, numbers[0], numbers[1])),
+        "top" => report(out, "top", top(records)),
+        "end" => report(out, "end", end(records)),
         "failures" => say_number(out, "failures", records.failures()),
         "read" => say_made(out, read(records, numbers[0])),
         _ => change(alloc, records, word, numbers, out),

@@ -123,7 +123,7 @@ fn answer(alloc: Global, words: &[&str]) -> Result<(&'static str, u64), Fault> {
 }
 
 /// Writes what the arguments give.
-fn tell(rt: &HostRuntime, words: &[&str]) -> Result<(), Fault> {
+fn print(rt: &HostRuntime, words: &[&str]) -> Result<(), Fault> {
     let (name, number) = answer(rt.alloc(), words)?;
     match println!(rt; "{name} {number}") {
         Ok(()) => Ok(()),
@@ -132,23 +132,23 @@ fn tell(rt: &HostRuntime, words: &[&str]) -> Result<(), Fault> {
 }
 
 /// Writes what the arguments of a line give.
-fn tell_line(rt: &HostRuntime, line: &str) -> Result<(), Fault> {
+fn print_line(rt: &HostRuntime, line: &str) -> Result<(), Fault> {
     let mut words = Vec::new(rt.alloc());
     for word in line.split('\t') {
         if words.push(word).is_err() {
             return Err(Fault::Memory);
         }
     }
-    tell(rt, &words)
+    print(rt, &words)
 }
 
 /// Writes what each line of the standard input gives.
-fn tell_lines(rt: &HostRuntime) -> Result<(), Fault> {
+fn print_lines(rt: &HostRuntime) -> Result<(), Fault> {
     let Ok(input) = io::read_to_string(rt.alloc(), rt.reader()) else {
         return Err(Fault::Memory);
     };
     for line in input.lines() {
-        tell_line(rt, line)?;
+        print_line(rt, line)?;
     }
     Ok(())
 }
@@ -162,9 +162,9 @@ fn tell_all(rt: &HostRuntime, words: &[String]) -> Result<(), Fault> {
         }
     }
     match list.get(1..) {
-        Some([]) => tell_lines(rt),
-        Some(rest) => tell(rt, rest),
-        None => tell_lines(rt),
+        Some([]) => print_lines(rt),
+        Some(rest) => print(rt, rest),
+        None => print_lines(rt),
     }
 }
 

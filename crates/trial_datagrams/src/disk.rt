@@ -14,6 +14,9 @@ const BESIDE: &str = "run/store-starts-new";
 
 const FOLDER: &str = "run";
 
+/// For how many seconds the system has run.
+const UPTIME: u64 = 5;
+
 /// A disk without files; what it reports of the time and gives at random is always the same.
 #[derive(Clone, Copy)]
 pub(crate) struct Disk<'a> {
@@ -22,7 +25,7 @@ pub(crate) struct Disk<'a> {
     pub(crate) done: &'a Cell<u64>,
     /// The bytes that were written, and how many they are.
     pub(crate) written: &'a Cell<([u8; 256], usize)>,
-    /// What the clock reports, in seconds.
+    /// The time since 1970 that the clock reports, in seconds.
     pub(crate) seconds: u64,
 }
 
@@ -169,11 +172,11 @@ impl<'a> Files for Disk<'a> {
 
 impl Clock for Disk<'_> {
     fn monotonic(&self) -> io::Result<Duration> {
-        Ok(Duration::from_secs(self.seconds))
+        Ok(Duration::from_secs(UPTIME))
     }
 
     fn since_1970(&self) -> io::Result<Duration> {
-        self.monotonic()
+        Ok(Duration::from_secs(self.seconds))
     }
 }
 

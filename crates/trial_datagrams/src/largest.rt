@@ -6,7 +6,7 @@ use px_wire::{Membership, Message, decode};
 use std::alloc::{AllocError, Global};
 use std::panic::Expect;
 
-/// So many bytes `x`.
+/// The given number of bytes `x`.
 fn text_of(alloc: Global, size: usize) -> Result<Vec<u8>, AllocError> {
     let mut text = Vec::new(alloc);
     for _ in 0..size {

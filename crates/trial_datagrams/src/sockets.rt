@@ -110,6 +110,14 @@ fn datagrams_go_between_members_and_who_asks(rt: HostRuntime) {
     assert!(rt; talk(&mut one, &mut other, &mut client));
 }
 
+#[test]
+fn what_the_system_refuses_to_send_is_unsent(rt: HostRuntime) {
+    // a socket may not send to every host of a network, unless an option says so
+    let members = ["127.0.0.1:39489", "255.255.255.255:39489"];
+    let mut one = UdpWire::bind(&rt, rt.alloc(), &members, 0, 10).expect(&rt, "a socket");
+    assert!(rt; !one.send(1, b"hello") && one.failures() == 1);
+}
+
 /// Whether the member with this number gets no socket.
 fn is_refused(rt: HostRuntime, members: &[&str], me: u8) -> bool {
     match UdpWire::bind(&rt, rt.alloc(), members, me, 10) {

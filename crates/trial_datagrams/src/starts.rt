@@ -49,8 +49,8 @@ fn a_file_of_starts_is_read_as_it_was_written(rt: HostRuntime) {
     );
 }
 
-/// A new start has the time and what the random source gave, and is in the file, which is synced before it is renamed,
-/// as its folder is behind that.
+/// A new start has the time since 1970 and what the random source gave, and is in the file, which is synced before it
+/// is renamed, as its folder is behind that.
 #[test]
 fn a_start_is_synced_before_it_is_used(rt: HostRuntime) {
     let done = Cell::new(0);

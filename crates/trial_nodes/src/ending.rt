@@ -1,5 +1,6 @@
 //! What a node does when its turns are over.
 
+use crate::echo::Echo;
 use crate::members::{ask, member, runs};
 use pf_node::{Command, Node};
 use pf_rules::Path;
@@ -30,5 +31,13 @@ fn ends(rt: &HostRuntime, node: &mut Node<MemoryRecords>) -> bool {
 fn what_waits_is_worked_off(rt: HostRuntime) {
     let mut node = member(rt.alloc(), 1, 0).expect(&rt, "a member");
     assert!(rt; takes_three(rt.alloc(), &mut node) && ends(&rt, &mut node));
+    assert!(rt; node.waiting() == 0 && node.applied() == 3);
+}
+
+#[test]
+fn at_its_end_a_node_waits_for_what_it_asked(rt: HostRuntime) {
+    let mut node = member(rt.alloc(), 1, 0).expect(&rt, "a member");
+    assert!(rt; takes_three(rt.alloc(), &mut node));
+    assert!(rt; runs(&rt, &mut node, &mut Echo::new(rt.alloc())));
     assert!(rt; node.waiting() == 0 && node.applied() == 3);
 }

@@ -128,20 +128,88 @@ static BOUNDED: [Row; 4] = [
     (1_400_000, &[(1, 13_100), (2, 30)]),
 ];
 
-/// A large accept request for member 1 at one second, and a short one for member 2.
-fn send_both(resender: &mut Resender) {
+/// A large accept request for member 1, and a short one for member 2, one second after this time in microseconds.
+fn send_both(resender: &mut Resender, later: u64) {
     let mut large = [0u8; 13_100];
     large[..30].copy_from_slice(&ACCEPT);
-    resender.set_time(1_000_000);
+    resender.set_time(later.saturating_add(1_000_000));
     let _kept = resender.keep(1, &large);
     let _kept = resender.keep(2, &ACCEPT);
 }
 
+/// Whether, counted from this time in microseconds, the large one is handed over again at its rate.
+fn is_bounded(alloc: Global, later: u64) -> bool {
+    let mut resender = Resender::new(alloc, 3, 0);
+    send_both(&mut resender, later);
+    for (now, wanted) in &BOUNDED {
+        if !repeats(alloc, &mut resender, later.saturating_add(*now), 5, wanted) {
+            return false;
+        }
+    }
+    true
+}
+
 #[test]
 fn a_large_datagram_is_sent_again_at_a_bounded_rate(rt: HostRuntime) {
-    let mut resender = Resender::new(rt.alloc(), 3, 0);
-    send_both(&mut resender);
-    for (now, wanted) in &BOUNDED {
-        assert!(rt; repeats(rt.alloc(), &mut resender, *now, 5, wanted));
+    // of a member that has just started, after an hour, and after 17,800 years
+    for later in [0, 3_600_000_000, 1 << 59] {
+        assert!(rt; is_bounded(rt.alloc(), later));
     }
+}
+
+/// Has a resender at 5 s do one of six things.
+fn use_it(alloc: Global, it: &mut Resender, number: u8) -> bool {
+    let mut wire = MemoryWire::new(alloc, Vec::new(alloc));
+    match number {
+        0 => !it.answers(&mut wire, &OTHER),
+        1 => takes(it, &ACCEPT) && it.keep(0, &VOTE).is_ok() && it.answers(&mut wire, &ACCEPT),
+        2 => {
+            it.repeat(&mut wire, 6);
+            true
+        }
+        3 => {
+            it.repeat(&mut wire, 5);
+            true
+        }
+        4 => it.keep(1, &NEED).is_ok(),
+        _ => {
+            it.repeat_to(&mut wire, 1, 6);
+            true
+        }
+    }
+}
+
+/// Whether the vote that member 2 sent to itself is handed over again, and nothing else.
+fn repeats_own(alloc: Global, it: &mut Resender) -> bool {
+    let mut wire = MemoryWire::new(alloc, Vec::new(alloc));
+    it.repeat_own(&mut wire, 5) && was_handed(&wire, &[(2, 30)])
+}
+
+/// Whether member 2 of 3 is the same member of as many, at the same time, once its resender was used: it keeps what is
+/// for member 1, hands a large datagram over 200 ms after it was sent, and not before, and knows its own votes.
+fn is_same_after(alloc: Global, number: u8, wanted: &[Sent]) -> bool {
+    let mut it = Resender::new(alloc, 3, 2);
+    it.set_time(5_000_000);
+    let _own = it.keep(2, &VOTE);
+    if !use_it(alloc, &mut it, number) {
+        return false;
+    }
+    let mut large = [0u8; 13_100];
+    large[..30].copy_from_slice(&ACCEPT);
+    let _kept = it.keep(1, &large);
+    let before = &wanted[..wanted.len().saturating_sub(1)];
+    repeats(alloc, &mut it, 5_199_999, 5, before)
+        && repeats(alloc, &mut it, 5_200_000, 5, wanted)
+        && repeats_own(alloc, &mut it)
+}
+
+#[test]
+fn what_a_resender_does_changes_neither_member_nor_time(rt: HostRuntime) {
+    for number in [0, 2, 3, 4, 5] {
+        assert!(rt;
+            is_same_after(rt.alloc(), number, &[(1, 13_100)]),
+            "{number}"
+        );
+    }
+    assert!(rt; is_same_after(rt.alloc(), 1, &[(0, 30), (1, 13_100)]));
 }

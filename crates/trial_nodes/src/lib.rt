@@ -8,7 +8,11 @@
 #[cfg(test)]
 mod bus;
 #[cfg(test)]
+mod busy;
+#[cfg(test)]
 mod cluster;
+#[cfg(test)]
+mod echo;
 #[cfg(test)]
 mod ending;
 #[cfg(test)]

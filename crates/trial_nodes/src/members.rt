@@ -5,7 +5,7 @@ use pf_entry::Profile;
 use pf_node::{Command, Membership, Node};
 use pf_rules::Path;
 use px_records::MemoryRecords;
-use px_transport::{LoopbackWire, MemoryWire};
+use px_transport::Wire;
 use std::alloc::{AllocError, Global};
 use std::time::Instant;
 
@@ -61,10 +61,10 @@ pub(crate) fn coming(alloc: Global, datagram: &[u8]) -> Result<Vec<Vec<u8>>, All
 }
 
 /// Whether a round of member 0 is made, and what waits then is worked off.
-pub(crate) fn runs(
+pub(crate) fn runs<W: Wire>(
     rt: &HostRuntime,
     node: &mut Node<MemoryRecords>,
-    wire: &mut LoopbackWire<MemoryWire>,
+    wire: &mut W,
 ) -> bool {
     let Ok(mut buffers) = TurnBuffers::new(rt.alloc(), &node.membership(), true) else {
         return false;

@@ -33,16 +33,18 @@ fn votes_of(alloc: Global, wire: &MemoryWire) -> Option<Vec<Vote>> {
     Some(votes)
 }
 
-/// A round of a node with this timer, for which these datagrams have come: the votes that it sends.
+/// A round of a node with this timer at this time in microseconds, for which these datagrams have come: the votes that
+/// it sends.
 fn round_of<T: Timer>(
     alloc: Global,
     node: &mut Node<MemoryRecords>,
     buffers: &mut TurnBuffers,
     timer: &mut T,
+    now: u64,
     coming: Vec<Vec<u8>>,
 ) -> Option<Vec<Vote>> {
     let mut wire = MemoryWire::new(alloc, coming);
-    match round(node, &mut wire, buffers, timer, 0) {
+    match round(node, &mut wire, buffers, timer, now) {
         Ok(_) => votes_of(alloc, &wire),
         Err(_) => None,
     }
@@ -53,9 +55,10 @@ fn round_with(
     alloc: Global,
     node: &mut Node<MemoryRecords>,
     buffers: &mut TurnBuffers,
+    now: u64,
     coming: Vec<Vec<u8>>,
 ) -> Option<Vec<Vote>> {
-    round_of(alloc, node, buffers, &mut TickTimer::new(0), coming)
+    round_of(alloc, node, buffers, &mut TickTimer::new(0), now, coming)
 }
 
 /// Whether these are the votes that it sends where the datagram comes.
@@ -63,13 +66,14 @@ fn votes(
     alloc: Global,
     node: &mut Node<MemoryRecords>,
     buffers: &mut TurnBuffers,
+    now: u64,
     datagram: &[u8],
     wanted: &[Vote],
 ) -> bool {
     let Ok(coming) = coming(alloc, datagram) else {
         return false;
     };
-    match round_with(alloc, node, buffers, coming) {
+    match round_with(alloc, node, buffers, now, coming) {
         Some(votes) => votes.as_slice() == wanted,
         None => false,
     }
@@ -88,26 +92,41 @@ fn three(alloc: Global) -> Result<Vec<Vec<u8>>, AllocError> {
 }
 
 /// Whether the node votes for three commands, once for each of 15, and learns them.
-fn learns_three(alloc: Global, node: &mut Node<MemoryRecords>, buffers: &mut TurnBuffers) -> bool {
+fn learns_three(
+    alloc: Global,
+    node: &mut Node<MemoryRecords>,
+    buffers: &mut TurnBuffers,
+    now: u64,
+) -> bool {
     let Ok(coming) = three(alloc) else {
         return false;
     };
-    match round_with(alloc, node, buffers, coming) {
+    match round_with(alloc, node, buffers, now, coming) {
         Some(votes) => votes.len() == 45 && node.applied() >= 3,
         None => false,
     }
 }
 
-/// Whether these are the votes that member 0 of 15 sends again after those, where the datagram comes.
-fn reminds(alloc: Global, datagram: &[u8], wanted: &[Vote]) -> bool {
+/// Whether these are the votes that member 0 of 15 sends again after those, where the datagram comes at this time.
+fn reminds_at(alloc: Global, now: u64, datagram: &[u8], wanted: &[Vote]) -> bool {
     let Some(mut node) = member(alloc, 15, 0) else {
         return false;
     };
     let Ok(mut buffers) = TurnBuffers::new(alloc, &node.membership(), true) else {
         return false;
     };
-    learns_three(alloc, &mut node, &mut buffers)
-        && votes(alloc, &mut node, &mut buffers, datagram, wanted)
+    learns_three(alloc, &mut node, &mut buffers, now)
+        && votes(alloc, &mut node, &mut buffers, now, datagram, wanted)
+}
+
+/// The same of a member that has just started, after an hour, and after 17,800 years.
+fn reminds(alloc: Global, datagram: &[u8], wanted: &[Vote]) -> bool {
+    for now in [0, 3_600_000_000, 1 << 59] {
+        if !reminds_at(alloc, now, datagram, wanted) {
+            return false;
+        }
+    }
+    true
 }
 
 /// A flush of main's tables that member 1 proposes at the position, for member 0.
@@ -169,23 +188,32 @@ fn who_lacks_nothing_behind_is_sent_nothing_again(rt: HostRuntime) {
     assert!(rt; reminds(rt.alloc(), &prepare_all(3), &[]));
 }
 
-/// Whether the node votes for a request once for each of 15, and then answers it by the vote alone.
-fn answers_again(alloc: Global, node: &mut Node<MemoryRecords>, buffers: &mut TurnBuffers) -> bool {
+/// Whether the node at this time votes for a request once for each of 15, and then answers it by the vote alone.
+fn answers_again(
+    alloc: Global,
+    node: &mut Node<MemoryRecords>,
+    buffers: &mut TurnBuffers,
+    now: u64,
+) -> bool {
     let Ok(first) = coming(alloc, &accept(0)) else {
         return false;
     };
-    let is_first = match round_with(alloc, node, buffers, first) {
+    let is_first = match round_with(alloc, node, buffers, now, first) {
         Some(votes) => votes.len() == 15,
         None => false,
     };
-    is_first && votes(alloc, node, buffers, &accept(0), &[(1, 0)])
+    is_first && votes(alloc, node, buffers, now, &accept(0), &[(1, 0)])
 }
 
 #[test]
 fn a_request_that_comes_again_is_answered_by_the_vote(rt: HostRuntime) {
-    let mut node = member(rt.alloc(), 15, 0).expect(&rt, "a member");
-    let mut buffers = TurnBuffers::new(rt.alloc(), &node.membership(), true).expect(&rt, "memory");
-    assert!(rt; answers_again(rt.alloc(), &mut node, &mut buffers));
+    for now in [0, 3_600_000_000, 1 << 59] {
+        let mut node = member(rt.alloc(), 15, 0).expect(&rt, "a member");
+        let mut buffers = TurnBuffers::new(rt.alloc(), &node.membership(), true).expect(
+            &rt, "memory",
+        );
+        assert!(rt; answers_again(rt.alloc(), &mut node, &mut buffers, now));
+    }
 }
 
 /// A timer by which what was sent is sent again in each round.
@@ -214,8 +242,9 @@ impl Timer for Repeating {
     }
 }
 
-/// Whether member `me` of 15, which voted for a request, sends each other member that vote again where nothing comes.
-fn repeats(alloc: Global, me: u8) -> bool {
+/// Whether member `me` of 15, which voted for a request, sends each other member that vote again at this time where
+/// nothing comes.
+fn repeats(alloc: Global, me: u8, now: u64) -> bool {
     let (Some(mut node), Ok(request)) = (member(alloc, 15, me), coming(alloc, &accept_for(me, 0)))
     else {
         return false;
@@ -223,9 +252,9 @@ fn repeats(alloc: Global, me: u8) -> bool {
     let Ok(mut buffers) = TurnBuffers::new(alloc, &node.membership(), true) else {
         return false;
     };
-    let first = round_with(alloc, &mut node, &mut buffers, request);
+    let first = round_with(alloc, &mut node, &mut buffers, now, request);
     let none = Vec::new(alloc);
-    let Some(again) = round_of(alloc, &mut node, &mut buffers, &mut Repeating, none) else {
+    let Some(again) = round_of(alloc, &mut node, &mut buffers, &mut Repeating, now, none) else {
         return false;
     };
     let is_first = match first {
@@ -242,5 +271,8 @@ fn repeats(alloc: Global, me: u8) -> bool {
 
 #[test]
 fn a_vote_is_sent_again_to_each_other_member(rt: HostRuntime) {
-    assert!(rt; repeats(rt.alloc(), 0) && repeats(rt.alloc(), 2) && repeats(rt.alloc(), 14));
+    for now in [0, 3_600_000_000, 1 << 59] {
+        assert!(rt; repeats(rt.alloc(), 0, now));
+        assert!(rt; repeats(rt.alloc(), 2, now) && repeats(rt.alloc(), 14, now));
+    }
 }

@@ -73,11 +73,11 @@ fn is_sent(
 /// another whose votes it is sent.
 type Row = (u64, u32, (u32, u32));
 
-/// Whether it is sent these, at one time after the other.
-fn are_sent(alloc: Global, resender: &mut Resender, rows: &[Row]) -> bool {
+/// Whether it is sent these, one after the other, at times counted from this one.
+fn are_sent(alloc: Global, resender: &mut Resender, later: u64, rows: &[Row]) -> bool {
     for row in rows {
         let (now, lacks, wanted) = *row;
-        if !is_sent(alloc, resender, now, 1, lacks, wanted) {
+        if !is_sent(alloc, resender, later.saturating_add(now), 1, lacks, wanted) {
             return false;
         }
     }
@@ -85,10 +85,27 @@ fn are_sent(alloc: Global, resender: &mut Resender, rows: &[Row]) -> bool {
 }
 
 /// The same of n members, to one of which votes of this size were sent at the positions from 1 to before another.
-fn is_so(alloc: Global, members: u8, end: u32, size: usize, rows: &[Row]) -> bool {
+fn is_so_later(
+    alloc: Global,
+    members: u8,
+    end: u32,
+    size: usize,
+    later: u64,
+    rows: &[Row],
+) -> bool {
     let mut it = Resender::new(alloc, members, 0);
     votes(&mut it, 1, end, size);
-    are_sent(alloc, &mut it, rows)
+    are_sent(alloc, &mut it, later, rows)
+}
+
+/// The same of a member that has just started, after an hour, after a year, and after 17,800 years.
+fn is_so(alloc: Global, members: u8, end: u32, size: usize, rows: &[Row]) -> bool {
+    for later in [0, 3_600_000, 31_536_000_000, 1 << 49] {
+        if !is_so_later(alloc, members, end, size, later, rows) {
+            return false;
+        }
+    }
+    true
 }
 
 /// Votes for both of the others at the positions from 5 to before another.
@@ -218,18 +235,18 @@ fn a_long_vote_is_not_kept_nor_one_below_the_last(rt: HostRuntime) {
     vote(&mut it, 1, 1, 7, 1200);
     vote(&mut it, 1, 1, 6, 27);
     vote(&mut it, 1, 1, 7, 1200);
-    assert!(rt; are_sent(alloc, &mut it, &THE_SEVENTH));
+    assert!(rt; are_sent(alloc, &mut it, 0, &THE_SEVENTH));
 }
 
 static FROM_THE_11TH: [Row; 1] = [(0, 1, (11, 64))];
 
 #[test]
 fn the_last_131072_votes_are_kept(rt: HostRuntime) {
-    assert!(rt; is_so(rt.alloc(), 2, 131_083, 27, &FROM_THE_11TH));
+    assert!(rt; is_so_later(rt.alloc(), 2, 131_083, 27, 0, &FROM_THE_11TH));
 }
 
 #[test]
 fn no_more_than_16_mib_of_votes_are_kept(rt: HostRuntime) {
     // 13,981 votes of 1,200 bytes are 16,777,200 bytes
-    assert!(rt; is_so(rt.alloc(), 2, 13_992, 1200, &FROM_THE_11TH));
+    assert!(rt; is_so_later(rt.alloc(), 2, 13_992, 1200, 0, &FROM_THE_11TH));
 }

@@ -22,7 +22,7 @@ pass%~1024~block%~1>refused 18 line 1025
 pass from {~1~ 10.0.#.#~256~ } to {~1~ fe80::#:#~256~ }~1>refused 14 line 1
 pass from {~1~ 10.0.#.#~257~ } to {~1~ fe80::#:#~256~ }~1>refused 18 line 1";
 
-/// So many there are.
+/// How many there are.
 const COUNT: usize = 13;
 
 /// A part with the two bytes of a number in place of each `#`, and a newline in place of each `%`.

@@ -22,8 +22,8 @@ content_type (request.Read at r) = text_of r
 content_type other = codes "text/plain; charset=utf-8"
 
 -- which node answers, how many positions it has applied, and how many are learned without a gap
-abbrev pub standing_fields : {R : Type 0} {G : Ghosts R} → Node R G → List (List ℕ × List ℕ)
-standing_fields n =
+abbrev pub node_fields : {R : Type 0} {G : Ghosts R} → Node R G → List (List ℕ × List ℕ)
+node_fields n =
     (codes "pfx-node", decimal (membership_of n).me) ∷
     ((codes "pfx-applied", decimal (applied_of n)) ∷
     ((codes "pfx-front", decimal (front (learned_by n))) ∷ []))
@@ -32,5 +32,5 @@ standing_fields n =
 abbrev pub answer_fields : {R : Type 0} {G : Ghosts R} → Node R G → (code : ℕ) → (kind : List ℕ) →
     List (List ℕ × List ℕ)
 answer_fields n code kind =
-    standing_fields n ++ ((codes "content-type", kind) ∷
+    node_fields n ++ ((codes "content-type", kind) ∷
     (if code == 503 then (codes "retry-after", codes "1") ∷ [] else []))

@@ -129,3 +129,10 @@ is_served c q = not c.is_scraped || is_of_figures (path_of q)
 -- what a request asks for is handled, and nothing else
 abbrev pub IsHandled : {R : Type 0} {G : Ghosts R} → (c d : HttpService R G) → http.Request (List ℕ) → Response → Type 0
 IsHandled c d q r = HandledIf (is_served c q) c d (asked_for q) r
+
+-- The request is handled, and its answer is counted; where figures alone are served, the node and what was asked of it
+-- stay as they were.
+abbrev pub AnswersRequest : {R : Type 0} {G : Ghosts R} → (c : HttpService R G) → http.Request (List ℕ) → Response →
+    (d : HttpService R G) → Type 0
+AnswersRequest c q r d = IsHandled c d q r × (c.is_scraped ≡ true → d.handler ≡ c.handler) ×
+    (d.is_scraped ≡ c.is_scraped) × IsKept c d × (d.counters ≡ counted_as c.is_scraped r.status c.counters)

@@ -7,7 +7,7 @@ use Rattle.pf_node.specs.Nodes.{replica_of}
 use Rattle.node_loop.specs.Hosting.{AskedTimes}
 use Rattle.px_transport.specs.Wires.{Adds}
 use Rattle.node_loop.specs.Timing.{TimerEvent, LooksTimes, looks_in}
-use Rattle.node_loop.specs.Turns.{Stand, Served}
+use Rattle.node_loop.specs.Turns.{LoopState, Served}
 use Rattle.node_loop.specs.declared.ended.Ended.{Ended}
 use Rattle.node_loop.specs.declared.ended.Ended.TheVariants.{Front, Stopped, Fault, NoControlSocket, NoPort}
 use Rattle.node_control.specs.declared.service.HttpService.{HttpService}
@@ -19,9 +19,9 @@ pub record AsksWithin {R : Type 0} {G : Ghosts R} (c d : HttpService R G) : Type
   pub times : AskedTimes asked (replica_of c.handler.node) (replica_of d.handler.node)
 
 -- turns without a fault, and then commands that were asked, as many at most
-abbrev pub AsksAfterTurns : {R : Type 0} {G : Ghosts R} → (most : ℕ) → (x z : Stand G) → Type 0
+abbrev pub AsksAfterTurns : {R : Type 0} {G : Ghosts R} → (most : ℕ) → (x z : LoopState G) → Type 0
 AsksAfterTurns {G = G} most x z =
-    (y : Stand G) × Served x y None × (n : ℕ) × (n ≤ most) × AskedTimes n y.replica z.replica
+    (y : LoopState G) × Served x y None × (n : ℕ) × (n ≤ most) × AskedTimes n y.replica z.replica
 
 -- where figures alone are served nothing was asked and nothing changed, and no more is served there afterwards
 pub record ServesFigures {R : Type 0} {G : Ghosts R} (c d : HttpService R G) : Type 0 where

@@ -1,11 +1,11 @@
 -- no control socket, or a run with it or without
 use Rattle.node_loop.proofs.Still.{unasked}
-use Rattle.node_control.proofs.Rounds.{no_control, some_control, socketless_front, socketless_tells}
+use Rattle.node_control.proofs.Rounds.{no_control, some_control, socketless_front, socketless_reports}
 use Rattle.node_control.proofs.member.run_at.Goals as goal
 
 pub returns-in-Err-clause-hosted : goal.returns-in-Err-clause-hosted
 returns-in-Err-clause-hosted g c es t =
-    (es, t, unasked c.args.node es c.args.hears_asks _ (socketless_tells _ _ _ c.in-Err.ensures.fault))
+    (es, t, unasked c.args.node es c.args.hears_asks _ (socketless_reports _ _ _ c.in-Err.ensures.fault))
 
 pub returns-in-Err-clause-turns : goal.returns-in-Err-clause-turns
 returns-in-Err-clause-turns g c none = absurd (some_control _ _ c.in-Err.is (c.open_at.ensures.none none))

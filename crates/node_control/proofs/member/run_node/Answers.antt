@@ -2,7 +2,7 @@
 use Rattle.std.proofs.Common.{refl, inl, inr}
 use Rattle.px_replica.specs.Faults.{fault_of}
 use Rattle.node_loop.proofs.Still.{still, unasked}
-use Rattle.node_control.proofs.Rounds.{hosts, host_tells, on_front, serves, tells}
+use Rattle.node_control.proofs.Rounds.{hosts, host_reports, on_front, serves, reports}
 use Rattle.node_control.proofs.member.run_node.Goals as goal
 
 pub returns-in_default-clause-hosted : goal.returns-in_default-clause-hosted
@@ -25,8 +25,8 @@ returns-clause-hosted g c es t =
       r.0,
       r.1,
       hosts _ _ _ _ es r.0 c.in-Ok-new.buffers c.pass_on-is_stopped.new.buffers c.args.hears_asks (fault_of c.pass_on-is_stopped.result) _
-          c.new-service.ensures c.close-node.ensures c.in-Ok-new.ensures.kept c.in-Ok-new.ensures.requests c.in-Ok-new.ensures.hears
-          r.2 (host_tells _ _ c.pass_on-is_stopped.result _ c.ended_of.ensures),
+          c.new-service.ensures.node c.close-node.ensures c.in-Ok-new.ensures.kept c.in-Ok-new.ensures.requests c.in-Ok-new.ensures.hears
+          r.2 (host_reports _ _ c.pass_on-is_stopped.result _ c.ended_of.ensures),
     )
 
 pub returns-clause-turns : goal.returns-clause-turns
@@ -35,8 +35,8 @@ returns-clause-turns g c none es t =
       r.0,
       r.1,
       serves _ _ _ _ es r.0 c.in-Ok-new.buffers c.pass_on-is_stopped.new.buffers c.args.hears_asks (fault_of c.pass_on-is_stopped.result) _
-          c.new-service.ensures c.close-node.ensures c.in-Ok-new.ensures.kept c.in-Ok-new.ensures.requests c.in-Ok-new.ensures.hears
-          r.2 (tells _ _ c.pass_on-is_stopped.result _ c.ended_of.ensures (c.pass_on-is_stopped.ensures.none none)),
+          c.new-service.ensures.node c.close-node.ensures c.in-Ok-new.ensures.kept c.in-Ok-new.ensures.requests c.in-Ok-new.ensures.hears
+          r.2 (reports _ _ c.pass_on-is_stopped.result _ c.ended_of.ensures (c.pass_on-is_stopped.ensures.none none)),
     )
 
 pub returns-clause-made : goal.returns-clause-made

@@ -1,15 +1,16 @@
 -- turns, and the requests behind them
-use Rattle.std.proofs.Common.{None, refl, subst, sym}
-use Rattle.node_loop.specs.Turns.{standing}
+use Rattle.std.proofs.Common.{Bool, None, refl, subst, sym}
+use Rattle.node_loop.specs.Turns.{in_loop}
 use Rattle.node_loop.proofs.Chains.{served_then}
 use Rattle.node_loop.proofs.Hosting.{hosted_served, hosted_on}
 use Rattle.node_control.proofs.Rounds.{shown_hearing, still, served_over}
 use Rattle.node_control.specs.inner.Observing.{IsShown}
+use Rattle.node_control.specs.inner.Serving.{ServesAt}
 use Rattle.node_control.proofs.running.pass.Goals as goal
 
 pub returns-in-Err-clause-hosted : goal.returns-in-Err-clause-hosted
 returns-in-Err-clause-hosted g c = served_over (g.W.Wire.traffic c.args.wire.now) (g.W.Wire.traffic c.round.new.wire)
-    (λ es. standing c.args.service.now.handler.node es c.args.buffers.now) (λ es. standing c.round.new.node es c.round.new.buffers) _
+    (λ es. in_loop c.args.service.now.handler.node es c.args.buffers.now) (λ es. in_loop c.round.new.node es c.round.new.buffers) _
     c.in-Err.ensures.served
 
 pub returns-else-not-serve-clause-hosted : goal.returns-else-not-serve-clause-hosted
@@ -49,30 +50,46 @@ pub returns-else-not-serve-clause-asked : goal.returns-else-not-serve-clause-ask
 returns-else-not-serve-clause-asked g c es t =
     let r = c.in-Ok.ensures.served es t in
     let a = c.serve.ensures.asks in
-    (r.0, r.1, (standing c.round.new.node r.0 c.round.new.buffers, r.2, a.0, a.1, a.2))
+    (r.0, r.1, (in_loop c.round.new.node r.0 c.round.new.buffers, r.2, a.0, a.1, a.2))
 
 pub returns-then-not-serve-clause-asked : goal.returns-then-not-serve-clause-asked
 returns-then-not-serve-clause-asked g c es t =
     let r = c.in-Ok.ensures.served es t in
     let a = c.serve.ensures.asks in
-    (r.0, c.wait.ensures.quiet r.0 r.1, (standing c.round.new.node r.0 c.round.new.buffers, r.2, a.0, a.1, a.2))
+    (r.0, c.wait.ensures.quiet r.0 r.1, (in_loop c.round.new.node r.0 c.round.new.buffers, r.2, a.0, a.1, a.2))
 
 pub returns-else-not-serve-clause-shown : goal.returns-else-not-serve-clause-shown
 returns-else-not-serve-clause-shown g c = (
   c.in-Ok.made,
   refl,
-  c.tell.new.counters,
-  subst (λ s. IsShown s c.in-Ok.made c.args.service.now.counters c.tell.new.counters) (sym c.hear.ensures)
-      (shown_hearing _ _ _ _ _ c.tell.ensures.shown),
-  c.serve.ensures.kept.counted,
+  (
+    c.round.new.node,
+    c.report.new.counters,
+    subst (λ s. IsShown s c.in-Ok.made c.args.service.now.counters c.report.new.counters) (sym c.hear.ensures)
+        (shown_hearing _ _ _ _ _ c.report.ensures.shown),
+    c.serve.ensures.kept.counted,
+    subst (λ (b : Bool). ServesAt c.args.control.now (record c.args.service.now {
+      handler = record c.args.service.now.handler { node = c.round.new.node };
+      counters = c.report.new.counters;
+      is_listening = b;
+    }) c.serve.new.service) c.is_listening-service.ensures c.serve.ensures.serves,
+  ),
 )
 
 pub returns-then-not-serve-clause-shown : goal.returns-then-not-serve-clause-shown
 returns-then-not-serve-clause-shown g c = (
   c.in-Ok.made,
   refl,
-  c.tell.new.counters,
-  subst (λ s. IsShown s c.in-Ok.made c.args.service.now.counters c.tell.new.counters) (sym c.hear.ensures)
-      (shown_hearing _ _ _ _ _ c.tell.ensures.shown),
-  c.serve.ensures.kept.counted,
+  (
+    c.round.new.node,
+    c.report.new.counters,
+    subst (λ s. IsShown s c.in-Ok.made c.args.service.now.counters c.report.new.counters) (sym c.hear.ensures)
+        (shown_hearing _ _ _ _ _ c.report.ensures.shown),
+    c.serve.ensures.kept.counted,
+    subst (λ (b : Bool). ServesAt c.args.control.now (record c.args.service.now {
+      handler = record c.args.service.now.handler { node = c.round.new.node };
+      counters = c.report.new.counters;
+      is_listening = b;
+    }) c.serve.new.service) c.is_listening-service.ensures c.serve.ensures.serves,
+  ),
 )

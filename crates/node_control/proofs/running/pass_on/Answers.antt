@@ -1,5 +1,5 @@
 -- all rounds, and the last ones
-use Rattle.node_loop.specs.Turns.{standing}
+use Rattle.node_loop.specs.Turns.{in_loop}
 use Rattle.node_loop.proofs.Clocks.{timed_both, timed_run}
 use Rattle.node_control.proofs.Rounds.{ending_stops, finished, hosted_over, made_all, over_then, served_over}
 use Rattle.node_control.proofs.running.pass_on.Goals as goal
@@ -7,32 +7,32 @@ use Rattle.node_control.proofs.running.pass_on.Goals as goal
 pub returns-in-Ok-finish-clause-hosted : goal.returns-in-Ok-finish-clause-hosted
 returns-in-Ok-finish-clause-hosted g c =
     hosted_over (g.W.Wire.traffic c.args.wire.now) (g.W.Wire.traffic c.passes.new.wire) (g.W.Wire.traffic c.finish.new.wire)
-    (λ es. standing c.args.service.now.handler.node es c.args.buffers.now) (λ es. standing c.passes.new.service.handler.node es c.passes.new.buffers)
-    (λ es. standing c.finish.new.node es c.finish.new.buffers) _ c.in-Ok.ensures.hosted
+    (λ es. in_loop c.args.service.now.handler.node es c.args.buffers.now) (λ es. in_loop c.passes.new.service.handler.node es c.passes.new.buffers)
+    (λ es. in_loop c.finish.new.node es c.finish.new.buffers) _ c.in-Ok.ensures.hosted
     (served_over (g.W.Wire.traffic c.passes.new.wire) (g.W.Wire.traffic c.finish.new.wire)
-    (λ es. standing c.passes.new.service.handler.node es c.passes.new.buffers) (λ es. standing c.finish.new.node es c.finish.new.buffers) _
+    (λ es. in_loop c.passes.new.service.handler.node es c.passes.new.buffers) (λ es. in_loop c.finish.new.node es c.finish.new.buffers) _
     c.in-Ok-finish.ensures.served)
 
 pub returns-in-Err-finish-clause-hosted : goal.returns-in-Err-finish-clause-hosted
 returns-in-Err-finish-clause-hosted g c =
     hosted_over (g.W.Wire.traffic c.args.wire.now) (g.W.Wire.traffic c.passes.new.wire) (g.W.Wire.traffic c.finish.new.wire)
-    (λ es. standing c.args.service.now.handler.node es c.args.buffers.now) (λ es. standing c.passes.new.service.handler.node es c.passes.new.buffers)
-    (λ es. standing c.finish.new.node es c.finish.new.buffers) _ c.in-Ok.ensures.hosted
+    (λ es. in_loop c.args.service.now.handler.node es c.args.buffers.now) (λ es. in_loop c.passes.new.service.handler.node es c.passes.new.buffers)
+    (λ es. in_loop c.finish.new.node es c.finish.new.buffers) _ c.in-Ok.ensures.hosted
     (served_over (g.W.Wire.traffic c.passes.new.wire) (g.W.Wire.traffic c.finish.new.wire)
-    (λ es. standing c.passes.new.service.handler.node es c.passes.new.buffers) (λ es. standing c.finish.new.node es c.finish.new.buffers) _
+    (λ es. in_loop c.passes.new.service.handler.node es c.passes.new.buffers) (λ es. in_loop c.finish.new.node es c.finish.new.buffers) _
     c.in-Err-finish.ensures.served)
 
 pub returns-in-Ok-finish-clause-turns : goal.returns-in-Ok-finish-clause-turns
 returns-in-Ok-finish-clause-turns g c none =
     over_then (g.W.Wire.traffic c.args.wire.now) (g.W.Wire.traffic c.passes.new.wire) (g.W.Wire.traffic c.finish.new.wire)
-    (λ es. standing c.args.service.now.handler.node es c.args.buffers.now) (λ es. standing c.passes.new.service.handler.node es c.passes.new.buffers)
-    (λ es. standing c.finish.new.node es c.finish.new.buffers) _ (c.in-Ok.ensures.turns none).0 c.in-Ok-finish.ensures.served
+    (λ es. in_loop c.args.service.now.handler.node es c.args.buffers.now) (λ es. in_loop c.passes.new.service.handler.node es c.passes.new.buffers)
+    (λ es. in_loop c.finish.new.node es c.finish.new.buffers) _ (c.in-Ok.ensures.turns none).0 c.in-Ok-finish.ensures.served
 
 pub returns-in-Err-finish-clause-turns : goal.returns-in-Err-finish-clause-turns
 returns-in-Err-finish-clause-turns g c none =
     over_then (g.W.Wire.traffic c.args.wire.now) (g.W.Wire.traffic c.passes.new.wire) (g.W.Wire.traffic c.finish.new.wire)
-    (λ es. standing c.args.service.now.handler.node es c.args.buffers.now) (λ es. standing c.passes.new.service.handler.node es c.passes.new.buffers)
-    (λ es. standing c.finish.new.node es c.finish.new.buffers) _ (c.in-Ok.ensures.turns none).0 c.in-Err-finish.ensures.served
+    (λ es. in_loop c.args.service.now.handler.node es c.args.buffers.now) (λ es. in_loop c.passes.new.service.handler.node es c.passes.new.buffers)
+    (λ es. in_loop c.finish.new.node es c.finish.new.buffers) _ (c.in-Ok.ensures.turns none).0 c.in-Err-finish.ensures.served
 
 pub returns-in-Err-clause-turns : goal.returns-in-Err-clause-turns
 returns-in-Err-clause-turns g c none = (c.in-Err.ensures.turns none).0

@@ -1,6 +1,6 @@
 -- one round more
 use Rattle.std.proofs.Common.{◌∙◌, [], arith, refl}
-use Rattle.node_loop.specs.Turns.{standing}
+use Rattle.node_loop.specs.Turns.{in_loop}
 use Rattle.node_loop.proofs.Chains.{served_none, same_all}
 use Rattle.node_loop.proofs.Hosting.{hosted_none}
 use Rattle.px_transport.proofs.Traffic.{adds_none}
@@ -26,11 +26,11 @@ loop-round-init g c = record {
 pub loop-round-preserved : goal.loop-round-preserved
 loop-round-preserved g c = record {
   hosted = hosted_over (g.W.Wire.traffic c.args.wire.now) (g.W.Wire.traffic c.loop-round.wire) (g.W.Wire.traffic c.pass.new.wire)
-      (λ es. standing c.args.service.now.handler.node es c.args.buffers.now) (λ es. standing c.loop-round.service.handler.node es c.loop-round.buffers)
-      (λ es. standing c.pass.new.service.handler.node es c.pass.new.buffers) _ c.loop-round.invariant.hosted c.in-Ok.ensures.hosted;
+      (λ es. in_loop c.args.service.now.handler.node es c.args.buffers.now) (λ es. in_loop c.loop-round.service.handler.node es c.loop-round.buffers)
+      (λ es. in_loop c.pass.new.service.handler.node es c.pass.new.buffers) _ c.loop-round.invariant.hosted c.in-Ok.ensures.hosted;
   turns = λ none. turns_then (g.W.Wire.traffic c.args.wire.now) (g.W.Wire.traffic c.loop-round.wire) (g.W.Wire.traffic c.pass.new.wire)
-      (λ es. standing c.args.service.now.handler.node es c.args.buffers.now) (λ es. standing c.loop-round.service.handler.node es c.loop-round.buffers)
-      (λ es. standing c.pass.new.service.handler.node es c.pass.new.buffers) _ c.loop-round.control c.pass.new.control (c.loop-round.invariant.turns none) c.in-Ok.ensures.turns;
+      (λ es. in_loop c.args.service.now.handler.node es c.args.buffers.now) (λ es. in_loop c.loop-round.service.handler.node es c.loop-round.buffers)
+      (λ es. in_loop c.pass.new.service.handler.node es c.pass.new.buffers) _ c.loop-round.control c.pass.new.control (c.loop-round.invariant.turns none) c.in-Ok.ensures.turns;
   left = omega (arith, c.loop-round.invariant.left, c.in-Ok.ensures.few);
   looks = looks_then c.loop-round._round 1 (g.T.Timer.timer_events c.args.timer.now) (g.T.Timer.timer_events c.loop-round.timer) (g.T.Timer.timer_events c.pass.new.timer)
       c.loop-round.invariant.looks c.in-Ok.ensures.looks;
@@ -43,11 +43,11 @@ loop-round-preserved g c = record {
 pub returns-in-Err-clause-hosted : goal.returns-in-Err-clause-hosted
 returns-in-Err-clause-hosted g c =
     hosted_over (g.W.Wire.traffic c.args.wire.now) (g.W.Wire.traffic c.loop-round.wire) (g.W.Wire.traffic c.pass.new.wire)
-    (λ es. standing c.args.service.now.handler.node es c.args.buffers.now) (λ es. standing c.loop-round.service.handler.node es c.loop-round.buffers)
-    (λ es. standing c.pass.new.service.handler.node es c.pass.new.buffers) _ c.loop-round.invariant.hosted c.in-Err.ensures.hosted
+    (λ es. in_loop c.args.service.now.handler.node es c.args.buffers.now) (λ es. in_loop c.loop-round.service.handler.node es c.loop-round.buffers)
+    (λ es. in_loop c.pass.new.service.handler.node es c.pass.new.buffers) _ c.loop-round.invariant.hosted c.in-Err.ensures.hosted
 
 pub returns-in-Err-clause-turns : goal.returns-in-Err-clause-turns
 returns-in-Err-clause-turns g c none =
     turns_then (g.W.Wire.traffic c.args.wire.now) (g.W.Wire.traffic c.loop-round.wire) (g.W.Wire.traffic c.pass.new.wire)
-    (λ es. standing c.args.service.now.handler.node es c.args.buffers.now) (λ es. standing c.loop-round.service.handler.node es c.loop-round.buffers)
-    (λ es. standing c.pass.new.service.handler.node es c.pass.new.buffers) _ c.loop-round.control c.pass.new.control (c.loop-round.invariant.turns none) c.in-Err.ensures.turns
+    (λ es. in_loop c.args.service.now.handler.node es c.args.buffers.now) (λ es. in_loop c.loop-round.service.handler.node es c.loop-round.buffers)
+    (λ es. in_loop c.pass.new.service.handler.node es c.pass.new.buffers) _ c.loop-round.control c.pass.new.control (c.loop-round.invariant.turns none) c.in-Err.ensures.turns

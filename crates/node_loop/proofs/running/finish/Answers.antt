@@ -2,7 +2,7 @@
 use Rattle.std.proofs.Common.{◌∙◌, [], ◌∷◌, arith, refl}
 use Rattle.px_transport.proofs.Traffic.{adds_none}
 use Rattle.node_loop.specs.Timing.{TimerEvent}
-use Rattle.node_loop.specs.Turns.{standing}
+use Rattle.node_loop.specs.Turns.{in_loop}
 use Rattle.node_loop.proofs.Chains.{served_none, same_all}
 use Rattle.node_loop.proofs.Looking.{ends_then}
 use Rattle.node_loop.proofs.Clocks.{timed_then}
@@ -26,20 +26,20 @@ loop-round-init g c = record {
 pub returns-in-Err-clause-served : goal.returns-in-Err-clause-served
 returns-in-Err-clause-served g c =
     over_then (g.W.Wire.traffic c.args.wire.now) (g.W.Wire.traffic c.loop-round.wire) (g.W.Wire.traffic c.round.new.wire)
-    (λ es. standing c.args.node.now es c.args.buffers.now) (λ es. standing c.loop-round.node es c.loop-round.buffers)
-    (λ es. standing c.round.new.node es c.round.new.buffers) _ c.loop-round.invariant.served c.in-Err.ensures.served
+    (λ es. in_loop c.args.node.now es c.args.buffers.now) (λ es. in_loop c.loop-round.node es c.loop-round.buffers)
+    (λ es. in_loop c.round.new.node es c.round.new.buffers) _ c.loop-round.invariant.served c.in-Err.ensures.served
 
 pub loop-round-preserved : goal.loop-round-preserved
 loop-round-preserved g c = record {
   served = over_then (g.W.Wire.traffic c.args.wire.now) (g.W.Wire.traffic c.loop-round.wire) (g.W.Wire.traffic c.wait.new.self)
-      (λ es. standing c.args.node.now es c.args.buffers.now) (λ es. standing c.loop-round.node es c.loop-round.buffers)
-      (λ es. standing c.round.new.node es c.round.new.buffers) _ c.loop-round.invariant.served
+      (λ es. in_loop c.args.node.now es c.args.buffers.now) (λ es. in_loop c.loop-round.node es c.loop-round.buffers)
+      (λ es. in_loop c.round.new.node es c.round.new.buffers) _ c.loop-round.invariant.served
       (over_then (g.W.Wire.traffic c.loop-round.wire) (g.W.Wire.traffic c.round.new.wire) (g.W.Wire.traffic c.wait.new.self)
-      (λ es. standing c.loop-round.node es c.loop-round.buffers) (λ es. standing c.round.new.node es c.round.new.buffers)
-      (λ es. standing c.round.new.node es c.round.new.buffers) _ c.in-Ok.ensures.served
+      (λ es. in_loop c.loop-round.node es c.loop-round.buffers) (λ es. in_loop c.round.new.node es c.round.new.buffers)
+      (λ es. in_loop c.round.new.node es c.round.new.buffers) _ c.in-Ok.ensures.served
       (over_same (g.W.Wire.traffic c.round.new.wire) (g.W.Wire.traffic c.wait.new.self)
-      (λ es. standing c.round.new.node es c.round.new.buffers) (λ es. standing c.round.new.node es c.round.new.buffers)
-      c.wait.ensures.quiet (λ es. same_all (standing c.round.new.node es c.round.new.buffers))));
+      (λ es. in_loop c.round.new.node es c.round.new.buffers) (λ es. in_loop c.round.new.node es c.round.new.buffers)
+      c.wait.ensures.quiet (λ es. same_all (in_loop c.round.new.node es c.round.new.buffers))));
   grows = omega (arith, c.loop-round.invariant.grows, c.round.ensures.grows);
   looks = ends_then c.loop-round._round (g.T.Timer.timer_events c.args.timer.now) (g.T.Timer.timer_events c.loop-round.timer)
       (g.T.Timer.timer_events c.round.new.timer) c.loop-round.invariant.looks c.in-Ok.ensures.looks;

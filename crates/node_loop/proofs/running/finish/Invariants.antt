@@ -4,13 +4,13 @@ use Rattle.px_transport.specs.Wires.{Adds, Moves}
 use Rattle.pf_node.specs.Nodes.{applied_of}
 use Rattle.node_loop.specs.Timing.{TimerEvent, looks_in}
 use Rattle.node_loop.specs.Times.{IsTimed}
-use Rattle.node_loop.specs.Turns.{Served, standing}
+use Rattle.node_loop.specs.Turns.{Served, in_loop}
 use Rattle.node_loop.proofs.running.finish.Given as goal
 
 abbrev pub invariant-loop-round : goal.invariant-loop-round
 invariant-loop-round g l = record {
   served : Moves (g.W.Wire.traffic l.fn.wire) (g.W.Wire.traffic l.wire)
-      (λ es es'. Served (standing l.fn.node es l.fn.buffers) (standing l.node es' l.buffers) None);
+      (λ es es'. Served (in_loop l.fn.node es l.fn.buffers) (in_loop l.node es' l.buffers) None);
   grows : applied_of l.fn.node ≤ applied_of l.node;
   looks : (more : List TimerEvent) × (looks_in more ≡ l._round) ×
       Adds (g.T.Timer.timer_events l.fn.timer) (g.T.Timer.timer_events l.timer) (TimerEvent.Ends ∷ more);

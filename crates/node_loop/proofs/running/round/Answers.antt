@@ -1,8 +1,9 @@
 -- what came, what is sent again, and the clock
 use Rattle.std.proofs.Common.{◌∙◌, refl}
-use Rattle.node_loop.specs.Turns.{standing}
+use Rattle.node_loop.specs.Turns.{in_loop}
 use Rattle.node_loop.specs.Resends.{kept_of, requests_of}
-use Rattle.node_loop.proofs.Chains.{round_took, round_saw}
+use Rattle.node_loop.specs.Timing.{is_tick}
+use Rattle.node_loop.proofs.Chains.{round_made}
 use Rattle.node_loop.proofs.Looking.{looks_once}
 use Rattle.node_loop.proofs.Clocks.{looks_at_once}
 use Rattle.node_loop.proofs.Counting.{round_counts}
@@ -12,10 +13,10 @@ use Rattle.node_loop.proofs.running.round.Goals as goal
 pub returns-in-Err-clause-served : goal.returns-in-Err-clause-served
 returns-in-Err-clause-served g c =
     over_then (g.W.Wire.traffic c.args.wire.now) (g.W.Wire.traffic c.args.wire.now) (g.W.Wire.traffic c.drain.new.wire)
-    (λ es. standing c.args.node.now es c.args.buffers.now) (λ es. standing c.args.node.now es c.begin.new.buffers)
-    (λ es. standing c.drain.new.node es c.drain.new.buffers) _
+    (λ es. in_loop c.args.node.now es c.args.buffers.now) (λ es. in_loop c.args.node.now es c.begin.new.buffers)
+    (λ es. in_loop c.drain.new.node es c.drain.new.buffers) _
     (over_same (g.W.Wire.traffic c.args.wire.now) (g.W.Wire.traffic c.args.wire.now)
-    (λ es. standing c.args.node.now es c.args.buffers.now) (λ es. standing c.args.node.now es c.begin.new.buffers) (λ es t. t) (λ es. record {
+    (λ es. in_loop c.args.node.now es c.args.buffers.now) (λ es. in_loop c.args.node.now es c.begin.new.buffers) (λ es t. t) (λ es. record {
       replica = refl;
       traffic = refl;
       kept = c.begin.ensures.kept;
@@ -26,10 +27,10 @@ returns-in-Err-clause-served g c =
 pub returns-clause-served : goal.returns-clause-served
 returns-clause-served g c =
     over_then (g.W.Wire.traffic c.args.wire.now) (g.W.Wire.traffic c.args.wire.now) (g.W.Wire.traffic c.tick_if.new.wire)
-    (λ es. standing c.args.node.now es c.args.buffers.now) (λ es. standing c.args.node.now es c.begin.new.buffers)
-    (λ es. standing c.tick_if.new.node es c.tick_if.new.buffers) _
+    (λ es. in_loop c.args.node.now es c.args.buffers.now) (λ es. in_loop c.args.node.now es c.begin.new.buffers)
+    (λ es. in_loop c.tick_if.new.node es c.tick_if.new.buffers) _
     (over_same (g.W.Wire.traffic c.args.wire.now) (g.W.Wire.traffic c.args.wire.now)
-    (λ es. standing c.args.node.now es c.args.buffers.now) (λ es. standing c.args.node.now es c.begin.new.buffers) (λ es t. t) (λ es. record {
+    (λ es. in_loop c.args.node.now es c.args.buffers.now) (λ es. in_loop c.args.node.now es c.begin.new.buffers) (λ es t. t) (λ es. record {
       replica = refl;
       traffic = refl;
       kept = c.begin.ensures.kept;
@@ -37,18 +38,18 @@ returns-clause-served g c =
       hears = c.begin.ensures.hears;
     }))
     (over_then (g.W.Wire.traffic c.args.wire.now) (g.W.Wire.traffic c.drain.new.wire) (g.W.Wire.traffic c.tick_if.new.wire)
-    (λ es. standing c.args.node.now es c.begin.new.buffers) (λ es. standing c.drain.new.node es c.drain.new.buffers)
-    (λ es. standing c.tick_if.new.node es c.tick_if.new.buffers) _ c.in-Ok.ensures.served
+    (λ es. in_loop c.args.node.now es c.begin.new.buffers) (λ es. in_loop c.drain.new.node es c.drain.new.buffers)
+    (λ es. in_loop c.tick_if.new.node es c.tick_if.new.buffers) _ c.in-Ok.ensures.served
     (over_then (g.W.Wire.traffic c.drain.new.wire) (g.W.Wire.traffic c.resend-has_own.new.wire) (g.W.Wire.traffic c.tick_if.new.wire)
-    (λ es. standing c.drain.new.node es c.drain.new.buffers)
-    (λ es. record (standing c.drain.new.node es c.drain.new.buffers) { kept = kept_of c.resend-has_own.new.resender; requests = requests_of c.resend-has_own.new.resender })
-    (λ es. standing c.tick_if.new.node es c.tick_if.new.buffers) _
+    (λ es. in_loop c.drain.new.node es c.drain.new.buffers)
+    (λ es. record (in_loop c.drain.new.node es c.drain.new.buffers) { kept = kept_of c.resend-has_own.new.resender; requests = requests_of c.resend-has_own.new.resender })
+    (λ es. in_loop c.tick_if.new.node es c.tick_if.new.buffers) _
     (over_between (g.W.Wire.traffic c.drain.new.wire) (g.W.Wire.traffic c.resend-has_own.new.wire)
-    (λ es. standing c.drain.new.node es c.drain.new.buffers)
-    (λ es. record (standing c.drain.new.node es c.drain.new.buffers) { kept = kept_of c.resend-has_own.new.resender; requests = requests_of c.resend-has_own.new.resender })
+    (λ es. in_loop c.drain.new.node es c.drain.new.buffers)
+    (λ es. record (in_loop c.drain.new.node es c.drain.new.buffers) { kept = kept_of c.resend-has_own.new.resender; requests = requests_of c.resend-has_own.new.resender })
     (over_resent (g.W.Wire.traffic c.drain.new.wire) (g.W.Wire.traffic c.resend-has_own.new.wire)
-    (λ es. standing c.drain.new.node es c.drain.new.buffers)
-    (λ es. record (standing c.drain.new.node es c.drain.new.buffers) { kept = kept_of c.resend-has_own.new.resender; requests = requests_of c.resend-has_own.new.resender })
+    (λ es. in_loop c.drain.new.node es c.drain.new.buffers)
+    (λ es. record (in_loop c.drain.new.node es c.drain.new.buffers) { kept = kept_of c.resend-has_own.new.resender; requests = requests_of c.resend-has_own.new.resender })
     (kept_of c.drain.new.buffers.resender) c.resend-has_own.ensures.again (λ es again among. record {
       replica = refl;
       again = again;
@@ -59,37 +60,15 @@ returns-clause-served g c =
       hears = refl;
     }))) c.tick_if.ensures.served))
 
-pub returns-clause-took : goal.returns-clause-took
-returns-clause-took g c =
+pub returns-clause-made : goal.returns-clause-made
+returns-clause-made g c =
     on_ok c.tick_if.result (λ ticked es t.
     let r = c.in-Ok.ensures.saw es t in
     let again = c.resend-has_own.ensures.again in
     let s = ticked _ (again.2 r.0 r.1) in (
       s.0,
       s.1,
-      round_took c.in-Ok.handled s.2.0 _ _ _ _ _ _ _ (record {
-        replica = refl;
-        traffic = refl;
-        kept = c.begin.ensures.kept;
-        requests = c.begin.ensures.requests;
-        hears = c.begin.ensures.hears;
-      }) r.2 (record {
-        replica = refl;
-        again = again.0;
-        among = again.1;
-        went = refl;
-        kept = c.resend-has_own.ensures.kept;
-        requests = c.resend-has_own.ensures.requests;
-        hears = refl;
-      }) s.2.1,
-    )) c.tick_if.ensures.ticked
-
-pub returns-clause-saw : goal.returns-clause-saw
-returns-clause-saw g c =
-    on_ok c.tick_if.result (λ ticked es t.
-    let r = c.in-Ok.ensures.saw es t in (
-      c.in-Ok.handled,
-      round_saw c.in-Ok.handled _ _ _ _ _ _ _ _ _ _ (g.T.Timer.timer_events c.args.timer.now) (g.T.Timer.timer_events c.action-action.new.timer)
+      round_made c.in-Ok.handled _ _ _ _ _ _ _ _ _ _ _ _ _ _ (g.T.Timer.timer_events c.args.timer.now) (g.T.Timer.timer_events c.action-action.new.timer)
           (g.T.Timer.timer_events c.repeats-is_due.new.self) (record {
             replica = refl;
             traffic = refl;
@@ -97,18 +76,26 @@ returns-clause-saw g c =
             requests = c.begin.ensures.requests;
             hears = c.begin.ensures.hears;
           }) c.begin.ensures.unseen r.2 (c.tick_if.ensures.unseen ∙ c.action-action.ensures.looked) c.front-was.ensures.front c.view_of-view.ensures
-          c.action-action.ensures.timer_events c.repeats-is_due.ensures.timer_events,
+          c.action-action.ensures.timer_events c.repeats-is_due.ensures.timer_events (record {
+            replica = refl;
+            again = again.0;
+            among = again.1;
+            went = refl;
+            kept = c.resend-has_own.ensures.kept;
+            requests = c.resend-has_own.ensures.requests;
+            hears = refl;
+          }) s.2,
     )) c.tick_if.ensures.ticked
 
 pub returns-clause-looks : goal.returns-clause-looks
 returns-clause-looks g c =
     on_ok c.tick_if.result (λ _. looks_once (g.T.Timer.timer_events c.args.timer.now) (g.T.Timer.timer_events c.action-action.new.timer)
-    (g.T.Timer.timer_events c.repeats-is_due.new.self) c.args.now c.view_of-view.result c.drain.new.buffers.peer_progress c.action-action.ensures.timer_events c.repeats-is_due.ensures.timer_events) c.tick_if.ensures.ticked
+    (g.T.Timer.timer_events c.repeats-is_due.new.self) c.args.now c.view_of-view.result (is_tick c.action-action.result) c.repeats-is_due.result c.drain.new.buffers.peer_progress c.action-action.ensures.timer_events c.repeats-is_due.ensures.timer_events) c.tick_if.ensures.ticked
 
 pub returns-clause-at : goal.returns-clause-at
 returns-clause-at g c =
     on_ok c.tick_if.result (λ _. looks_at_once (g.T.Timer.timer_events c.args.timer.now) (g.T.Timer.timer_events c.action-action.new.timer)
-    (g.T.Timer.timer_events c.repeats-is_due.new.self) c.args.now c.view_of-view.result c.drain.new.buffers.peer_progress c.action-action.ensures.timer_events c.repeats-is_due.ensures.timer_events) c.tick_if.ensures.ticked
+    (g.T.Timer.timer_events c.repeats-is_due.new.self) c.args.now c.view_of-view.result (is_tick c.action-action.result) c.repeats-is_due.result c.drain.new.buffers.peer_progress c.action-action.ensures.timer_events c.repeats-is_due.ensures.timer_events) c.tick_if.ensures.ticked
 
 pub returns-clause-counts : goal.returns-clause-counts
 returns-clause-counts g c =
@@ -118,7 +105,7 @@ returns-clause-counts g c =
     let s = counted _ (again.2 r.0 r.1) in (
       s.0,
       s.1,
-      round_counts c.in-Ok.handled s.2.0 _ _ _ _ _ _ _ _ _ c.begin.ensures.counts (record {
+      round_counts c.in-Ok.handled (is_tick c.action-action.result) _ _ _ _ _ _ _ _ _ c.begin.ensures.counts (record {
         replica = refl;
         traffic = refl;
         kept = c.begin.ensures.kept;
@@ -132,5 +119,5 @@ returns-clause-counts g c =
         kept = c.resend-has_own.ensures.kept;
         requests = c.resend-has_own.ensures.requests;
         hears = refl;
-      }) s.2.1,
+      }) s.2,
     )) c.tick_if.ensures.counts

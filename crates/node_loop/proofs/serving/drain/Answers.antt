@@ -1,6 +1,6 @@
 -- one datagram more
 use Rattle.std.proofs.Common.{◌∙◌, arith, refl}
-use Rattle.node_loop.specs.Turns.{standing}
+use Rattle.node_loop.specs.Turns.{in_loop}
 use Rattle.node_loop.proofs.Chains.{served_none, same_all, saw_more, saw_no_more}
 use Rattle.node_loop.proofs.Counting.{counts_more, counts_no_more}
 use Rattle.node_loop.proofs.Given.{over_then}
@@ -18,8 +18,8 @@ loop-handled-init g c = record {
 pub loop-handled-preserved : goal.loop-handled-preserved
 loop-handled-preserved g c = record {
   served = over_then (g.W.Wire.traffic c.args.wire.now) (g.W.Wire.traffic c.loop-handled.wire) (g.W.Wire.traffic c.take_one.new.wire)
-      (λ es. standing c.args.node.now es c.args.buffers.now) (λ es. standing c.loop-handled.node es c.loop-handled.buffers)
-      (λ es. standing c.take_one.new.node es c.take_one.new.buffers) _ c.loop-handled.invariant.served c.in-Ok.ensures.served;
+      (λ es. in_loop c.args.node.now es c.args.buffers.now) (λ es. in_loop c.loop-handled.node es c.loop-handled.buffers)
+      (λ es. in_loop c.take_one.new.node es c.take_one.new.buffers) _ c.loop-handled.invariant.served c.in-Ok.ensures.served;
   saw = λ es t.
       let r = c.loop-handled.invariant.saw es t in
       let s = c.in-Ok.ensures.saw r.0 r.1 in
@@ -35,8 +35,8 @@ loop-handled-preserved g c = record {
 pub returns-then-not-had-clause-served : goal.returns-then-not-had-clause-served
 returns-then-not-had-clause-served g c =
     over_then (g.W.Wire.traffic c.args.wire.now) (g.W.Wire.traffic c.loop-handled.wire) (g.W.Wire.traffic c.take_one.new.wire)
-    (λ es. standing c.args.node.now es c.args.buffers.now) (λ es. standing c.loop-handled.node es c.loop-handled.buffers)
-    (λ es. standing c.take_one.new.node es c.take_one.new.buffers) _ c.loop-handled.invariant.served c.in-Ok.ensures.served
+    (λ es. in_loop c.args.node.now es c.args.buffers.now) (λ es. in_loop c.loop-handled.node es c.loop-handled.buffers)
+    (λ es. in_loop c.take_one.new.node es c.take_one.new.buffers) _ c.loop-handled.invariant.served c.in-Ok.ensures.served
 
 pub returns-then-not-had-clause-saw : goal.returns-then-not-had-clause-saw
 returns-then-not-had-clause-saw g c es t =
@@ -47,8 +47,8 @@ returns-then-not-had-clause-saw g c es t =
 pub returns-in-Err-clause-served : goal.returns-in-Err-clause-served
 returns-in-Err-clause-served g c =
     over_then (g.W.Wire.traffic c.args.wire.now) (g.W.Wire.traffic c.loop-handled.wire) (g.W.Wire.traffic c.take_one.new.wire)
-    (λ es. standing c.args.node.now es c.args.buffers.now) (λ es. standing c.loop-handled.node es c.loop-handled.buffers)
-    (λ es. standing c.take_one.new.node es c.take_one.new.buffers) _ c.loop-handled.invariant.served c.in-Err.ensures.served
+    (λ es. in_loop c.args.node.now es c.args.buffers.now) (λ es. in_loop c.loop-handled.node es c.loop-handled.buffers)
+    (λ es. in_loop c.take_one.new.node es c.take_one.new.buffers) _ c.loop-handled.invariant.served c.in-Err.ensures.served
 
 pub returns-then-not-had-clause-counts : goal.returns-then-not-had-clause-counts
 returns-then-not-had-clause-counts g c es t =

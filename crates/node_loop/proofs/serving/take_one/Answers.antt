@@ -8,7 +8,7 @@ use Rattle.pf_node.specs.Nodes.{replica_of}
 use Rattle.node_loop.specs.Counts.{PassedOver, all_out, but_unsent}
 use Rattle.node_loop.specs.Progress.{seen_in}
 use Rattle.node_loop.specs.Resends.{kept_of, requests_of}
-use Rattle.node_loop.specs.Turns.{HeardTurn, Served, handed_over, standing}
+use Rattle.node_loop.specs.Turns.{HeardTurn, Served, handed_over, in_loop}
 use Rattle.node_loop.specs.inner.Turns.{CountsIf, SawIf}
 use Rattle.node_loop.proofs.Counting.{out_on}
 use Rattle.node_loop.proofs.Given.{gave_some, handed_on, kept_on, requests_on, over_turn}
@@ -20,7 +20,7 @@ returns-in_default-clause-saw g c =
     let old = g.W.Wire.traffic c.args.wire.now in
     let new = g.W.Wire.traffic c.poll-len.new.wire in
     moves_still old new
-    (λ es es'. SawIf false (standing c.args.node.now es c.args.buffers.now) (standing c.args.node.now es' c.args.buffers.now)
+    (λ es es'. SawIf false (in_loop c.args.node.now es c.args.buffers.now) (in_loop c.args.node.now es' c.args.buffers.now)
     (seen_in c.args.buffers.now) (seen_in c.args.buffers.now))
     (quiet_by old new
     (gave_some old new c.poll-len.new.bytes.items c.deref.result.now c.poll-len.result (option_map (λ b. b.now) c.came.result) None
@@ -30,7 +30,7 @@ returns-in_default-clause-saw g c =
 pub returns-in_default-clause-served : goal.returns-in_default-clause-served
 returns-in_default-clause-served g c es t =
     let r = returns-in_default-clause-saw g c es t in
-    (r.0, r.1, served_none (standing c.args.node.now es c.args.buffers.now) (standing c.args.node.now r.0 c.args.buffers.now) r.2.0)
+    (r.0, r.1, served_none (in_loop c.args.node.now es c.args.buffers.now) (in_loop c.args.node.now r.0 c.args.buffers.now) r.2.0)
 
 pub returns-then-passes_over-clause-saw : goal.returns-then-passes_over-clause-saw
 returns-then-passes_over-clause-saw g c =
@@ -39,8 +39,8 @@ returns-then-passes_over-clause-saw g c =
     let new = g.W.Wire.traffic c.passes_over.new.wire in
     let again = c.passes_over.ensures.again in
     moves_by old new (Gave c.in-Some.bytes.now ∷ hands again.0)
-    (λ es es'. SawIf true (standing c.args.node.now es c.args.buffers.now)
-    (record (standing c.args.node.now es' c.args.buffers.now) { kept = kept_of c.passes_over.new.resender; requests = requests_of c.passes_over.new.resender })
+    (λ es es'. SawIf true (in_loop c.args.node.now es c.args.buffers.now)
+    (record (in_loop c.args.node.now es' c.args.buffers.now) { kept = kept_of c.passes_over.new.resender; requests = requests_of c.passes_over.new.resender })
     (seen_in c.args.buffers.now) (seen_in c.args.buffers.now))
     (adds_then old mid new (Gave c.in-Some.bytes.now ∷ []) (hands again.0)
     (gave_some old mid c.poll-len.new.bytes.items c.deref.result.now c.poll-len.result (option_map (λ b. b.now) c.came.result)
@@ -68,8 +68,8 @@ returns-then-passes_over-clause-served g c es t =
     let mid = g.W.Wire.traffic c.poll-len.new.wire in
     let new = g.W.Wire.traffic c.passes_over.new.wire in
     moves_by old new (Gave c.in-Some.bytes.now ∷ hands again.0)
-    (λ es es'. Served (standing c.args.node.now es c.args.buffers.now)
-    (record (standing c.args.node.now es' c.args.buffers.now) { kept = kept_of c.passes_over.new.resender; requests = requests_of c.passes_over.new.resender })
+    (λ es es'. Served (in_loop c.args.node.now es c.args.buffers.now)
+    (record (in_loop c.args.node.now es' c.args.buffers.now) { kept = kept_of c.passes_over.new.resender; requests = requests_of c.passes_over.new.resender })
     None)
     (adds_then old mid new (Gave c.in-Some.bytes.now ∷ []) (hands again.0)
     (gave_some old mid c.poll-len.new.bytes.items c.deref.result.now c.poll-len.result (option_map (λ b. b.now) c.came.result)
@@ -94,8 +94,8 @@ returns-in-Ok-clause-saw g c =
     let wait = g.W.Wire.traffic c.passes_over.new.wire in
     let new = g.W.Wire.traffic c.send_all.new.wire in
     moves_by old new (Gave c.in-Some.bytes.now ∷ hands (handed_over c.receive-result.new.out.items))
-    (λ es es'. SawIf true (standing c.args.node.now es c.args.buffers.now)
-    (record (standing c.receive-result.new.node es' c.args.buffers.now) { kept = kept_of c.send_all.new.resender; requests = requests_of c.send_all.new.resender })
+    (λ es es'. SawIf true (in_loop c.args.node.now es c.args.buffers.now)
+    (record (in_loop c.receive-result.new.node es' c.args.buffers.now) { kept = kept_of c.send_all.new.resender; requests = requests_of c.send_all.new.resender })
     (seen_in c.args.buffers.now) c.receive-result.new.peer_progress)
     (adds_then old mid new (Gave c.in-Some.bytes.now ∷ []) (hands (handed_over c.receive-result.new.out.items))
     (gave_some old mid c.poll-len.new.bytes.items c.deref.result.now c.poll-len.result (option_map (λ b. b.now) c.came.result)
@@ -125,12 +125,12 @@ returns-in-Ok-clause-served g c =
     let mid = g.W.Wire.traffic c.poll-len.new.wire in
     let wait = g.W.Wire.traffic c.passes_over.new.wire in
     let new = g.W.Wire.traffic c.send_all.new.wire in
-    over_turn old new (λ es. standing c.args.node.now es c.args.buffers.now)
-    (λ es. record (standing c.receive-result.new.node es c.args.buffers.now) { kept = kept_of c.send_all.new.resender; requests = requests_of c.send_all.new.resender })
+    over_turn old new (λ es. in_loop c.args.node.now es c.args.buffers.now)
+    (λ es. record (in_loop c.receive-result.new.node es c.args.buffers.now) { kept = kept_of c.send_all.new.resender; requests = requests_of c.send_all.new.resender })
     None
     (moves_by old new (Gave c.in-Some.bytes.now ∷ hands (handed_over c.receive-result.new.out.items))
-    (λ es es'. HeardTurn (standing c.args.node.now es c.args.buffers.now)
-    (record (standing c.receive-result.new.node es' c.args.buffers.now) { kept = kept_of c.send_all.new.resender; requests = requests_of c.send_all.new.resender })
+    (λ es es'. HeardTurn (in_loop c.args.node.now es c.args.buffers.now)
+    (record (in_loop c.receive-result.new.node es' c.args.buffers.now) { kept = kept_of c.send_all.new.resender; requests = requests_of c.send_all.new.resender })
     None)
     (adds_then old mid new (Gave c.in-Some.bytes.now ∷ []) (hands (handed_over c.receive-result.new.out.items))
     (gave_some old mid c.poll-len.new.bytes.items c.deref.result.now c.poll-len.result (option_map (λ b. b.now) c.came.result)
@@ -157,12 +157,12 @@ returns-in-Err-clause-served g c =
     let mid = g.W.Wire.traffic c.poll-len.new.wire in
     let wait = g.W.Wire.traffic c.passes_over.new.wire in
     let new = g.W.Wire.traffic c.send_all.new.wire in
-    over_turn old new (λ es. standing c.args.node.now es c.args.buffers.now)
-    (λ es. record (standing c.receive-result.new.node es c.args.buffers.now) { kept = kept_of c.send_all.new.resender; requests = requests_of c.send_all.new.resender })
+    over_turn old new (λ es. in_loop c.args.node.now es c.args.buffers.now)
+    (λ es. record (in_loop c.receive-result.new.node es c.args.buffers.now) { kept = kept_of c.send_all.new.resender; requests = requests_of c.send_all.new.resender })
     (Some c.in-Err.fault)
     (moves_by old new (Gave c.in-Some.bytes.now ∷ hands (handed_over c.receive-result.new.out.items))
-    (λ es es'. HeardTurn (standing c.args.node.now es c.args.buffers.now)
-    (record (standing c.receive-result.new.node es' c.args.buffers.now) { kept = kept_of c.send_all.new.resender; requests = requests_of c.send_all.new.resender })
+    (λ es es'. HeardTurn (in_loop c.args.node.now es c.args.buffers.now)
+    (record (in_loop c.receive-result.new.node es' c.args.buffers.now) { kept = kept_of c.send_all.new.resender; requests = requests_of c.send_all.new.resender })
     (Some c.in-Err.fault))
     (adds_then old mid new (Gave c.in-Some.bytes.now ∷ []) (hands (handed_over c.receive-result.new.out.items))
     (gave_some old mid c.poll-len.new.bytes.items c.deref.result.now c.poll-len.result (option_map (λ b. b.now) c.came.result)
@@ -193,8 +193,8 @@ returns-then-passes_over-clause-counts g c =
     let new = g.W.Wire.traffic c.passes_over.new.wire in
     let again = c.passes_over.ensures.again in
     moves_by old new (Gave c.in-Some.bytes.now ∷ hands again.0)
-    (λ es es'. CountsIf true (standing c.args.node.now es c.args.buffers.now)
-    (record (standing c.args.node.now es' c.args.buffers.now) { kept = kept_of c.passes_over.new.resender; requests = requests_of c.passes_over.new.resender })
+    (λ es es'. CountsIf true (in_loop c.args.node.now es c.args.buffers.now)
+    (record (in_loop c.args.node.now es' c.args.buffers.now) { kept = kept_of c.passes_over.new.resender; requests = requests_of c.passes_over.new.resender })
     c.args.buffers.now.counts c.passes_over.new.counts)
     (adds_then old mid new (Gave c.in-Some.bytes.now ∷ []) (hands again.0)
     (gave_some old mid c.poll-len.new.bytes.items c.deref.result.now c.poll-len.result (option_map (λ b. b.now) c.came.result)
@@ -224,8 +224,8 @@ returns-in-Ok-clause-counts g c =
     let wait = g.W.Wire.traffic c.passes_over.new.wire in
     let new = g.W.Wire.traffic c.send_all.new.wire in
     moves_by old new (Gave c.in-Some.bytes.now ∷ hands (handed_over c.receive-result.new.out.items))
-    (λ es es'. CountsIf true (standing c.args.node.now es c.args.buffers.now)
-    (record (standing c.receive-result.new.node es' c.args.buffers.now) { kept = kept_of c.send_all.new.resender; requests = requests_of c.send_all.new.resender })
+    (λ es es'. CountsIf true (in_loop c.args.node.now es c.args.buffers.now)
+    (record (in_loop c.receive-result.new.node es' c.args.buffers.now) { kept = kept_of c.send_all.new.resender; requests = requests_of c.send_all.new.resender })
     c.args.buffers.now.counts c.send_all.new.counts)
     (adds_then old mid new (Gave c.in-Some.bytes.now ∷ []) (hands (handed_over c.receive-result.new.out.items))
     (gave_some old mid c.poll-len.new.bytes.items c.deref.result.now c.poll-len.result (option_map (λ b. b.now) c.came.result)

@@ -5,7 +5,7 @@ use Rattle.px_transport.proofs.Traffic.{moves_by}
 use Rattle.px_replica.specs.Faults.{fault_of}
 use Rattle.node_loop.specs.Resends.{kept_of, requests_of}
 use Rattle.node_loop.specs.Counting.{CountsTicked}
-use Rattle.node_loop.specs.Turns.{handed_over, standing}
+use Rattle.node_loop.specs.Turns.{handed_over, in_loop}
 use Rattle.node_loop.proofs.Counting.{out_on}
 use Rattle.node_loop.proofs.Given.{handed_on, kept_on}
 use Rattle.node_loop.proofs.serving.tick_now.Goals as goal
@@ -15,8 +15,8 @@ returns-clause-counts g c =
     let old = g.W.Wire.traffic c.args.wire.now in
     let new = g.W.Wire.traffic c.send_all.new.wire in
     moves_by old new (hands (handed_over c.act-result.new.out.items))
-    (λ es es'. CountsTicked (standing c.args.node.now es c.args.buffers.now)
-    (record (standing c.act-result.new.node es' c.args.buffers.now) { kept = kept_of c.send_all.new.resender; requests = requests_of c.send_all.new.resender })
+    (λ es es'. CountsTicked (in_loop c.args.node.now es c.args.buffers.now)
+    (record (in_loop c.act-result.new.node es' c.args.buffers.now) { kept = kept_of c.send_all.new.resender; requests = requests_of c.send_all.new.resender })
     (fault_of c.act-result.result) c.args.buffers.now.counts c.send_all.new.counts)
     (handed_on old new c.act-result.new.out.items c.as_slice.result.now c.as_slice.ensures.value c.send_all.ensures.handed)
     (λ es. record {

@@ -3,7 +3,7 @@ use Rattle.std.proofs.Common.{◌++◌, option_map, refl}
 use Rattle.px_transport.specs.Wires.{gives, hands}
 use Rattle.px_replica.specs.Faults.{fault_of}
 use Rattle.node_loop.specs.Resends.{kept_of, requests_of}
-use Rattle.node_loop.specs.Turns.{Turned, handed_over, standing}
+use Rattle.node_loop.specs.Turns.{Turned, handed_over, in_loop}
 use Rattle.node_loop.proofs.Among.{among_front, among_is}
 use Rattle.px_transport.proofs.Traffic.{adds_then, moves_by}
 use Rattle.node_loop.proofs.Given.{gave_on, handed_on, kept_on}
@@ -17,8 +17,8 @@ returns-clause-turned g c =
     let gave = gives (option_map (λ b. b.now) c.came.result) in
     let went = hands (handed_over c.act-result.new.out.items) in
     moves_by old new (gave ++ went)
-    (λ es es'. Turned (standing c.args.node.now es c.args.buffers.now)
-    (record (standing c.act-result.new.node es' c.args.buffers.now) { kept = kept_of c.send_all.new.resender; requests = requests_of c.send_all.new.resender })
+    (λ es es'. Turned (in_loop c.args.node.now es c.args.buffers.now)
+    (record (in_loop c.act-result.new.node es' c.args.buffers.now) { kept = kept_of c.send_all.new.resender; requests = requests_of c.send_all.new.resender })
     (fault_of c.act-result.result))
     (adds_then old mid new gave went
     (gave_on old mid c.hear-len.new.bytes.items c.deref.result.now c.hear-len.result (option_map (λ b. b.now) c.came.result)

@@ -5,7 +5,7 @@ use Rattle.pf_tokens.specs.inner.Defining.{begun_text}
 use Rattle.pf_tokens.specs.Parsing.{definitions, left, later}
 use Rattle.pf_tokens.proofs.defining.collect_items.Given as goal
 
--- with what is left it comes to all
+-- with what is left it gives all
 abbrev pub invariant-loop-lexeme : goal.invariant-loop-lexeme
 invariant-loop-lexeme l = record {
   text : joined_items (definitions l.fn.parser) (begun_text l.some l.text.items) (left l.parser) ≡ joined_items (definitions l.fn.parser) None (left l.fn.parser);

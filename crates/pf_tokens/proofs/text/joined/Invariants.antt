@@ -2,7 +2,7 @@ use Rattle.std.proofs.Common.{◌≡◌, ◌++◌, length}
 use Rattle.pf_tokens.specs.inner.Joined.{joined, joints}
 use Rattle.pf_tokens.proofs.text.joined.Given as goal
 
--- with what is left it comes to all
+-- with what is left it gives all
 abbrev pub invariant-loop-first : goal.invariant-loop-first
 invariant-loop-first l = record {
   bytes : l.bytes.items ++ joined l.rest ≡ joined l.text;

@@ -10,3 +10,12 @@ returns-clause-ran g c = (
   search rules,
   search rules,
 )
+
+pub returns-clause-batch : goal.returns-clause-batch
+returns-clause-batch g c = (
+  map string_bytes c.in_ok-strings.strings.items,
+  option_map string_bytes c.in_ok-control.control,
+  search rules,
+  search rules,
+  search rules,
+)

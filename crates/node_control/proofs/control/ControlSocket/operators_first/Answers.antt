@@ -1,4 +1,5 @@
 -- one entrance, then the other
+use Rattle.node_control.proofs.Asking.{serves_then}
 use Rattle.node_control.proofs.Asked.{within_then, kept_then}
 use Rattle.node_control.proofs.control.ControlSocket.operators_first.Goals as goal
 
@@ -7,3 +8,6 @@ returns-clause-asks g c = within_then _ _ _ c.serve.ensures.asks c.serve_figures
 
 pub returns-clause-kept : goal.returns-clause-kept
 returns-clause-kept g c = kept_then _ _ _ c.serve.ensures.kept c.serve_figures.ensures.kept
+
+pub returns-clause-serves : goal.returns-clause-serves
+returns-clause-serves g c = serves_then _ _ _ c.serve.ensures.serves c.serve_figures.ensures.serves

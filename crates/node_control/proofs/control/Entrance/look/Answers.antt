@@ -1,4 +1,5 @@
 -- what was asked at the client
+use Rattle.node_control.proofs.Asking.{serves_then}
 use Rattle.node_control.proofs.Asked.{turned, within_then, figures_turned, figures_then, kept_then}
 use Rattle.node_control.proofs.control.Entrance.look.Goals as goal
 
@@ -20,3 +21,9 @@ returns-then-eq-clause-kept g c = kept_then _ _ _ c.look_at-look.ensures.kept c.
 
 pub returns-else-eq-clause-kept : goal.returns-else-eq-clause-kept
 returns-else-eq-clause-kept g c = c.look_at-look.ensures.kept
+
+pub returns-then-eq-clause-serves : goal.returns-then-eq-clause-serves
+returns-then-eq-clause-serves g c = serves_then _ _ _ c.look_at-look.ensures.serves c.leave.ensures.serves
+
+pub returns-else-eq-clause-serves : goal.returns-else-eq-clause-serves
+returns-else-eq-clause-serves g c = c.look_at-look.ensures.serves

@@ -1,7 +1,7 @@
 -- what was asked at the client
 use Rattle.std.proofs.Common.{refl}
 use Rattle.node_control.proofs.Asked.{from_here, figures_turned, figures_then, kept_same, kept_then}
-use Rattle.node_control.proofs.Asking.{at_place, chained, figures_chained, is_there, kept_chained}
+use Rattle.node_control.proofs.Asking.{at_place, service_same, serves_calls, chained, figures_chained, is_there, kept_chained}
 use Rattle.node_control.proofs.control.Entrance.look_at.Goals as goal
 
 pub returns-in_default-answer-clause-asks : goal.returns-in_default-answer-clause-asks
@@ -57,3 +57,15 @@ returns-clause-answers g c = at_place _ c.args.self.now.clients.items c.args.pla
 
 pub returns-clause-nobody : goal.returns-clause-nobody
 returns-clause-nobody g c = is_there c.args.self.now.clients.items c.args.place c.in-Some.client.now c.in-Some.ensures.item.3.0 c.in-Some.ensures.value
+
+pub returns-in_default-answer-clause-serves : goal.returns-in_default-answer-clause-serves
+returns-in_default-answer-clause-serves g c =
+    serves_calls c.args.service.now _ _ c.answer.ensures.calls.0 (service_same _ _ refl refl refl) c.answer.ensures.calls.2
+
+pub returns-then-is_served-clause-serves : goal.returns-then-is_served-clause-serves
+returns-then-is_served-clause-serves g c =
+    serves_calls c.args.service.now _ _ c.answer.ensures.calls.0 (service_same _ _ refl refl refl) c.answer.ensures.calls.2
+
+pub returns-clause-serves : goal.returns-clause-serves
+returns-clause-serves g c =
+    serves_calls c.args.service.now _ _ c.answer.ensures.calls.0 (service_same _ _ refl refl refl) c.answer.ensures.calls.2

@@ -31,14 +31,14 @@ unknown = record { code = 404; body = codes "unknown\n" }
 
 -- of one that was learned, its place; of another one, whether this node accepted it
 -- Example: applied 411 and ok 1 0.
-abbrev pub standing_at : Log Bytes → (applied kept : ℕ) → Bool → Option ℕ → AnswerValue
-standing_at log applied kept ours (Some p) =
+abbrev pub request_status_at : Log Bytes → (applied kept : ℕ) → Bool → Option ℕ → AnswerValue
+request_status_at log applied kept ours (Some p) =
     if nat_lt p applied then shown (applied_line p ++ kept_line log applied kept p) else waiting
-standing_at log applied kept ours None = if ours then waiting else unknown
+request_status_at log applied kept ours None = if ours then waiting else unknown
 
 -- what became of a request, where these numbers were given here
-abbrev pub standing : {R : Type 0} {G : Ghosts R} → Node R G → Option (ℕ × ℕ) → (origin number : ℕ) → AnswerValue
-standing n accepted origin number =
-    standing_at (learned_by n) (applied_of n) (kept_of n)
+abbrev pub request_status : {R : Type 0} {G : Ghosts R} → Node R G → Option (ℕ × ℕ) → (origin number : ℕ) → AnswerValue
+request_status n accepted origin number =
+    request_status_at (learned_by n) (applied_of n) (kept_of n)
     ((origin == (membership_of n).me) && is_accepted accepted number)
     (place_below (learned_by n) origin number (front (learned_by n)))

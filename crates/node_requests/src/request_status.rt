@@ -2,8 +2,8 @@
 
 ghost use Rattle.std.specs.Prelude.{◌≡◌, IfOk, string_bytes};
 ghost use Rattle.node_requests.specs.Answers.{answer_value};
-ghost use Rattle.node_requests.specs.Standing.{is_accepted, applied_line, waiting, unknown};
-ghost use Rattle.node_requests.specs.Standing.{standing};
+ghost use Rattle.node_requests.specs.RequestStatus.{is_accepted, applied_line, waiting, unknown};
+ghost use Rattle.node_requests.specs.RequestStatus.{request_status};
 
 use crate::answer::Answer;
 use crate::outcome::push_outcome;
@@ -51,14 +51,14 @@ fn unknown(alloc: Global) -> Result<Answer, AllocError>
 
 /// What became of a request: `applied`, its position and what came of it where that is applied, `waiting` where it is
 /// learned, or was accepted here and isn't learned below the front, else 404 and `unknown`.
-pub(crate) fn standing<R: Records>(
+pub(crate) fn request_status<R: Records>(
     alloc: Global,
     node: &Node<R>,
     accepted: Option<(u64, u64)>,
     origin: u8,
     number: u64,
 ) -> Result<Answer, AllocError>
-    ensures { IfOk result (λ a. answer_value a ≡ standing node.now accepted origin number) }
+    ensures { IfOk result (λ a. answer_value a ≡ request_status node.now accepted origin number) }
 {
     match node.position_of(origin, number) {
         Some(position) => {

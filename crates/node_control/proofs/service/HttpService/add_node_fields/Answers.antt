@@ -3,7 +3,7 @@ use Rattle.std.specs.Prelude.{codes, decimal}
 use Rattle.http_server.specs.Response.{fields_of}
 use Rattle.px_wire.specs.declared.membership.Membership.{Membership}
 use Rattle.node_control.proofs.Fields.{added}
-use Rattle.node_control.proofs.service.HttpService.add_standing.Goals as goal
+use Rattle.node_control.proofs.service.HttpService.add_node_fields.Goals as goal
 
 pub returns-clause-fields : goal.returns-clause-fields
 returns-clause-fields g c =
