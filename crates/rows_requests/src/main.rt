@@ -1,5 +1,5 @@
-//! Requests to a node of a cluster of one, and what is answered: the stored input has the requests, the stored output
-//! what is to be written.
+//! Requests to nodes of clusters of one and of three, runs of `ask`, `follow` and `node`, and what they give: the stored
+//! input has these, the stored output what is to be written.
 //!
 //! A row of the input is a line `== METHOD PATH?QUERY`, which `json` may follow for a client that wants JSON, and
 //! the text up to the newline before the next such line is its body. What is before the first one is passed over.

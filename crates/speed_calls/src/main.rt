@@ -1,4 +1,4 @@
-//! What is timed. The first argument names it, the others are how much of it:
+//! Calls that scripts time. The first argument names one, the others are how much of it:
 //!
 //! - `table FAMILY BUILDS LOOKUPS` makes a table of IPv4 (4) or IPv6 (6) BUILDS times, and looks that many addresses
 //!   up: `found` and how many it holds.

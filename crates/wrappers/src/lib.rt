@@ -1,6 +1,6 @@
-//! Public calls of crates that are dear to prove, each as a function with a clause of the call, which it hands on to. A
+//! Public calls of crates that take long to prove: each function has a clause of one call, and only makes that call. A
 //! mutant of such a call is one of its wrapper: the wrapper proves only if the call promises the clause, and the clause
-//! must refuse the mutant, for the price of this crate.
+//! must refuse the mutant, which takes only as long as this crate.
 #![tactic(auto)]
 
 mod adopting;
