@@ -166,7 +166,7 @@ class Cluster:
         return self.rows(n, "learned")["learned"]
 
     def await_learned(self, count, nodes=None, seconds=60):
-        """Until each of the nodes has learned so many; False where that takes longer."""
+        """Until each of the nodes has learned that many; False where that takes longer."""
         end = time.time() + seconds
         for n in self.nodes if nodes is None else nodes:
             while len(self.learned(n)) < count:
@@ -299,7 +299,7 @@ class Member:
                 heard, round_of = {self.me}, self.round
 
     def commits(self, seconds):
-        """As many as there are in this time: how many a second."""
+        """All that there are in this time: how many a second."""
         began, first = time.time(), self.position
         while time.time() < began + seconds:
             self.commit()

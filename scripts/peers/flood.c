@@ -1,4 +1,4 @@
-/* Sends garbage datagrams to ports of this machine, so many a second: flood RATE SECONDS KIND PORT..
+/* Sends garbage datagrams to ports of this machine, at a given rate: flood RATE SECONDS KIND PORT..
    KIND: random (100 bytes of no meaning), asks (100 bytes that begin as an ask of cluster 7 does, with a wrong tag),
    members (the same as from a member, its address too: the ports are the members' in order; wants root), pieces (the
    same of packets that have a piece).

@@ -3,7 +3,7 @@
    Lines of standard input: `set DELAY JITTER LOSS TWICE` (microseconds one way, microseconds more at random, parts of a
    million lost, parts of a million passed twice); `away MASK` (no packet from or to these nodes); `cut FROM TO` (none
    from the one node to the other) and `mend` (no such cut any more); `whole 1` (IP fragments are dropped, as many
-   firewalls do); `replay RATE` (so many packets a second of those that came before, each drawn from the last 16,384, are
+   firewalls do); `replay RATE` (the given number of packets a second of those that came before, each drawn from the last 16,384, are
    passed on again); `count`, which it answers with how many packets came and how many bytes. It ends with its input. */
 #define _GNU_SOURCE
 #include <poll.h>
