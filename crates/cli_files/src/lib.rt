@@ -44,8 +44,8 @@
 //! - **A start's number is above the last one's**: the other members drop what is of a start below the one that they
 //!   know. A number that is at least the time in seconds goes on above the old ones where a file was lost and made
 //!   anew; one that only counts would begin at 1 again, and nobody would hear the member. The file is made before its
-//!   store, so that a store without it is one whose file was lost. It is replaced, not written over: a stop leaves the
-//!   old one or the new one.
+//!   store, so that a store without it is one whose file was lost. It is replaced, not written over: a process that is
+//!   killed leaves the old one or the new one.
 //! - **What the system's files and random source give is behind traits** ([`StartsPlace`], [`SecretFile`],
 //!   [`RandomBytes`]), of which the clauses speak: the calls that decide something are generic, and only the few lines
 //!   of the system's impls are believed.

@@ -11,8 +11,8 @@
 //! - [`flag`], [`valued`], [`needed`], [`numbered`], [`with_option`]: the options of a subcommand; [`program_with`]:
 //!   the program with one. [`given_in`]: what is given with it; [`value_in`], [`values_in`], [`number_in`],
 //!   [`has_flag`]: what one option has.
-//! - [`write_bytes`]: all of an output, or a front of it; [`misused`], [`out_of_memory`]: what is written of arguments
-//!   that aren't understood, and of out of memory.
+//! - [`write_bytes`]: all of an output, or its first bytes; [`misused`], [`out_of_memory`]: what is written of
+//!   arguments that aren't understood, and of out of memory.
 //! - [`REFUSALS`]: the table, which has each refusal that the program answers once, by its number. [`explanation`],
 //!   [`named`]: its row for a number, and for a number's digits; [`explain_all`]: all its rows. An [`Explanation`] is
 //!   shown as its paragraph; [`Remark`]: one line on standard error about a refusal.

@@ -68,7 +68,7 @@ pub const REFUSALS: [Explanation; 44] = [
         code: 13,
         name: "bad port",
         meaning: "a port that is neither number nor name; a port where the protocols\n         \
-            aren't all tcp or udp",
+            aren't all tcp or udp, or none is named",
         after: TEXT_STAYS,
         remedy: "Write proto tcp, udp or both in the rule; ports are 0 to 65535 or a\n         \
             name of the list.",
@@ -115,7 +115,8 @@ pub const REFUSALS: [Explanation; 44] = [
     Explanation {
         code: 19,
         name: "bad icmp-type",
-        meaning: "icmp-type of no type, or where the protocols aren't all icmp",
+        meaning: "icmp-type of no type, or where the protocols aren't all icmp, or none\n         \
+            is named",
         after: TEXT_STAYS,
         remedy: "Write proto icmp in the rule; a type is 0 to 255, echoreq or echorep.",
     },

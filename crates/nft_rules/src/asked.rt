@@ -1,4 +1,4 @@
-//! What each condition of a rule asks.
+//! Each condition of a rule, as matches of nftables.
 
 ghost use Rattle.std.specs.Prelude.{◌≡◌, ◌∷◌, [], IfOk, map};
 ghost use Rattle.nft_rules.specs.Rendering.{always, direction_alternatives, family_alternatives, protocol_alternatives};

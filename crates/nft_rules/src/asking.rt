@@ -1,4 +1,4 @@
-//! Of how many rules a packet may be asked.
+//! With how many rules one packet may be compared: 100,000 at most.
 
 ghost use Rattle.std.specs.Prelude.{◌≡◌, map, find, option_map};
 ghost use Rattle.nft_rules.specs.Evaluation.{is_chain};

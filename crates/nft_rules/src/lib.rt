@@ -10,6 +10,11 @@
 //! - [`rendered_as_judged`], [`sets_hold_tables`], [`guard_passes_members`]: what the ruleset of a configuration
 //!   decides, what its sets hold, and what the guard lets through.
 //!
+//! Within: `base` is the chain at the hook, `chains` those of a path, `targets` those that an anchor rule jumps to,
+//! `sets` the sets of tables, `names` their names. A rule's conditions are lists of matches of which one has to hold
+//! (`alternative`), by `asked` for each condition and `hosts` for addresses; `rules` makes a rule of each. `asking`
+//! bounds how many rules one packet is compared with.
+//!
 //! # Why
 //!
 //! - The rules of a path are in two chains: in one, forwards, what may end the evaluation, that is quick rules and

@@ -1,4 +1,4 @@
-//! Chains.
+//! Chains as text.
 
 ghost use Rattle.std.specs.Prelude.{◌≡◌, ◌≤◌, Some, length, map};
 ghost use Rattle.std.specs.List.{flat_map};

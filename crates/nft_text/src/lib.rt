@@ -4,6 +4,10 @@
 //!
 //! - [`rendered_lines`]: a configuration as three lines, a transaction each, or why there are none.
 //! - [`lines`]: the lines of two rulesets, one a direction.
+//!
+//! Within: `set_lines`, `chain_lines` and `rule_lines` write sets, chains and rules, `matching` a rule's matches, with
+//! `numbers` (addresses) and `flags`; `labels` has the names of chains and sets, `members` the members' guard, `states`
+//! whether a rule keeps state, `loading` the three transactions.
 #![tactic(auto)]
 
 mod chain_lines;

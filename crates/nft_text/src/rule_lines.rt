@@ -1,4 +1,4 @@
-//! Rules.
+//! Rules as text.
 
 ghost use Rattle.std.specs.Prelude.{◌≡◌, Some, map};
 ghost use Rattle.std.specs.List.{flat_map};

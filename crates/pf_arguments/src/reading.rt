@@ -1,6 +1,6 @@
 //! From matches to what they ask for.
 
-ghost use Rattle.std.specs.Prelude.{◌≡◌, IfOk, map, length, true};
+ghost use Rattle.std.specs.Prelude.{◌≡◌, ◌||◌, Err, IfOk, is_some, map, length, nat_lt, true};
 ghost use Rattle.std.specs.Option.{option_copied};
 ghost use Rattle.clap.specs.Words.{found_of, rows_of};
 ghost use Rattle.pf_entry.specs.Owned.{command_value};
@@ -8,6 +8,7 @@ ghost use Rattle.pf_arguments.specs.Asked.{given_in, asked, change, whole_action
 ghost use Rattle.pf_arguments.specs.Asked.{table_asked};
 ghost use Rattle.pf_arguments.specs.Asked.{path_given, table_given, may_have};
 ghost use Rattle.pf_arguments.specs.Answers.{Answers, IsShort};
+ghost use Rattle.pf_arguments.specs.declared.fault.CommandFault.TheVariants.{Usage};
 ghost use Rattle.pf_arguments.specs.inner.Answers.{given_of, PathGiven};
 
 use crate::action::Action;
@@ -18,6 +19,7 @@ use crate::given::Given;
 use clap::ArgMatches;
 use pf_config::{ConfigFault, parse_path};
 use pf_entry::{Command, EncodeFault, Entry, Path, Profile, SomeAddresses, TableName, encode};
+use pf_rules::is_table_name;
 use std::alloc::{AllocError, Global};
 
 /// The command, unless no entry of it has a spelling.
@@ -47,6 +49,23 @@ fn path_given(alloc: Global, given: Given<'_, '_>) -> Result<Path, CommandFault>
         Err(ConfigFault::Memory) => Err(CommandFault::Memory),
         Err(_) => Err(CommandFault::BadPath),
     }
+}
+
+/// Whether `-t` gives a table's name.
+fn names_table(given: Given<'_, '_>) -> bool
+    ensures { result ≡ is_some (table_given (given_of given.entry)) }
+{
+    match given.table {
+        Some(text) => is_table_name(Profile::One, text.as_bytes()),
+        None => false,
+    }
+}
+
+/// Whether `-t` or addresses are given.
+fn concerns_table(given: Given<'_, '_>) -> bool
+    ensures { result ≡ (is_some (given_of given.entry).table || nat_lt 0 (length (given_of given.entry).addresses)) }
+{
+    given.table.is_some() || !given.addresses.is_empty()
 }
 
 /// The name of `-t`, if it is a table's name.
@@ -149,6 +168,7 @@ fn table_action(
 }
 
 /// The action of an operation that isn't on a table: neither `-t` nor addresses are given with it.
+#[tactic(auto, using(crate::proofs::NeverUsage::never_whole))]
 fn whole_asked(
     alloc: Global,
     operation: AnchorOperation,
@@ -156,9 +176,10 @@ fn whole_asked(
     text: &[u8],
 ) -> Result<Action, CommandFault>
     ensures answer { Answers result (whole_asked operation (given_of given.entry) text.now) }
+    ensures first { whole_asked operation (given_of given.entry) text.now ≡ Err Usage → result ≡ Err Usage }
     ensures short { IfOk result IsShort }
 {
-    if given.table.is_some() || !given.addresses.is_empty() {
+    if concerns_table(given) {
         return Err(CommandFault::Usage);
     }
     let path = path_given(alloc, given)?;
@@ -167,20 +188,23 @@ fn whole_asked(
 
 /// The action of an operation on a table: `-t` names the table, and there are as many addresses as the operation may
 /// have.
+#[tactic(auto, using(crate::proofs::NeverUsage::never_table))]
 fn table_asked(
     alloc: Global,
     operation: TableOperation,
     given: Given<'_, '_>,
 ) -> Result<Action, CommandFault>
     ensures answer { Answers result (table_asked operation (table_given (given_of given.entry)) (given_of given.entry)) }
+    ensures first { table_asked operation (table_given (given_of given.entry)) (given_of given.entry) ≡ Err Usage →
+        result ≡ Err Usage }
     ensures short { IfOk result IsShort }
 {
+    if !names_table(given) || !operation.may_have(given.addresses.len()) {
+        return Err(CommandFault::Usage);
+    }
     let Some(table) = table_given(alloc, given)? else {
         return Err(CommandFault::Usage);
     };
-    if !operation.may_have(given.addresses.len()) {
-        return Err(CommandFault::Usage);
-    }
     let path = path_given(alloc, given)?;
     table_action(alloc, operation, path, table, given.addresses)
 }
@@ -196,6 +220,7 @@ pub fn from_matches(
     text: &[u8],
 ) -> Result<Action, CommandFault>
     ensures answer { Answers result (asked (given_in (rows_of (found_of matches.now))) text.now) }
+    ensures first { asked (given_in (rows_of (found_of matches.now))) text.now ≡ Err Usage → result ≡ Err Usage }
     ensures short { IfOk result IsShort }
 {
     let given = Given::of(matches);

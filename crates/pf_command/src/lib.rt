@@ -11,8 +11,13 @@
 //! - `specs/Effect` is what is to be believed: `effect`, a command's change or its refusal, and `after`, the
 //!   configuration after a log. [`a_log_goes_on`]: one entry more is one command more.
 //!
+//! Within: `counts` is how many entries a table has before and after a command.
+//!
 //! # Why
 //!
+//! - How many entries a command adds and removes is found without memory, or before its change is made: a change can't
+//!   be undone, so nothing after it may run out of memory.
+//! - The two flushes of `-F all` are one call of a configuration, for the same reason.
 //! - Arguments are read without the grammar, and entries without a configuration; so `pf_arguments` and `pf_entry` are
 //!   proved beside the grammar, and this crate hands out all three.
 #![tactic(auto)]
@@ -29,5 +34,6 @@ pub use fault::ApplyFault;
 pub use laws::a_log_goes_on;
 pub use pf_arguments::{Action, CommandFault, from_matches, pfctl_args};
 pub use pf_entry::{
-    Command, CommandView, EncodeFault, Entry, EntryView, Path, TableName, decode, encode,
+    Addresses, BadEntry, Command, CommandView, EncodeFault, Entry, EntryView, Names, Path, Profile,
+    SomeAddresses, SomeAddressesView, TableName, TableNameView, decode, encode,
 };

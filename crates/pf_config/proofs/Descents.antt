@@ -1,13 +1,15 @@
 -- Walks down the tree, and the parts of the map that they come to.
-use Rattle.std.proofs.Common.{◌≡◌, true, false, cond, List, [], ◌∷◌, ◌++◌, Option, Some, None, length, drop, refl, sym, subst, ap, ◌∙◌, append_assoc}
-use Rattle.std.specs.Prelude.{fold, map}
+use Rattle.std.proofs.Common.{◌≡◌, Bool, true, false, cond, List, [], ◌∷◌, ◌++◌, Option, Some, None, length, drop, refl, sym, subst, ap, ◌∙◌, append_assoc}
+use Rattle.std.specs.Prelude.{find, fold, map, option_map, if◌then◌else◌}
 use Rattle.std.specs.List.{starts_with}
 use Rattle.std.specs.Str.{bytes_eq}
 use Rattle.pf_rules.specs.Names.{Name}
 use Rattle.pf_config.specs.Map.{AnchorValue, Path, anchor_at, path_eq, rules_in, tables_in, names_after, put_name, followed_by}
-use Rattle.pf_config.specs.Trees.{AnchorTree, part_below, some_part, child_at, and_then, tree_at, anchor_in}
+use Rattle.pf_config.specs.Changes.{is_empty}
+use Rattle.pf_config.specs.Trees.{AnchorTree, part_below, some_part, child_at, and_then, tree_at, anchor_in, last_name, path_in}
+use Rattle.pf_config.specs.inner.Trees.{names_held}
 use Rattle.pf_config.proofs.PathFronts.{starts_with_both, own_front}
-use Rattle.pf_config.proofs.Treed.{both_true}
+use Rattle.pf_config.proofs.Treed.{both_true, last_of}
 use Rattle.pf_config.proofs.Kids.{names_part}
 
 -- what begins with a path and more begins with the path
@@ -73,7 +75,30 @@ pub found_at : (es : List AnchorValue) (p : Path) → own_at (anchor_in es p) �
 found_at es [] = refl
 found_at es (n ∷ r) = some_at (n ∷ r) (part_below (n ∷ r) es) ∙ at_part (n ∷ r) es
 
+part_itself : (es : List AnchorValue) → part_below [] es ≡ es
+part_itself [] = refl
+part_itself (a ∷ es) = ap (λ (r : List AnchorValue). a ∷ r) (part_itself es)
+
+held_part : (p : Path) (fs : List AnchorValue) → and_then (some_part p fs) names_held ≡ (if is_empty fs then None else Some p)
+held_part p [] = refl
+held_part p (f ∷ fs) = refl
+
+held : (es : List AnchorValue) (p : Path) → and_then (anchor_in es p) names_held ≡ path_in es p
+held es [] = ap (λ fs. if is_empty fs then None else Some []) (sym (part_itself es))
+held es (n ∷ r) = held_part (n ∷ r) (part_below (n ∷ r) es)
+
 -- ---- what the calls answer
+
+-- below an anchor of the map a path is found just where the whole path is found in the map
+pub found_below : (es : List AnchorValue) (p r : Path) → and_then (and_then (anchor_in es p) (λ k. tree_at k r)) names_held ≡ path_in es (p ++ r)
+found_below es p r =
+    let main : AnchorTree = record { names = []; anchors = es } in
+    ap (λ o. and_then (and_then o (λ k. tree_at k r)) names_held) (sym (walk_down es p)) ∙ ap (λ o. and_then o names_held) (sym (walk_on main p r) ∙ walk_down es (p ++ r)) ∙ held es (p ++ r)
+
+-- of paths with one name more the first whose last name passes
+pub first_kid : (test : Name → Bool) (p : Path) (ns : List Name) → find (λ q. test (last_name q)) (map (followed_by p) ns) ≡ option_map (followed_by p) (find test ns)
+first_kid test p [] = refl
+first_kid test p (n ∷ ns) = rw (last_of p n) (elim (test n) as (λ b. cond b (Some (p ++ n ∷ [])) (find (λ q. test (last_name q)) (map (followed_by p) ns)) ≡ option_map (followed_by p) (cond b (Some n) (find test ns))) [ true ↦ refl | false ↦ first_kid test p ns ])
 
 pub found_rules : (es : List AnchorValue) (p : Path) (t : AnchorTree) → Some t ≡ anchor_in es p → rules_in (anchor_at t.names t.anchors) ≡ rules_in (anchor_at p es)
 found_rules es p t h = ap (λ o. rules_in (own_at o)) h ∙ ap rules_in (found_at es p)

@@ -242,6 +242,16 @@ abbrev pub Changes : {A : Type 0} → Result A ConfigFault → Configuration →
 Changes (Ok x) old new r = r ≡ Ok new
 Changes (Err fault) old new r = Refuses fault old new r
 
+-- 20 and 21 need no memory: where one of them is the defined answer, the call returns it
+abbrev pub RefusesFirst : {A : Type 0} → Result A ConfigFault → Result Configuration ConfigFault → Type 0
+RefusesFirst result (Ok c) = Unit {0}
+RefusesFirst result (Err NoTable) = result ≡ Err NoTable
+RefusesFirst result (Err ConstTable) = result ≡ Err ConstTable
+RefusesFirst result (Err TableFull) = Unit {0}
+RefusesFirst result (Err AnchorsFull) = Unit {0}
+RefusesFirst result (Err BadPath) = Unit {0}
+RefusesFirst result (Err Memory) = Unit {0}
+
 -- ---- the commands on one table
 
 -- what adding and replacing begin with where there is no table: with persist, not const, empty

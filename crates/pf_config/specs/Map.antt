@@ -1,5 +1,5 @@
 -- A configuration: a skip list, and a map from paths to rules and tables.
-use Rattle.std.specs.Prelude.{Bool, List, [], ◌∷◌, ◌++◌, length, map}
+use Rattle.std.specs.Prelude.{Bool, true, List, [], ◌∷◌, ◌++◌, length, map}
 use Rattle.std.specs.Prelude.{fold, Option, Some, None, if◌then◌else◌, slice_get, find}
 use Rattle.std.specs.List.{starts_with, filter_map}
 use Rattle.std.specs.Str.{bytes_eq}
@@ -96,6 +96,11 @@ names_after p anchors = filter_map (λ (a : AnchorValue). name_after p a.path) a
 -- the names n, in byte order, such that p followed by n begins some path of the map
 unfoldable pub kids : Configuration → Path → List Name
 kids c p = fold put_name [] (names_after p c.anchors)
+
+-- the name is above another one, where one is given
+abbrev pub is_above : Option Name → Name → Bool
+is_above None n = true
+is_above (Some m) n = is_before m n
 
 -- a path and one name more
 abbrev pub followed_by : Path → Name → Path

@@ -1,7 +1,7 @@
 -- Anchors as a tree: what each of them holds is a part of the map.
 use Rattle.std.specs.Prelude.{◌≡◌, ℕ, ◌+◌, ◌-◌, true, false, List, [], ◌∷◌, ◌++◌}
 use Rattle.std.specs.Prelude.{length, filter, Option, Some, None, slice_get}
-use Rattle.std.specs.Prelude.{map}
+use Rattle.std.specs.Prelude.{map, if◌then◌else◌}
 use Rattle.std.specs.List.{list_all, starts_with}
 use Rattle.std.specs.Str.{bytes_eq}
 use Rattle.std.specs.declared.rc.Rc.{Rc}
@@ -86,6 +86,10 @@ tree_at t (n ∷ r) = and_then (child_at t n) (λ k. tree_at k r)
 abbrev pub anchor_in : List AnchorValue → Path → Option AnchorTree
 anchor_in anchors [] = Some (record { names = []; anchors = anchors })
 anchor_in anchors (n ∷ r) = some_part (n ∷ r) (part_below (n ∷ r) anchors)
+
+-- the path, where a path of the map begins with it
+abbrev pub path_in : List AnchorValue → Path → Option Path
+path_in anchors p = if is_empty (part_below p anchors) then None else Some p
 
 -- the full names of these anchors
 abbrev pub paths_of : List AnchorTree → List Path

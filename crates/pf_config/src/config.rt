@@ -7,7 +7,7 @@ ghost use Rattle.std.specs.Option.{option_copied};
 ghost use Rattle.pf_rules.specs.Seen.{rule_of};
 ghost use Rattle.pf_config.specs.Map.{anchor_at, rules_at, tables_at, table_at, table_for, table_names, paths_in};
 ghost use Rattle.pf_tables.specs.Contents.{with_entries, contents_of};
-ghost use Rattle.pf_config.specs.Changes.{Changes, load, flush_rules, flush_tables, flush_all};
+ghost use Rattle.pf_config.specs.Changes.{Changes, RefusesFirst, load, flush_rules, flush_tables, flush_all};
 ghost use Rattle.pf_config.specs.inner.Changes.{FailsWith};
 ghost use Rattle.pf_config.specs.Changes.{add, replace, delete, flush_table, set_table, filled, new_table};
 ghost use Rattle.pf_config.specs.Changes.{load_ruleset};
@@ -319,15 +319,19 @@ impl Config {
     }
 
     /// Puts entries into a table, which is created if it is missing.
-    #[tactic(auto, unfolding(crate::specs::Changes::add))]
+    #[tactic(auto, using(crate::proofs::FirstRefusals::fill_first, crate::proofs::FirstRefusals::fill_const), unfolding(crate::specs::Changes::add))]
     pub fn add(
         &mut self,
         path: &Path,
         name: &TableName,
         list: &[TableEntry],
     ) -> Result<(), ConfigFault>
-        ensures { Changes result self.old self.new (add self.old path.now name.now list.now) }
+        ensures made { Changes result self.old self.new (add self.old path.now name.now list.now) }
+        ensures first { RefusesFirst result (add self.old path.now name.now list.now) }
     {
+        if is_const(self.table(path.names(), name.as_str())) {
+            return Err(ConfigFault::ConstTable);
+        }
         if self.edit_one(path.names(), name, list, Edit::Insert)? {
             return Ok(());
         }
@@ -336,46 +340,55 @@ impl Config {
     }
 
     /// Makes the list the contents of a table, which is created if it is missing.
-    #[tactic(auto, unfolding(crate::specs::Changes::replace))]
+    #[tactic(auto, using(crate::proofs::FirstRefusals::fill_first, crate::proofs::FirstRefusals::fill_const), unfolding(crate::specs::Changes::replace))]
     pub fn replace(
         &mut self,
         path: &Path,
         name: &TableName,
         list: &[TableEntry],
     ) -> Result<(), ConfigFault>
-        ensures { Changes result self.old self.new (replace self.old path.now name.now list.now) }
+        ensures made { Changes result self.old self.new (replace self.old path.now name.now list.now) }
+        ensures first { RefusesFirst result (replace self.old path.now name.now list.now) }
     {
+        if is_const(self.table(path.names(), name.as_str())) {
+            return Err(ConfigFault::ConstTable);
+        }
         let table = replaced(self.alloc, self.table(path.names(), name.as_str()), list)?;
         self.set_table(path.names(), name, &table)
     }
 
     /// Takes the listed entries out of a table.
-    #[tactic(auto, unfolding(crate::specs::Changes::delete))]
+    #[tactic(auto, using(crate::proofs::FirstRefusals::set_first), unfolding(crate::specs::Changes::delete))]
     pub fn delete(
         &mut self,
         path: &Path,
         name: &TableName,
         list: &[TableEntry],
     ) -> Result<(), ConfigFault>
-        ensures { Changes result self.old self.new (delete self.old path.now name.now list.now) }
+        ensures made { Changes result self.old self.new (delete self.old path.now name.now list.now) }
+        ensures first { RefusesFirst result (delete self.old path.now name.now list.now) }
     {
-        if self.edit_one(path.names(), name, list, Edit::Remove)? {
-            return Ok(());
-        }
         let Some(old) = self.table(path.names(), name.as_str()) else {
             return Err(ConfigFault::NoTable);
         };
         if old.is_const() {
             return Err(ConfigFault::ConstTable);
         }
+        if self.edit_one(path.names(), name, list, Edit::Remove)? {
+            return Ok(());
+        }
+        let Some(old) = self.table(path.names(), name.as_str()) else {
+            return Err(ConfigFault::NoTable);
+        };
         let table = old.without_entries(self.alloc, list)?;
         self.set_table(path.names(), name, &table)
     }
 
     /// Takes all entries out of a table.
-    #[tactic(auto, unfolding(crate::specs::Changes::flush_table))]
+    #[tactic(auto, using(crate::proofs::FirstRefusals::set_first), unfolding(crate::specs::Changes::flush_table))]
     pub fn flush_table(&mut self, path: &Path, name: &TableName) -> Result<(), ConfigFault>
-        ensures { Changes result self.old self.new (flush_table self.old path.now name.now) }
+        ensures made { Changes result self.old self.new (flush_table self.old path.now name.now) }
+        ensures first { RefusesFirst result (flush_table self.old path.now name.now) }
     {
         let Some(old) = self.table(path.names(), name.as_str()) else {
             return Err(ConfigFault::NoTable);
@@ -490,6 +503,16 @@ fn has_room(main: &Anchor) -> bool
 {
     match main.room_after(ANCHORS_MAX) {
         Some(_) => true,
+        None => false,
+    }
+}
+
+/// Whether there is a table that may not be changed.
+fn is_const(table: Option<&Table>) -> bool
+    ensures { result ≡ (unwrap_or (option_copied table.entry) new_table).is_const }
+{
+    match table {
+        Some(table) => table.is_const(),
         None => false,
     }
 }

@@ -10,6 +10,12 @@
 //! - [`parse_path`] reads the path of an anchor.
 //! - [`Table`], of the crate below.
 //!
+//! Within, what a configuration is made of: `paths` and `path_text` (paths and how they are spelled), `own` and
+//! `own_rules` (the rules and tables at one path), `tables`, `skipped`, `below` and `attached` (the anchors below one),
+//! `walk`. How it changes: `change` in place, or `changed`, a new tree that shares the rest; `table_change` a table,
+//! `loading` a ruleset with its `blocks` (`depths`, `placing`), `unused` and `referred` the tables that go; `fault` why
+//! it is refused. How a verdict finds rules: `order`, `sieve`, and `places`, the expected places of anchors.
+//!
 //! # Why
 //!
 //! - **A table's name is no word that either profile reserves.** A command names a table without a profile, and profile
@@ -42,15 +48,13 @@
 //! - **Room for 1,024 paths** (23) is asked of the configuration that the command would leave, so a load that
 //!   clears away others may make room for itself. A change in place asks for it only where a path is new.
 //! - **Faults of a configuration have no place in a ruleset**: `pfx test` prints `refused 23` alone.
-//! - **`find` and `kid` are `Config::anchor` and `Anchor::child`**: an anchor is lent as a part of the tree, with
-//!   its rules, its tables and the anchors below it. So a verdict goes down name by name, and looks no path up from
-//!   main again. `Config::kids` lends the anchors directly below a path, in byte order of their names; its clause
-//!   gives their paths, `Anchor::kids` that they are those anchors. `Config::paths` lends the paths of the map,
+//! - **A verdict uses `Config::anchor` and `Anchor::child` in place of `find` and `kid`**: an anchor is lent as a part
+//!   of the tree, with its rules, its tables and the anchors below it. So a verdict goes down name by name, and looks no
+//!   path up from main again. `Config::kids` lends the anchors directly below a path, in byte order of their names; its
+//!   clause gives their paths, `Anchor::kids` that they are those anchors. `Config::paths` lends the paths of the map,
 //!   main among them where it has rules or tables; which anchors there are is found by going down.
-//! - **The calls that change a table, and the flushes, take names and no `Path`**: a path of 9 names, or one
-//!   through an unnamed block, is a path like others there. No command has one, since its path is a `Path` or is
-//!   decoded from bytes that spell none; so the law that a log leaves a map of paths of 8 names at most asks it of
-//!   the log's entries.
+//! - **What needs no memory is refused first**: 20 and 21 of a change of one table come before any allocation, so out of
+//!   memory never takes their place.
 //! - **Laws over the definitions of several crates are in pfx_laws**, on which nothing depends: they are proved
 //!   beside the crates that use the definitions, and no crate is proved again for them.
 //! - **The tables of an anchor are in the order of their names**, where one is found by binary search; so are skipped
@@ -105,5 +109,6 @@ pub use candidate_list::{CandidateList, Search};
 pub use config::{Config, RULES_MAX};
 pub use fault::ConfigFault;
 pub use path_text::parse_path;
+pub use pf_rules::{Name, Path, TableEntry, TableName};
 pub use pf_tables::{Interval, Table, is_within};
 pub use sieve::front_bits;

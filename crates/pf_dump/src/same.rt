@@ -37,8 +37,8 @@ fn same_table(alloc: Global, a: &Table, b: &Table) -> Result<bool, AllocError>
     if a.persist() != b.persist() || a.is_const() != b.is_const() {
         return Ok(false);
     }
-    let own = a.entries(alloc)?;
-    let others = b.entries(alloc)?;
+    let own = a.gathered(alloc)?;
+    let others = b.gathered(alloc)?;
     Ok(same_entries(&own, &others))
 }
 

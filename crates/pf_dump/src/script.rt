@@ -124,7 +124,7 @@ fn push_entries(
 ) -> Result<(), AllocError>
     ensures { OnOk result (script.new.items ≡ script.old.items ++ entries_lines path.now name.now table.now.entries) }
 {
-    let entries = table.entries(alloc)?;
+    let entries = table.gathered(alloc)?;
     let mut line = String::new(alloc);
     push_begin(&mut line, path, name, "replace")?;
     push_addresses(alloc, &mut line, path, name, &entries)?;

@@ -120,7 +120,7 @@ fn push_listed(
     if !is_listed {
         return Ok(());
     }
-    let entries = table.entries(alloc)?;
+    let entries = table.gathered(alloc)?;
     out.push_str(" {")?;
     push_entries(alloc, out, &entries)?;
     out.push_str(" }")

@@ -9,6 +9,9 @@
 //! - `specs/Entry` is what is to be believed: `spelling`, `Fits`, `EntryBytes`. `specs/Reading` reads from left to
 //!   right and is shown equal; `specs/Seen` and `specs/Owned` define what the types stand for.
 //!
+//! Within: `reading` and `writing` are between views and bytes, by `numbers` and `limits`; `items` gives the names and
+//! addresses of a view one by one, `owning` the entry that a view shows, `fault` why there is none.
+//!
 //! # The bytes of an entry
 //!
 //! | Offset | Bytes | What |

@@ -7,8 +7,19 @@
 //! - `verdict`: the verdict of a configuration; `verdict_flat`: that of one ruleset alone.
 //! - `show_verdict`: a verdict as text; `verdict_for`: that for a packet's text.
 //!
+//! Within: `decide` makes the two walks of `walk` (of `flat` for one ruleset alone): one forwards, for a match that
+//! ends the evaluation, one backwards, for the last match. `matching` tests a rule's conditions, `sieving` first the
+//! few numbers of its sieve, with a packet's `key`; `scope` is where a rule is evaluated, `hit` a rule that matches,
+//! `skipping` tests skipped interfaces. `reading` reads a packet's text by `cursor` and `word`, `fault` is why there is
+//! none; `answer` has the verdict as a value.
+//!
 //! # Why
 //!
+//! - **A packet text has no blank at either end**; between its tokens there may be several spaces or tabs. Its ports
+//!   have one to five digits and its types one to three, leading zeros allowed.
+//! - **The packet grammar is a relation** too (`IsPacketText`); a law states that what is read is exactly what it
+//!   spells.
+//! - **Groups and interfaces of a packet** are plain tokens, none of which is a word reserved in profile One.
 //! - **A packet's numbers are read without a look-up among the names of ports and protocols**, and an interface's
 //!   name that ends with a digit but 6 without one among the reserved words. Keywords are compared in place, and only
 //!   values are cut (`behind`, `first_word`); an octet is cut by its first four bytes (`cut_dot`, pf_addr).

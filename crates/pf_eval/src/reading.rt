@@ -1,8 +1,8 @@
 //! Packets from text.
 
-ghost use Rattle.std.specs.Prelude.{◌≡◌, ◌&&◌};
+ghost use Rattle.std.specs.Prelude.{◌≡◌, ◌&&◌, Err, true};
 ghost use Rattle.pf_eval.specs.PacketTexts.{same_family, has_ports, is_there_if, only_if, agrees, said_flags};
-ghost use Rattle.pf_eval.specs.PacketTexts.{packet_at, packet_of, words};
+ghost use Rattle.pf_eval.specs.PacketTexts.{has_outer_blank, packet_at, packet_of, words};
 ghost use Rattle.pf_eval.specs.Cursors.{Answers};
 ghost use Rattle.pf_eval.specs.inner.Cursors.{end_of};
 
@@ -122,7 +122,8 @@ fn packet(alloc: Global, text: &[u8]) -> Result<Packet, PacketFault>
 /// both ports are there for tcp and udp and for no other protocol; flags are for tcp alone, and where they are missing
 /// none is set; a type is for icmp alone. Every other text is `BadPacket`.
 pub fn parse_packet(alloc: Global, text: &str) -> Result<Packet, PacketFault>
-    ensures { Answers result (packet_of text.now) }
+    ensures answer { Answers result (packet_of text.now) }
+    ensures first { has_outer_blank text.now ≡ true → result ≡ Err PacketFault.BadPacket }
 {
     let bytes = text.as_bytes();
     if has_outer_blank(bytes) {

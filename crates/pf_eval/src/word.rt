@@ -1,4 +1,4 @@
-//! The tokens in a packet text.
+//! The first token of a packet text, and what follows it.
 
 ghost use Rattle.std.specs.Prelude.{◌≡◌, ◌++◌, ◌∷◌, ◌<◌, IfOk, IfSome, OnOk, Some, None, drop, length, map};
 ghost use Rattle.std.specs.Prelude.{if◌then◌else◌, not, option_map, true};

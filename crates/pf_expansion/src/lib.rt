@@ -11,21 +11,12 @@
 //!   keeps those that a ruleset has defined so far.
 //! - [`is_deep`]: whether too many lists are in one another.
 //!
+//! Within: `expand` makes the conditions of each combination, `counts` counts them first; `judge` and `judged` find the
+//! lowest cause, for one rule and at every depth of blocks; `block_names` are the names of unnamed blocks,
+//! `block_paths` and `numbers` whether a path of a block comes again.
+//!
 //! # Why
 //!
-//! - The readers of productions are free functions over `&mut Parser`, one for each production, in files by subject
-//!   (`interfaces`, `protocols`, `hosts`, `ports`, `ends`, `options`, `statements`), so that a contract cites its
-//!   production and needs no struct of its own. `Element::read` takes the allocator and the profile: names take
-//!   memory, and a word can be reserved in one profile alone.
-//! - Operators before a port are an enum `Comparison` in the code; the definition speaks of the test itself (a
-//!   function from ports to tests). `compared` joins them.
-//! - `pf_statements` cuts a port range at its colon with a ten-line function of its own, since the one of `pf_addr`
-//!   is private there.
-//! - A change by a statement (`Change`) is a value that is made while the macros are borrowed and applied
-//!   afterwards (`Gathered::add`): the parser borrows the macros that are before, so nothing can be added while it
-//!   lives, and a refused statement changes nothing by its form.
-//! - `finish` is called once a statement has been read, so that the tokens behind the parser aren't gone over
-//!   again.
 //! - **Two families** are found where the rule would be made, before memory is taken for it.
 //! - **Number of combinations.** The code's product stops at the greatest number of its type, which is far above
 //!   the limit; a rule with more than 65,536 combinations is never expanded.

@@ -8,8 +8,16 @@
 //! - Of the layers below: [`show`] and [`show_items`] write a ruleset or its rules in one form; [`Rule`] and the types
 //!   of its parts; [`reads_the_grammar`], a statement is read exactly as the grammar spells it.
 //!
+//! Within: `reading` goes from statement to statement, `gathered` has what those so far give, `settings` why a `set` is
+//! refused, `fault` why a source is.
+//!
 //! # Why
 //!
+//! - A change by a statement (`Change`) is a value that is made while the macros are borrowed and applied
+//!   afterwards (`Gathered::add`): the parser borrows the macros that are before, so nothing can be added while it
+//!   lives, and a refused statement changes nothing by its form.
+//! - The parser's `finish` is called once a statement has been read, so that the tokens behind it aren't gone over
+//!   again.
 //! - **Both profiles are built in from the start**, with `icmp-type` in profile Two alone; `check` and `test` use
 //!   Two.
 //! - **A macro's tokens have no line of their own**: a refusal's line is that of the statement's first token as
@@ -29,11 +37,6 @@
 //!   give: a list is shown as one rule for each of its elements.
 //! - **Tokens for numbers and names** are read by pf_rules for rulesets and for packets alike, from tables
 //!   that the definition and the code both have as lists.
-//! - **A packet text has no blank at either end**; between its tokens there may be several spaces or tabs. Its ports
-//!   have one to five digits and its types one to three, leading zeros allowed.
-//! - **The packet grammar is a relation** too (`IsPacketText`); a law states that what is read is exactly what it
-//!   spells.
-//! - **Groups and interfaces of a packet** are plain tokens, none of which is a word reserved in profile One.
 //! - **The name of an interface is in its value**, 15 bytes and how many count: no memory is taken for it. A
 //!   packet's text is read token by token, without a list of them.
 //! - **A ruleset has at most 1,024 rules** as a fact of its type, so the place of a rule is a `u32` without a test.

@@ -7,7 +7,11 @@
 //! - `specs/Applied` is the configuration of a log, `specs/Outcomes` what came of its commands; what a call does
 //!   is in px_replica's `specs/Made`.
 //!
-//! The configuration is always that after the first `applied` learned entries.
+//! The configuration is always that after the first `applied` learned entries. Learned without a gap are those below
+//! the front, so `applied` is never above it.
+//!
+//! Within: `node` has the calls, `opening` a restart, `applying` what is done with learned entries, `outcomes` what
+//! came of their commands, `requests` where requests were learned, `asking` a command as an entry.
 //!
 //! # Why
 //!

@@ -11,6 +11,9 @@
 //!   for them; [`parse_flags`] reads the letters of [`TcpFlags`].
 //! - [`is_same_word`] compares keywords; [`is_reserved`] distinguishes reserved words from names;
 //!   [`is_interface_name`], [`is_table_name`] and [`is_anchor_text`] test the forms of names.
+//! - [`Profile`]: how a source is read; profile Two has `icmp-type` and reserves its word.
+//!
+//! Within: `text` has names as bytes of text.
 //!
 //! # Why
 //!

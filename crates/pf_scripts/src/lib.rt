@@ -10,7 +10,21 @@
 //!   [`push_line`], [`push_number`], [`push_counts`], [`push_refusal`] and [`test_packet`] print.
 //!
 //! Within: `lines` cuts scripts and lines, `order` and `listing` are what is listed, `pfctl` is a line of pfctl's
-//! arguments as `clap` reads it, `reading` what it asks for, `acting` what it does, `stepping` a line of a script.
+//! arguments as `clap` reads it, `reading` what it asks for, a value of `words_read`, `acting` what it does, `stepping`
+//! a line of a script, `waiting` one whose ruleset follows, `running` all of them, `printing` what they print.
+//!
+//! # Why
+//!
+//! - In a line of a script arguments are separated by spaces and tabs. A line with an argument that isn't UTF-8 is one
+//!   unknown line, 40; as blanks are ASCII, that is the same as a line that isn't UTF-8.
+//! - `test` without arguments has a packet text that is none: 30. The arguments of a packet are joined with one blank
+//!   between them.
+//! - Whether a ruleset follows a line is decided by `clap`'s matches; where it refuses the arguments, by the arguments
+//!   themselves (`-f` and `-` side by side).
+//! - `-s Anchors` takes the paths of the entries and of all that lead to them; a line that two of them give is
+//!   printed once.
+//! - The names of tables are put in order when they are listed, so that the listing's order is no matter of how a
+//!   configuration keeps them.
 #![tactic(auto)]
 
 mod acting;

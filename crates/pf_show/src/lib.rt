@@ -4,6 +4,8 @@
 //!
 //! - [`show`] and [`show_items`] write a ruleset or its rules in one form, a line for each rule.
 //!
+//! Within: `items` writes rules and blocks, `tables` tables.
+//!
 //! # Why
 //!
 //! - **What is shown is written with `write_str` and calls of `fmt`**: `write!` saves and sets a formatter's options

@@ -1,4 +1,4 @@
-//! The entry that decides whether an address is in a table.
+//! Whether an address is in a table: the longest entry that contains it decides.
 
 ghost use Rattle.std.specs.Prelude.{◌≡◌, not, slice_get};
 ghost use Rattle.std.specs.Option.{option_copied};

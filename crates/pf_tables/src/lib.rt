@@ -14,6 +14,10 @@
 //! - [`Row`]: the three rows where a packet's numbers are. It gives one place after the other; what it passes over
 //!   doesn't hold the numbers.
 //!
+//! Within: a table's entries are in a `part` for each family and length (`parted`), with their `keys` and a `bloom`
+//! filter; `lookup` finds a prefix, `decided` the entry that contains an address, `contents` makes new lists for a
+//! change. `column` has the buckets of one kind of number.
+//!
 //! # Why
 //!
 //! - Both find the few of many that may hold an address, without a rule at hand; a configuration is made of them.

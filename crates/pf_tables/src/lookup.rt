@@ -1,4 +1,4 @@
-//! Entries are looked up by halves.
+//! The entry of a prefix, found by binary search.
 
 ghost use Rattle.std.specs.Prelude.{◌≡◌};
 ghost use Rattle.std.specs.Option.{option_copied};

@@ -1,4 +1,4 @@
-//! Entries are kept apart by family and length.
+//! A table's entries cut into parts, one for each family and length.
 
 ghost use Rattle.std.specs.Prelude.{◌≡◌, ◌==◌, ◌&&◌, IfOk, take};
 ghost use Rattle.std.specs.List.{prefix_len};

@@ -110,8 +110,8 @@ impl Table {
         })
     }
 
-    /// The entries, in order of family, length and address.
-    pub fn entries(&self, alloc: Global) -> Result<Vec<TableEntry>, AllocError>
+    /// The entries of all parts, in order of family, length and address.
+    pub fn gathered(&self, alloc: Global) -> Result<Vec<TableEntry>, AllocError>
         ensures value { IfOk result (λ v. v.items ≡ self.now.entries) }
         ensures ordered { IfOk result (λ v. IsOrdered v.items) }
     {
@@ -126,7 +126,7 @@ impl Table {
           entries = with_entries self.now.entries list.now;
         }) }
     {
-        let own = self.entries(alloc)?;
+        let own = self.gathered(alloc)?;
         let entries = with_entries(alloc, &own, list)?;
         Table::made(alloc, self.persist(), self.is_const(), &entries)
     }
@@ -139,7 +139,7 @@ impl Table {
           entries = without_entries self.now.entries list.now;
         }) }
     {
-        let own = self.entries(alloc)?;
+        let own = self.gathered(alloc)?;
         let entries = without_entries(alloc, &own, list)?;
         Table::made(alloc, self.persist(), self.is_const(), &entries)
     }
@@ -170,8 +170,8 @@ impl Table {
     pub fn count_without(&self, alloc: Global, other: &Table) -> Result<usize, AllocError>
         ensures { IfOk result (λ n. n ≡ count_without self.now.entries other.now.entries) }
     {
-        let own = self.entries(alloc)?;
-        let others = other.entries(alloc)?;
+        let own = self.gathered(alloc)?;
+        let others = other.gathered(alloc)?;
         Ok(count_without(&own, &others))
     }
 
@@ -197,8 +197,10 @@ impl Table {
     }
 
     /// The entries of that family and length, by address: none for a length that the family hasn't.
+    #[tactic(auto, using(crate::proofs::Lookups::ordered_filter))]
     pub fn part(&self, v6: bool, len: u8) -> &[TableEntry]
-        ensures { result.now ≡ filter (is_of v6 len) self.now.entries }
+        ensures value { result.now ≡ filter (is_of v6 len) self.now.entries }
+        ensures ordered { IsOrdered result.now }
     {
         part_of(&self.parts, v6, len)
     }

@@ -8,6 +8,9 @@
 //! - [`list`] and [`some`] read lists of any [`Element`], [`definition`] reads macro statements. [`lists_as_spelled`]
 //!   and [`macros_as_spelled`] state that both are read exactly as the grammar spells them.
 //!
+//! Within: `lexeme` and `symbol` are tokens as values, `stream` the tokens of a statement with macros replaced,
+//! `passed` what was passed of them, `fault` and `stop` why a statement or a list isn't read to its end.
+//!
 //! # Why
 //!
 //! - **Crates of their own** below pf_grammar, so that none passes some hundred functions and more of them are proved

@@ -11,7 +11,6 @@
 //!   [`flat_verdicts_are_verdicts`]: the verdict of rules alone is that of a configuration.
 //! - [`changes_keep_a_map`], [`commands_keep_a_map`], [`logs_leave_maps`], [`logs_have_targets`]: the configuration
 //!   after a log is a map. [`spelled_logs_have_paths`]: entries that have an encoding are such a log.
-//!   [`parts_are_in_order`]: the parts of a table are in order of address.
 //! - [`shown_is_read_again`]: what is shown of a ruleset is read as that ruleset.
 //! - [`labels_are_unambiguous`], [`logs_never_lead_back`]: labels in nftables' text name one chain or set, and no log
 //!   gives a ruleset that nftables would refuse for a loop.
@@ -34,7 +33,7 @@ mod shown;
 pub use levels::{flat_verdicts_are_verdicts, nine_levels_are_all, one_walk};
 pub use maps::{
     changes_keep_a_map, commands_keep_a_map, logs_have_targets, logs_leave_maps,
-    parts_are_in_order, spelled_logs_have_paths,
+    spelled_logs_have_paths,
 };
 pub use nftables::{labels_are_unambiguous, logs_never_lead_back};
 pub use shown::shown_is_read_again;

@@ -1,11 +1,9 @@
 //! A configuration is a map from paths: what its changes leave, and so what a log leaves.
 
-ghost use Rattle.std.specs.Prelude.{◌≡◌, Bool, List, filter, true, ℕ};
+ghost use Rattle.std.specs.Prelude.{◌≡◌, List, true};
 ghost use Rattle.std.specs.List.{AllByRecursion};
 ghost use Rattle.pf_rules.specs.Names.{Name};
 ghost use Rattle.pf_rules.specs.declared.ruleset.TableEntry.{TableEntry};
-ghost use Rattle.pf_tables.specs.Parts.{IsOrdered};
-ghost use Rattle.pf_tables.specs.Tables.{is_of};
 ghost use Rattle.pf_config.specs.Changes.{add, replace, delete, flush_table, flush_rules, flush_tables, flush_all};
 ghost use Rattle.pf_config.specs.Map.{Configuration, Path};
 ghost use Rattle.pf_entry.specs.Entry.{Command, Entry, Fits, are_names, path_of};
@@ -15,7 +13,7 @@ ghost use Rattle.pfx_laws.specs.Maps.{AnswersMap, IsMap, IsPath};
 ghost use Rattle.pfx_laws.specs.Targets.{have_targets};
 
 /// A change of one table, and each flush, leaves a map if there was one and the path is one that a path can be: 8
-/// names at most, each an anchor's. (The calls of a configuration take names of any number.)
+/// names at most, each an anchor's.
 pub fn changes_keep_a_map()
     ensures add { (c : Configuration) (p : Path) (name : Name) (list : List TableEntry) → IsMap c → IsPath p →
         AnswersMap (add c p name list) }
@@ -28,13 +26,6 @@ pub fn changes_keep_a_map()
     ensures flush_rules { (c : Configuration) (p : Path) → IsMap c → IsPath p → IsMap (flush_rules c p) }
     ensures flush_tables { (c : Configuration) (p : Path) → IsMap c → IsPath p → IsMap (flush_tables c p) }
     ensures flush_all { (c : Configuration) (p : Path) → IsMap c → IsPath p → IsMap (flush_all c p) }
-{}
-
-/// Of entries in order those of one family and length are in order: of address, since that is what is left to differ.
-/// So `Table::part` lends them in order of address, as `Table::entries` has the whole in order.
-pub fn parts_are_in_order()
-    ensures { (entries : List TableEntry) (v6 : Bool) (len : ℕ) → IsOrdered entries →
-        IsOrdered (filter (is_of v6 len) entries) }
 {}
 
 /// A command at a path that commands may have leaves a map, if there was one: each path once, in byte order, with at

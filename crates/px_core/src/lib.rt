@@ -7,6 +7,11 @@
 //! - `specs/Planning`: what a core stands for, and what its plans are. The steps themselves are px_model's definitions.
 //! - [`laws`]: planning, committing and settling are one step of the model.
 //!
+//! Within: `planning` has the step for each event, by `asking` (commands and the clock), `proposing` (promises to the
+//! proposer), `accepting` (the acceptor's answers), and `learning` with `voting` and `votes` (the learner);
+//! `settling` applies a plan, `member` is a core at its beginning, and `limits` has the numbers. The first page of
+//! px_model explains front, top, attempt and lead.
+//!
 //! # The caller's loop
 //!
 //! ```text
@@ -67,4 +72,5 @@ mod voting;
 
 pub use limits::{MEMBERS, POSITIONS, WAITING, WINDOW};
 pub use plan::{CoreFault, Plan, Sends};
+pub use px_model::{Change, Meta, Slot};
 pub use state::Core;

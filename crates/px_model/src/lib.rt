@@ -12,6 +12,21 @@
 //!   [`Slot`] and [`Change`] of the record, [`Message`] and [`Event`]. `Spelling`, `Entries` and `Seen` in `specs/`
 //!   define what each stands for.
 //!
+//! Within: `entry`, `message` and `record` have these types, `entries` and `events` what code needs of them, `bounds`
+//! tests of ranges.
+//!
+//! # The protocol
+//!
+//! The log has 1,000,000 positions, at each of which one entry is chosen. A ballot is a round, from 1 on, and the
+//! number of the member that began it. A member's front is the least position of which it hasn't learned the entry.
+//! Where a command waits at a member and its clock ticks, it makes an attempt at its front: it begins a round, and asks
+//! all for promises (phase 1, `PrepareAll`). A promise is for all positions. It reports what its sender accepted at the
+//! front, and its sender's top, the position from which on it accepted nothing. With promises of a majority the member
+//! has the lead: from the greatest top on, past its front, it may propose without phase 1, in the same ballot. It sends
+//! accept requests (phase 2), and each acceptor sends its vote to all, which learn the entry from a majority of votes
+//! in one ballot. A member that lacks an entry asks for it (`Need`). A stop ends a member and leaves its record: what
+//! was committed before. A restart begins from that, without attempt and lead.
+//!
 //! Source: Lamport, "Paxos Made Simple" (2001).
 //!
 //! # Why

@@ -22,6 +22,11 @@
 //!   `specs/Packets` a sealed packet and which is opened, `specs/Windows` which counters are fresh, `specs/Arrivals`
 //!   which packets are accepted, `specs/Pieces` a piece, `specs/Reassembling` what a receiver does with pieces.
 //!
+//! Within: `bytes` writes numbers, `key` is one key with its tags, `partial` an unfinished datagram.
+//!
+//! A packet in these crates is one of these, the body of one UDP datagram; packets that a firewall judges are
+//! pf_eval's. A datagram is an encoded message (px_wire), of which a packet has the whole or a piece.
+//!
 //! # The bytes of a packet
 //!
 //! Numbers are unsigned, the highest byte first.

@@ -1,3 +1,5 @@
+//! A record of which one commit fails.
+
 ghost use Rattle.std.specs.Prelude.{◌≡◌, ◌⊎◌, ◌<◌, ◌≤◌, ◌-◌, ◌↔◌, Ok, Err, Some, IfOk, IfSome, OnOk, true, false};
 ghost use Rattle.px_model.specs.Bounds.{AnyCommand};
 ghost use Rattle.px_model.specs.Entries.{entry_of};

@@ -1,3 +1,5 @@
+//! What a node requires of the keeper of its record.
+
 ghost use Rattle.std.specs.Prelude.{◌≡◌, ◌<◌, ◌≤◌, ◌↔◌, ℕ, Some, Err, IfOk, OnOk, IfSome};
 ghost use Rattle.px_model.specs.Bounds.{AnyCommand};
 ghost use Rattle.px_model.specs.Node.{Record};

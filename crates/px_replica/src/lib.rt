@@ -7,6 +7,10 @@
 //!
 //! Nothing leaves before the change that it rests on is committed, and all memory is allocated before the commit.
 //!
+//! Within: `replica` has the calls, `act` the order of what a call does, `look` what it reads of the record, `member`
+//! and `planning` the core's plan, `spelling` the datagrams, `opening` a restart; `datagram`, `receiving` and `fault`
+//! are what callers see.
+//!
 //! # Why
 //!
 //! - **Most instructions of an event apply what was learned**; then come the datagram's decoding, what is sent, the

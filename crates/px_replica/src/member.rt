@@ -1,4 +1,4 @@
-//! A member of the agreement that knows its group.
+//! A core with the membership that it sends to.
 
 ghost use Rattle.std.specs.Prelude.{◌≡◌, ◌<◌};
 ghost use Rattle.px_core.specs.Planning.{state_of};

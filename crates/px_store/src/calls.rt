@@ -1,4 +1,4 @@
-//! The statements: a row of format 3 is put by one call, and rows of each format are asked for by another.
+//! The SQL of reads and writes: a row of format 3 is put by one call, and rows of each format are asked for by another.
 
 ghost use Rattle.std.specs.Prelude.{◌≡◌, ◌<◌, ◌↔◌, pos, true, [], Err, IfOk, IfErr, IsTrue};
 ghost use Rattle.sqlite.specs.Held.{state};

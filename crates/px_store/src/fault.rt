@@ -1,3 +1,5 @@
+//! Why a store isn't opened.
+
 ghost use Rattle.std.specs.Prelude.{◌≡◌};
 ghost use Rattle.px_store.specs.Adopting.{code_of};
 

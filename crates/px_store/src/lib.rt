@@ -8,6 +8,8 @@
 //! - [`SqlRecords`] keeps [`Records`](px_records::Records) (`sql`): reads by a position (`looking`), writes of one row
 //!   each (`writing`), over one call that puts a row and one that asks for rows (`calls`). The decoding of rows is in
 //!   `reading`; `ahead` has rows of learned entries for a reader that asks them in turn.
+//! - [`examine`] and [`owner_in`] look at a store without changing it. `formats` has the formats of a store, `tables`
+//!   the schemas by which they are recognized.
 //! - Of px_records: [`Records`], what a node requires of its record's keeper, [`MemoryRecords`] and [`FaultyRecords`].
 //! - `specs/Tables.antt` has the tables, `inner/Tables.antt` the statements, `Seen.antt` the record that rows show,
 //!   `Formats.antt` that of an older format.
@@ -47,10 +49,11 @@
 //!   lock.
 //! - A last row is good where each row of the greatest position has a position below 1,000,000 and the rows there
 //!   are those that a commit writes.
-//! - What a stop in `adopt` leaves is stated for the rows: those that a stop left before, or the rows of format 3,
-//!   whole, which show the record and which a member may start from again. sqlite's contracts state nothing about the
-//!   schema that an opening finds after a stop: it finds the four tables or answers 73, where it finds any. That they
-//!   exist then is tested by rows_stores, which stops at each file call and counts the tables.
+//! - What a stop in `adopt` (the process is killed, or the machine fails) leaves is stated for the rows: those that a
+//!   stop left before, or the rows of format 3, whole, which show the record and which a member may start from again.
+//!   sqlite's contracts state nothing about the schema that an opening finds after a stop: it finds the four tables or
+//!   answers 73, where it finds any. That they exist then is tested by rows_stores, which stops at each file call and
+//!   counts the tables.
 //! - Whether a store is new isn't in the store: one that has lost all its tables looks as one that never had any, and
 //!   one that has lost all its rows as one with tables that were just made. So the caller states it, by `adopt` or
 //!   `reopen`; a node that forgets what it promised could vote twice. Tables and the row for the whole node are made in
@@ -58,7 +61,8 @@
 //! - A keeper of which a stop leaves nothing at all would meet every clause on stops. So `Records` has two laws:
 //!   while no call has failed a stop leaves no more than what is stored (`settled`), and no less (`stays`).
 //! - **`read_top` reads the last position with a ballot, `read_learned_end` the last learned one**, from the end of the
-//!   table to the first row that serves; a top passes over slots that only promise. There is no index beside the keys.
+//!   table to the first row that serves; the search for a top (px_model) passes over slots that only promise. There is
+//!   no index beside the keys.
 //! - Round, number and floor are kept beside the connection, and read without a statement.
 //! - **Learned entries that are asked in turn, from position 0 on, come of one statement for 64 positions**, as a node
 //!   asks them when it starts. The rows are used if their keys rise, so that a position has one at most; else, or where

@@ -1,4 +1,4 @@
-//! The statements that make a store, or bring one of an older format to format 3.
+//! The SQL that makes a store, or brings one of an older format to format 3.
 ghost use Rattle.std.specs.Prelude.{◌≡◌, ◌<◌, ◌^◌, false, [], IsTrue, OnOk};
 ghost use Rattle.sqlite.specs.Held.{state};
 ghost use Rattle.sqlite.specs.State.{HasCleanDisk, ExecutesInside, Survives};

@@ -1,4 +1,5 @@
-//! The keeper's calls.
+//! [`Records`] of a store: its calls, by the reads of `looking` and the writes of `writing`. The SQL is in `calls` and
+//! `making`.
 ghost use Rattle.std.specs.Prelude.{◌≡◌};
 ghost use Rattle.std.proofs.Common.{◌∙◌, ap, refl};
 ghost use Rattle.sqlite.specs.Held.{state};

@@ -1,4 +1,4 @@
-//! What comes of a packet.
+//! What a wire does with bytes that came: it gives a datagram, sends pieces again, or drops them.
 
 use px_packet::PiecesHeld;
 

@@ -12,6 +12,10 @@
 //! - `specs/Bodies` defines how bodies are read, `specs/Receiving` what a receiver does with packets, `specs/Sending`
 //!   which packets a member sends, `specs/Wiring` what a wire over packets does.
 //!
+//! Within: `sender` has what a member sends, with what it keeps for each receiver (`outgoing`); `opening` opens a
+//! packet and hands it to the receiver, `coming` is what that gives the wire; `cutting` writes a datagram into a
+//! buffer.
+//!
 //! # Why
 //!
 //! - `px_packet` knows packets and pieces. Here is who sends which packet when, and what is given of those that come.
@@ -30,8 +34,8 @@
 //!   without `due` they would go out in the next round, up to 100 ms later.
 //! - **The law at sockets with a key** cuts what a wire of packets does into steps, each at most one packet below and
 //!   one datagram above (`specs/Steps`). So an order of all members' packets is one of their datagrams too (pfx_laws,
-//!   `proofs/Lifting`). Its premise is about the packets that a member opens: what strangers send needs none. A
-//! datagram is cut only while one of the 2^32 names for its receiver is left, so no premise bounds how many there are.
+//! `proofs/Lifting`). Its premise is about the packets that a member opens: what strangers send needs none. A datagram
+//! is cut only while one of the 2^32 names for its receiver is left, so no premise bounds how many there are.
 #![tactic(auto)]
 
 mod coming;

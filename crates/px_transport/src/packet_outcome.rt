@@ -1,4 +1,4 @@
-//! What comes of a packet.
+//! What a receiver gives for a packet that was opened.
 
 use px_packet::{Arrival, PiecesHeld};
 

@@ -1,4 +1,4 @@
-//! A wire of packets of the second format.
+//! A wire over another one, on which datagrams go as sealed packets (px_packet).
 
 ghost use Rattle.std.specs.Prelude.{◌≡◌, ◌≤◌, IfOk, IfSome, length, option_map, take};
 ghost use Rattle.px_transport.specs.Wires.{Counts, Adds, gives};

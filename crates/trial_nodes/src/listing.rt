@@ -22,7 +22,7 @@ fn push_entries(out: &mut String, entries: &[TableEntry]) -> Result<(), AllocErr
 /// A table's flags and entries. Whether there was memory for them.
 fn push_table(alloc: Global, out: &mut String, table: &Table) -> bool {
     let (persist, is_const) = (table.persist(), table.is_const());
-    let Ok(entries) = table.entries(alloc) else {
+    let Ok(entries) = table.gathered(alloc) else {
         return false;
     };
     write!(out, " {persist} {is_const}").is_ok() && push_entries(out, &entries).is_ok()

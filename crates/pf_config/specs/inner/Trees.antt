@@ -55,6 +55,10 @@ TakesPlace t n kid new = (a : AnchorValue) (r : Path) → a.path ≡ t.names ++ 
 abbrev pub passes : (Name → Bool) → AnchorTree → Bool
 passes test k = test (last_name k.names)
 
+-- the names of an anchor, none where it holds nothing
+abbrev pub names_held : AnchorTree → Option Path
+names_held t = if is_empty t.anchors then None else Some t.names
+
 -- ---- counts
 
 abbrev pub room_after : ℕ → ℕ → Option ℕ
