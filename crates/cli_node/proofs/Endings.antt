@@ -248,9 +248,9 @@ new_map G m keys is may hears members kept kept' closed closed' made made' resul
 
 pub node_any : {R : Type 0} (G : Ghosts R) (is_member : Membership → Type 0) (are_keys : Option Keys → Type 0)
     (is_start : Membership → Start → Type 0) (hears : Bool) (members : List (List ℕ))
-    (kept closed : R → Type 0) (made : Ended → Type 0) (result : Outcome) →
+    (kept : Membership → R → Type 0) (closed : R → Type 0) (made : Ended → Type 0) (result : Outcome) →
     EndsNode G is_member are_keys is_start hears members kept closed made result →
-    EndsNode G is_member are_keys (λ m. Anything) hears members Anything Anything Anything result
+    EndsNode G is_member are_keys (λ m. Anything) hears members (λ m. Anything) Anything Anything result
 node_any G is_member are_keys is_start hears members kept closed made result (inl refused) = inl refused
 node_any G is_member are_keys is_start hears members kept closed made result (inr (m, keys, is, are, ends)) =
     inr (
@@ -258,7 +258,7 @@ node_any G is_member are_keys is_start hears members kept closed made result (in
       keys,
       is,
       are,
-      new_map G m keys (is_start m) Anything hears members kept Anything closed Anything made Anything result
+      new_map G m keys (is_start m) Anything hears members (kept m) Anything closed Anything made Anything result
           (λ x h. tt) (λ r h. tt) (λ r h. tt) (λ how h. tt) ends,
     )
 

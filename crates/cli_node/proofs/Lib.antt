@@ -1,6 +1,7 @@
 pub mod Writing
 mod Refusing
 pub mod Stores
+mod Kept
 pub mod Endings
 pub mod Sealed
 pub mod Settled

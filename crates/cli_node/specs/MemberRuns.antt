@@ -7,7 +7,7 @@ use Rattle.px_packet.specs.declared.start.Start.{Start}
 use Rattle.px_records.specs.declared.records.Records.{Ghosts}
 use Rattle.px_transport.specs.Sending.{Sealer}
 use Rattle.px_wire.specs.declared.membership.Membership.{Membership}
-use Rattle.node_loop.specs.Runs.{Runs, OnFront}
+use Rattle.node_loop.specs.Runs.{EndsWireless, Runs, OnFront}
 use Rattle.node_loop.specs.Timing.{MakesTurns, TimerEvent}
 use Rattle.node_loop.specs.declared.ended.Ended.{Ended}
 use Rattle.node_udp.specs.Addresses.{AreFound}
@@ -63,10 +63,12 @@ MadeTurns turns before after how = OnFront how (MakesTurns turns before after)
 abbrev pub Anything : {A : Type 0} → A → Type 0
 Anything x = Unit {0}
 
--- there is no wire, or it is out of memory: its record is opened alone
+-- There is no wire, or it is out of memory: its record is opened alone, and what comes is 82, out of memory, or why it
+-- isn't opened.
+-- Example: never a front, which comes of turns.
 abbrev pub IsAlone : {R : Type 0} → Ghosts R → Membership → (given : R) → Outcome → (back : R) → Type 0
 IsAlone G m given outcome back =
-    (how : Ended) × (without : Outcome) × Runs G m given [] [] how back
+    (how : Ended) × (without : Outcome) × EndsWireless how × Runs G m given [] [] how back
     × (outcome ≡ ended_outcome without how) × IsWireless without
 
 -- the same where the record may stay closed
@@ -104,9 +106,9 @@ EndsNew {R} G m keys is_start hears members is_record is_closed made result =
 -- the same of a member, keys and a start of which these hold
 abbrev pub EndsNode : {R : Type 0} → Ghosts R → (is_member : Membership → Type 0) → (are_keys : Option Keys → Type 0) →
     (is_start : Membership → Start → Type 0) → (hears : Bool) → (members : List (List ℕ)) →
-    (is_record is_closed : R → Type 0) →
+    (is_record : Membership → R → Type 0) → (is_closed : R → Type 0) →
     (made : Ended → Type 0) → Outcome → Type 0
 EndsNode G is_member are_keys is_start hears members is_record is_closed made result =
     IsRefusal result
     ⊎ ((m : Membership) × (keys : Option Keys) × is_member m × are_keys keys
-    × EndsNew G m keys (is_start m) hears members is_record is_closed made result)
+    × EndsNew G m keys (is_start m) hears members (is_record m) is_closed made result)

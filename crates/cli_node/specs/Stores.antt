@@ -1,14 +1,17 @@
 -- Whether a node's store is opened or made.
-use Rattle.std.specs.Prelude.{◌≡◌, ◌≢◌, ◌⊎◌, ◌||◌, ◌&&◌, ◌==◌, if◌then◌else◌, ⊤, not, ℕ, Bool, true, false, None}
-use Rattle.std.specs.Prelude.{List, ◌++◌, codes}
+use Rattle.std.specs.Prelude.{◌≡◌, ◌≢◌, ◌⊎◌, ◌||◌, ◌&&◌, ◌==◌, if◌then◌else◌, ⊤, not, ℕ, Bool, true, false}
+use Rattle.std.specs.Prelude.{List, ◌++◌, Option, None, codes}
 use Rattle.sqlite.specs.State.{State, HasCleanDisk}
 use Rattle.sqlite.specs.Effect.{Database}
 use Rattle.sqlite.specs.Held.{Held, state}
+use Rattle.sqlite.specs.Tree.{Trees}
 use Rattle.sqlite_trees.specs.declared.store.Store as store
-use Rattle.px_store.specs.Adopting.{Began}
-use Rattle.px_store.specs.Formats.{record_at, schema_at}
-use Rattle.px_store.specs.Judging.{reopen_refusal}
+use Rattle.px_store.specs.Adopting.{Began, IsBrought, IsMade, LeavesOr}
+use Rattle.px_store.specs.Formats.{record_at}
+use Rattle.px_store.specs.Judging.{refusal, reopen_refusal}
+use Rattle.px_store.specs.Tables.{no_schema}
 use Rattle.px_store.specs.View.{connection_of, IsOpened}
+use Rattle.px_store.specs.declared.fault.AdoptFault.{AdoptFault}
 use Rattle.px_store.specs.declared.keeper.SqlRecords.{SqlRecords}
 use Rattle.px_store.specs.declared.formats.Format.{Format}
 use Rattle.px_store.specs.declared.calls.Identity.{Identity}
@@ -65,11 +68,6 @@ is_made file new found.Other = false
 abbrev pub MayRun : (is_from_file is_new : Bool) → Found → Type 0
 MayRun file new f = (is_made file new f ≡ true) ⊎ ((f ≡ found.Store) × (new ≡ false))
 
--- what was found at a path is such
-abbrev pub IsRunOver : (is_seen : (path : List ℕ) → Seen → Type 0) → (path : List ℕ) → (is_from_file is_new : Bool) →
-    Type 0
-IsRunOver is_seen path file new = (f : Found) × IsFoundAt is_seen path f × MayRun file new f
-
 -- Why what is there is refused: a store is lost where settings come from a file and none is to be made; there is one
 -- where one is to be made; or it is no file.
 abbrev pub IsRefused : (is_from_file is_new : Bool) → Found → (code : ℕ) → Type 0
@@ -89,17 +87,38 @@ pub record IsOpening (is_from_file is_new : Bool) (f : Found) (o : Opening) : Ty
   pub lost : is_from_file ≡ true → is_new ≡ false → IsNone f → o ≡ Refuses 93
   pub refused : (code : ℕ) → o ≡ Refuses code → IsRefused is_from_file is_new f code
 
--- a database that was held, within a transaction or not, is now in this state, and what it held in its format is opened
-abbrev pub IsKept : (held : Database → (within : Bool) → Type 0) → (now : State) →
-    (is_opened : Format → Database → Type 0) → Type 0
-IsKept held now is_opened =
-    (was : Database) × (within : Bool) × held was within
-    × (HasCleanDisk now → (f : Format) → was.schema ≡ schema_at f → within ≡ false → is_opened f was)
+-- what a store that was found is refused with to this owner: one that was there isn't new
+abbrev pub refusal_at : Found → Format → Identity → Trees → Option AdoptFault
+refusal_at found.Store f owner db = reopen_refusal f owner db
+refusal_at found.Nothing f owner db = refusal f owner db
+refusal_at found.Empty f owner db = refusal f owner db
+refusal_at found.Other f owner db = refusal f owner db
 
--- the same of the record in such a database
-abbrev pub IsKeptIn : {S : Type 0} → (g : store.Ghosts S) → (held : Database → (within : Bool) → Type 0) →
+-- The record of this owner in a database that was held, which was found so.
+-- Example: the row of such a store names this cluster, this many members and this node.
+pub record IsKeptIn {S : Type 0} (g : store.Ghosts S) (held : Database → (within : Bool) → Type 0) (there : Found)
+    (owner : Identity) (r : SqlRecords S g) : Type 0 where
+  pub given : Held S
+  pub was : held (state g given).now (state g given).in_transaction
+  -- what it held in its format is opened
+  pub opened : HasCleanDisk (state g (connection_of r)) → (f : Format) → Began f (state g given) →
+      IsOpened g r (record_at f (state g given).now.trees)
+  -- and isn't refused to this owner
+  pub owned : HasCleanDisk (state g (connection_of r)) → (f : Format) → Began f (state g given) →
+      refusal_at there f owner (state g given).now.trees ≡ None
+  -- a stop leaves what it could leave before, or where there were no tables those of this owner, or else its rows
+  pub made : HasCleanDisk (state g (connection_of r)) → (state g given).now.schema ≡ no_schema →
+      (state g given).in_transaction ≡ false →
+      LeavesOr (IsMade owner) (state g given) (state g (connection_of r))
+  pub brought : HasCleanDisk (state g (connection_of r)) → (f : Format) → Began f (state g given) →
+      LeavesOr (IsBrought f owner (state g given).now.trees) (state g given) (state g (connection_of r))
+
+-- the same at a path where a node may run over what was found
+abbrev pub IsRunOver : {S : Type 0} → (g : store.Ghosts S) → (is_seen : (path : List ℕ) → Seen → Type 0) →
+    (held : Database → (within : Bool) → Type 0) → (path : List ℕ) → (is_from_file is_new : Bool) → (owner : Identity) →
     SqlRecords S g → Type 0
-IsKeptIn g held r = IsKept held (state g (connection_of r)) (λ f db. IsOpened g r (record_at f db.trees))
+IsRunOver g is_seen held path file new owner r =
+    (f : Found) × IsFoundAt is_seen path f × MayRun file new f × IsKeptIn g held f owner r
 
 -- the database that a record is in was closed
 abbrev pub IsClosedIn : {S : Type 0} → (g : store.Ghosts S) → (closed : State → Type 0) → SqlRecords S g → Type 0

@@ -7,10 +7,10 @@
 //! - [`run_node`]: a run of a node, over its files ([`NodeFiles`]) and databases ([`Databases`]). [`check_node`]: whether
 //!   it could be started, with who opens its database to look at it ([`Inspection`]).
 //!
-//! Within: `options` has the arguments as `clap` reads them, `settings` those of a node's file, `node`, `ask` and `key`
-//! what each gives, and `check` what `node` with `--check`; `store` opens or makes a node's store, and `database` the
-//! database in it; `sockets` tries a node's sockets; `outcome` has what is written, `events` and `faults` what a node
-//! says.
+//! Within: `running` picks the subcommand; `options` has the arguments as `clap` reads them, `settings` those of a
+//! node's file, `node`, `ask` and `key` what each gives, and `check` what `node` with `--check`; `files` and `sealing`
+//! have a node's keys and its start, `store` opens or makes its store, and `database` the database in it; `sockets`
+//! tries its sockets; `outcome` has what is written, `events` and `faults` what a node reports on standard error.
 //!
 //! # Why
 //!
@@ -24,8 +24,8 @@
 //!   whose folder is missing, since systemd makes that with the service.
 //! - **A new store has pages of 1,024 bytes**, where the database's own size is 4,096: a commit writes whole pages, and
 //!   copies, counts and sums their bytes, most often to put one row of some 50 bytes. A store that is there keeps its
-//!   size. The files are made by the calls that the database itself makes them by, with its lock held, so that a stop
-//!   meanwhile leaves what the next start takes for a new store.
+//!   size. The files are made by the calls that the database itself makes them by, with its lock held, so that a
+//!   process that is killed meanwhile leaves what the next start takes for a new store.
 //! - **94 is a new key's file too**: a file that is to be made is there.
 //! - **A member that had failed ends with the cause**, 70 or 72, and not with the 80 that the next turn answers: 70
 //!   where the record counts a failure, as `px_replica` has it of the call that failed.

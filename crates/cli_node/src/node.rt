@@ -17,7 +17,7 @@ ghost use Rattle.cli_node.specs.Given.{AreFigures, IsPlaced, is_set, number_for,
 ghost use Rattle.cli_node.specs.Secrets.{AreNamed};
 ghost use Rattle.cli_node.specs.Settled.{AreArguments, is_complete, is_whole};
 ghost use Rattle.cli_node.specs.Stores.{HasNone, IsClosedIn, IsFoundAt, IsKeptIn, IsNone, IsStoreless, IsRunOver};
-ghost use Rattle.cli_node.specs.Stores.{is_made};
+ghost use Rattle.cli_node.specs.Stores.{identity_at, is_made};
 ghost use Rattle.cli_node.specs.declared.store.Found.{Found};
 ghost use Rattle.cli_node.specs.declared.store.TheConstants.{NO_STORE};
 ghost use Rattle.cli_node.specs.Places.{is_count, has_place, turns_or_all};
@@ -552,7 +552,7 @@ fn run_new<F: NodeFiles, D: Databases, T: Timer>(
         (F.raises files.now (arguments.entry.store.now ++ codes "-starts") m.members m.me
         (is_made arguments.entry.is_from_file arguments.entry.is_new found || arguments.entry.makes_starts))
         (hears_asks arguments.entry.key arguments.entry.control) (map (λ t. t.now) arguments.entry.members.now)
-        (IsKeptIn ⟦<FileStore<File> as Store>⟧ (D.holds dbs.now arguments.entry.store.now))
+        (IsKeptIn ⟦<FileStore<File> as Store>⟧ (D.holds dbs.now arguments.entry.store.now) found (identity_at m))
         (IsClosedIn ⟦<FileStore<File> as Store>⟧ (D.closed dbs.now))
         (MadeTurns arguments.entry.turns (T.timer_events timer.old) (T.timer_events timer.new)) result }
     ensures ending { result ≢ Refused 80 }
@@ -590,8 +590,8 @@ pub fn run_node<F: NodeFiles, D: Databases, T: Timer>(
         F.raises files.now (arguments.entry.store.now ++ codes "-starts") m.members m.me
         (is_made arguments.entry.is_from_file arguments.entry.is_new found || arguments.entry.makes_starts) start)
         (hears_asks arguments.entry.key arguments.entry.control) (map (λ t. t.now) arguments.entry.members.now)
-        (λ r. IsRunOver (D.is_seen dbs.now) arguments.entry.store.now arguments.entry.is_from_file
-        arguments.entry.is_new × IsKeptIn ⟦<FileStore<File> as Store>⟧ (D.holds dbs.now arguments.entry.store.now) r)
+        (λ m. IsRunOver ⟦<FileStore<File> as Store>⟧ (D.is_seen dbs.now) (D.holds dbs.now arguments.entry.store.now)
+        arguments.entry.store.now arguments.entry.is_from_file arguments.entry.is_new (identity_at m))
         (IsClosedIn ⟦<FileStore<File> as Store>⟧ (D.closed dbs.now))
         (MadeTurns arguments.entry.turns (T.timer_events timer.old) (T.timer_events timer.new)) result }
     ensures ending { result ≢ Refused 80 }

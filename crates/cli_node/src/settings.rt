@@ -184,8 +184,8 @@ impl Nodes for HostRuntime {
         (AreNamed (λ path key. ((text : List ℕ) × IsClusterKey text w.cluster (map (λ t. t.now) w.members.now) key)
         × IsKeyOfFile ⟦<std::fs::File as Read>⟧.remaining w.cluster (map (λ t. t.now) w.members.now) key)
         (option_map (λ t. t.now) w.key) (option_map (λ t. t.now) w.other_key))
-        (λ m. Anything) (hears_asks w.key w.control) (map (λ t. t.now) w.members.now) Anything Anything Anything
-        outcome × (outcome ≢ Refused 80) × IsStoreless w.is_from_file w.is_new outcome)
+        (λ m. Anything) (hears_asks w.key w.control) (map (λ t. t.now) w.members.now) (λ m. Anything) Anything
+        Anything outcome × (outcome ≢ Refused 80) × IsStoreless w.is_from_file w.is_new outcome)
         (λ w outcome. (has_place w.me (length w.members.now) ≡ false → outcome ≡ Refused 40) ×
         IsStoreless w.is_from_file w.is_new outcome)) };
 

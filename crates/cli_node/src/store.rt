@@ -1,17 +1,17 @@
 //! A node's store: opened where it is, and made where it may be.
 
-ghost use Rattle.std.specs.Prelude.{◌≡◌, ◌≢◌, ◌⊎◌, Err, IfOk, IfErr, OnErr, true, false};
+ghost use Rattle.std.specs.Prelude.{◌≡◌, ◌≢◌, ◌⊎◌, None, Err, IfOk, IfErr, OnErr, true, false};
 ghost use Rattle.sqlite.specs.Held.{state};
 ghost use Rattle.sqlite.specs.State.{HasCleanDisk};
 ghost use Rattle.px_store.specs.Tables.{no_schema};
 ghost use Rattle.px_store.specs.Formats.{record_at};
-ghost use Rattle.px_store.specs.Adopting.{Began, IsVerdict, IsSame, LeavesOld};
-ghost use Rattle.px_store.specs.View.{connection_of, IsOpened};
+ghost use Rattle.px_store.specs.Adopting.{Began, IsBrought, IsMade, IsVerdict, IsSame, LeavesOld, LeavesOr};
+ghost use Rattle.px_store.specs.View.{connection_after, connection_of, IsOpened};
 ghost use Rattle.cli_node.specs.declared.outcome.Outcome.TheVariants.{Memory, Refused};
 ghost use Rattle.cli_node.specs.declared.store.TheConstants.{NO_STORE, FILE_IS_THERE};
 ghost use Rattle.cli_node.specs.Endings.{adopt_outcome};
 ghost use Rattle.cli_node.specs.Stores.{identity_at, IsKeptIn, IsOpening, IsRefusal, IsStoreless, IsUnmade};
-ghost use Rattle.cli_node.specs.Stores.{MayRun, is_made};
+ghost use Rattle.cli_node.specs.Stores.{MayRun, is_made, refusal_at};
 ghost use Rattle.cli_node.specs.Stores.{IsFoundAt, IsNone, found_by, has_no_byte};
 
 use crate::database::{Databases, Seen};
@@ -283,6 +283,14 @@ fn record_in<S: Alter>(
         (state S.Store conn).in_transaction ≡ false → result ≡ Err (AdoptFault.StoreVersion, conn) }
     ensures rows { IfOk result (λ r. HasCleanDisk (state S.Store (connection_of r)) → (f : Format) →
         Began f (state S.Store conn) → IsOpened S.Store r (record_at f (state S.Store conn).now.trees)) }
+    ensures owned { IfOk result (λ r. HasCleanDisk (state S.Store (connection_of r)) → (f : Format) →
+        Began f (state S.Store conn) → refusal_at found f identity (state S.Store conn).now.trees ≡ None) }
+    ensures made { HasCleanDisk (state S.Store (connection_after result)) →
+        (state S.Store conn).now.schema ≡ no_schema → (state S.Store conn).in_transaction ≡ false →
+        LeavesOr (IsMade identity) (state S.Store conn) (state S.Store (connection_after result)) }
+    ensures brought { HasCleanDisk (state S.Store (connection_after result)) → (f : Format) →
+        Began f (state S.Store conn) → LeavesOr (IsBrought f identity (state S.Store conn).now.trees)
+        (state S.Store conn) (state S.Store (connection_after result)) }
     ensures as_it_was { IfErr result (λ e. HasCleanDisk (state S.Store e.1) → IsVerdict e.0 →
         IsSame (state S.Store conn) (state S.Store e.1)) }
 {
@@ -304,8 +312,8 @@ pub(crate) fn record_at<D: Databases>(
 ) -> Result<SqlRecords<FileStore<File>>, Outcome>
     ensures members { IfOk result (λ r. ⟦<SqlRecords<FileStore<File>> as Records>⟧.members r ≡ m.members) }
     ensures begins { IfOk result (λ r. ⟦<SqlRecords<FileStore<File>> as Records>⟧.failed r ≡ 0) }
-    ensures rows { IfOk result
-        (IsKeptIn ⟦<FileStore<File> as Store>⟧ (D.holds dbs.now arguments.entry.store.now)) }
+    ensures rows { IfOk result (IsKeptIn ⟦<FileStore<File> as Store>⟧ (D.holds dbs.now arguments.entry.store.now)
+        found (identity_at m)) }
     ensures may { IfOk result (λ r. MayRun arguments.entry.is_from_file arguments.entry.is_new found) }
     ensures refused { IfErr result (IsStoreless arguments.entry.is_from_file arguments.entry.is_new) }
     ensures kind { IfErr result IsRefusal }

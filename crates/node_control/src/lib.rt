@@ -9,6 +9,10 @@
 //! - [`Observer`]: what is seen of the node as it runs, for the request handler's figures and for warnings on standard
 //!   error.
 //!
+//! Within: `running` is the loop, of node_loop's rounds with requests between them; `control` has the sockets that
+//! accept clients, `client` one client, `stream` its socket, `service` a request and its answer as HTTP has them;
+//! `hearing` and `logging` report on standard error.
+//!
 //! Each process that may open the socket's file may ask: the file's mode, 0660, and the folder that it is in decide
 //! which.
 //!

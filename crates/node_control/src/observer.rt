@@ -4,14 +4,14 @@ ghost use Rattle.std.specs.Prelude.{◌≡◌, ◌==◌, ◌||◌, not, if◌the
 ghost use Rattle.node_control.specs.Observers.{HasSeenNothing, first_rows, has_packets_of, is_quiet_of};
 ghost use Rattle.node_control.specs.inner.Watching.{proposed_by, proposed_after, proposed_then};
 ghost use Rattle.node_control.specs.inner.Watching.{is_proposed, stood_since, seconds_since};
-ghost use Rattle.node_control.specs.inner.Observing.{IsShown, begun, counted, in_all, is_nack, noted, seen_of};
+ghost use Rattle.node_control.specs.inner.Observing.{IsShown, begun, counted, in_all, noted, seen_of};
 ghost use Rattle.node_control.specs.inner.Observing.{listened, stood_at};
 ghost use Rattle.node_control.specs.inner.Rows.{is_due, sampled, reported, sent_more, heard_from, rows_after};
 
 use crate::hearing::Hearing;
 use node_loop::{Progress, RoundCounts};
 use node_requests::{Counters, PeerCounters};
-use px_wire::{Head, Kind, Membership};
+use px_wire::{Head, Membership};
 use std::alloc::{AllocError, Global};
 use std::io::Eprint;
 
@@ -138,26 +138,6 @@ fn seconds_since(since: Option<u64>, now: u64) -> u64
     match since {
         Some(since) => now.saturating_sub(since) / 1_000_000,
         None => 0,
-    }
-}
-
-/// Whether a message of this kind refuses a proposal for one of a higher round.
-fn is_nack(kind: Kind) -> bool
-    ensures { result ≡ is_nack kind }
-{
-    match kind {
-        Kind::Nack => true,
-        Kind::Prepare
-        | Kind::Promise
-        | Kind::Accept
-        | Kind::Vote
-        | Kind::Need
-        | Kind::Learned
-        | Kind::Ask
-        | Kind::Asked
-        | Kind::AskRefused
-        | Kind::PrepareAll
-        | Kind::PromiseAll => false,
     }
 }
 
@@ -413,7 +393,7 @@ impl Observer {
             return;
         }
         self.proposed = proposed_then(self.front, self.now, head.proposal(), self.proposed);
-        if is_nack(head.kind) {
+        if head.kind.is_nack() {
             self.outrun = self.outrun.saturating_add(1);
         }
     }

@@ -61,6 +61,10 @@ OnFront NoWire holds = Unit {0}
 OnFront NoControlSocket holds = Unit {0}
 OnFront NoPort holds = Unit {0}
 
+-- so ends the run of a member that has no wire: with that, or with the fault for which its record isn't opened
+abbrev pub EndsWireless : Ended → Type 0
+EndsWireless ended = (ended ≡ NoWire) ⊎ ((e : NodeFault) × (ended ≡ Fault e))
+
 -- turns of the node and nothing else led from one to the other; the first list went over its wire before, the second
 -- by the end
 pub record Serves {R : Type 0} {G : Ghosts R} (s t : Node R G) (w v : List WireEvent) (ended : Ended) : Type 0 where

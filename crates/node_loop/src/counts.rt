@@ -1,4 +1,4 @@
-//! What went over the wire in a round.
+//! What went over the wire in a round of the loop.
 
 ghost use Rattle.std.specs.Prelude.{◌≡◌, if◌then◌else◌};
 ghost use Rattle.node_loop.specs.Counts.{nothing_of, one_in, one_more, one_out};

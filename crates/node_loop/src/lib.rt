@@ -17,6 +17,20 @@
 //! - `specs/Runs` defines what becomes of the record and what goes over the wire in a run; by [`run_laws`] this is a
 //!   trace of the model, and runs which follow one another over one store are one trace.
 //!
+//! Within: `turning` is a turn, `serving` the turns for what has come, `running` a round and the last ones; `timer` is
+//! what the loop asks, `tick_timer` the program's timer, and `pacing` decides by it; `stopwatch` reads the clock,
+//! `peer_progress` is how far others are. Of the resender, `latest` has the proposal and the request of the front,
+//! `votes` the votes for those who lack them, `state` what both keep, `packet` when a datagram is long.
+//!
+//! # Rounds, packets, attempts
+//!
+//! A round is the turns between two waits of the loop; where `# Why` has a round of promises and proposals, it is
+//! Paxos's: the first part of a ballot. A packet is what goes over the network at once; with a key it is px_packet's,
+//! without one IP's. The front is the least position of which the node hasn't learned the entry. An attempt is its
+//! proposal there, under way from the tick that begins it until an entry is learned there or a nack ends it. A member
+//! has the lead once a majority has promised its ballot at all positions: until a nack ends that, it proposes without
+//! asking for promises.
+//!
 //! # Why
 //!
 //! - The loop knows a node and any wire, and neither sockets nor operators; node_control adds requests between two

@@ -1,4 +1,4 @@
-//! When a node's clock ticks.
+//! What the program's timer decides: when the clock ticks, and when what was sent is sent again.
 
 ghost use Rattle.std.specs.Prelude.{◌≡◌, ◌⊎◌, ◌≤◌, ◌<◌, ◌+◌, ◌/◌, true, false, max, nat_le, nat_lt};
 ghost use Rattle.node_loop.specs.Pacing.{AreTimes, IfTicks, IfWaits, answer_of, front_of, hold_of, is_listening, later};

@@ -76,6 +76,8 @@ impl Resender {
         ensures kept { AreAmong (kept_of self.new) (kept_of self.old ++ (to, bytes.now) ∷ []) }
         ensures bounded { IsBounded self.new }
         ensures request { requests_of self.new ≡ requests_of self.old }
+        ensures of { (me_of self.new ≡ me_of self.old) × (members_of self.new ≡ members_of self.old) }
+        ensures time { time_of self.new ≡ time_of self.old }
     {
         if to >= self.members {
             return Ok(());
@@ -101,6 +103,8 @@ impl Resender {
         ensures request { AreAmong (requests_of self.new) (requests_of self.old ++ bytes.now ∷ []) }
         ensures others { (head.now.kind ≡ Kind.Accept → head.now.from ≡ me_of self.old) →
             requests_of self.new ≡ requests_of self.old }
+        ensures of { (me_of self.new ≡ me_of self.old) × (members_of self.new ≡ members_of self.old) }
+        ensures time { time_of self.new ≡ time_of self.old }
     {
         if head.kind == Kind::Accept && head.from != self.me {
             self.latest.remember(head, bytes);
@@ -117,6 +121,8 @@ impl Resender {
         ensures kept { kept_of self.new ≡ kept_of self.old }
         ensures request { requests_of self.new ≡ requests_of self.old }
         ensures same { W.identity wire.new ≡ W.identity wire.old }
+        ensures of { (me_of self.new ≡ me_of self.old) × (members_of self.new ≡ members_of self.old) }
+        ensures time { time_of self.new ≡ time_of self.old }
     {
         let Some(i) = self.latest.vote_for(bytes) else {
             return false;
@@ -135,6 +141,8 @@ impl Resender {
         ensures kept { kept_of self.new ≡ kept_of self.old }
         ensures request { requests_of self.new ≡ requests_of self.old }
         ensures same { W.identity wire.new ≡ W.identity wire.old }
+        ensures of { (me_of self.new ≡ me_of self.old) × (members_of self.new ≡ members_of self.old) }
+        ensures time { time_of self.new ≡ time_of self.old }
     {
         for i in 0..self.latest.count(front) {
             self.latest.send(wire, i, self.now);
@@ -149,6 +157,8 @@ impl Resender {
         ensures kept { kept_of self.new ≡ kept_of self.old }
         ensures request { requests_of self.new ≡ requests_of self.old }
         ensures same { W.identity wire.new ≡ W.identity wire.old }
+        ensures of { (me_of self.new ≡ me_of self.old) × (members_of self.new ≡ members_of self.old) }
+        ensures time { time_of self.new ≡ time_of self.old }
     {
         let votes = self.votes.walk(to, from, self.now);
         self.votes.send(wire, to, votes);
@@ -162,6 +172,8 @@ impl Resender {
         ensures kept { kept_of self.new ≡ kept_of self.old }
         ensures request { requests_of self.new ≡ requests_of self.old }
         ensures same { W.identity wire.new ≡ W.identity wire.old }
+        ensures of { (me_of self.new ≡ me_of self.old) × (members_of self.new ≡ members_of self.old) }
+        ensures time { time_of self.new ≡ time_of self.old }
     {
         let votes = self.votes.walk(self.me, front, self.now);
         self.votes.send(wire, self.me, votes);

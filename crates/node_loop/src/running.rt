@@ -1,4 +1,4 @@
-//! A node that runs.
+//! A round of the loop, and the last rounds before a node ends.
 
 ghost use Rattle.std.specs.Prelude.{◌≡◌, ◌≤◌, ◌+◌, ℕ, Bool, List, [], ◌∷◌, length, IfOk, OnOk};
 ghost use Rattle.px_replica.specs.Faults.{fault_of};
@@ -8,7 +8,7 @@ ghost use Rattle.node_loop.specs.Resends.{kept_of, requests_of, time_of};
 ghost use Rattle.pf_node.specs.Nodes.{applied_of, replica_of, state_in};
 ghost use Rattle.node_loop.specs.Counting.{CountsRound, CountsTickedIf};
 ghost use Rattle.node_loop.specs.Counts.{nothing_of};
-ghost use Rattle.node_loop.specs.Progress.{counts_in, looked, seen_in};
+ghost use Rattle.node_loop.specs.Progress.{counts_in, heads_in, looked, seen_in};
 ghost use Rattle.node_loop.specs.Timing.{IsShort, LooksTimes, MakesRound, WorksOff, is_tick, looks, view_of};
 ghost use Rattle.node_loop.specs.Times.{IsTimed, LooksAt};
 ghost use Rattle.node_loop.specs.Turns.{Served, TickedIf, in_loop};
@@ -71,7 +71,9 @@ fn tick_if<R: Records, W: Wire>(
     ensures ticked { OnOk result (Moves (W.traffic wire.old) (W.traffic wire.new) (λ es es'.
         TickedIf (is_tick action) (in_loop node.old es buffers.old) (in_loop node.new es' buffers.new))) }
     ensures few { IfOk result (λ made. made.turns ≤ handled + 1) }
+    ensures each { IfOk result (λ made. handled ≤ made.turns) }
     ensures unseen { seen_in buffers.new ≡ seen_in buffers.old }
+    ensures heads { heads_in buffers.new ≡ heads_in buffers.old }
     ensures counts { OnOk result (Moves (W.traffic wire.old) (W.traffic wire.new) (λ es es'.
         CountsTickedIf (is_tick action) (in_loop node.old es buffers.old) (in_loop node.new es' buffers.new)
         (counts_in buffers.old) (counts_in buffers.new))) }
@@ -219,6 +221,7 @@ pub fn round<R: Records, W: Wire, T: Timer>(
         (λ es es'. CountsRound (counts_in buffers.old).me (in_loop node.old es buffers.old)
         (in_loop node.new es' buffers.new)
         (counts_in buffers.new))) }
+    ensures heads { IfOk result (λ made. length (heads_in buffers.new) ≤ made.turns) }
     ensures few { IfOk result (λ made. made.turns ≤ 65) }
     ensures looks { OnOk result (LooksTimes 1 (T.timer_events timer.old) (T.timer_events timer.new)) }
     ensures at { OnOk result (LooksAt (now ∷ []) (T.timer_events timer.old) (T.timer_events timer.new)) }

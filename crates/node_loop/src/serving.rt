@@ -1,7 +1,7 @@
-//! What a node does between two waits.
+//! The turns of a round: what has come is received, one datagram after the other, and the clock ticks.
 
 ghost use Rattle.std.specs.Prelude.{◌≡◌, ◌≢◌, ◌≤◌, ◌<◌, ◌++◌, [], ◌∷◌, ℕ, IfOk, IfSome, None, Some, length};
-ghost use Rattle.std.specs.Prelude.{IsTrue, false};
+ghost use Rattle.std.specs.Prelude.{◌+◌, if◌then◌else◌, IsTrue, false};
 ghost use Rattle.std.specs.Prelude.{option_map, take, vec_len, vec_capacity};
 ghost use Rattle.px_replica.specs.Faults.{fault_of};
 ghost use Rattle.px_wire.specs.Message.{Group, Message, DatagramBytes};
@@ -67,6 +67,7 @@ pub fn tick_now<R: Records, W: Wire>(
     ensures ticked { Moves (W.traffic wire.old) (W.traffic wire.new)
         (λ es es'. Ticked (in_loop node.old es buffers.old) (in_loop node.new es' buffers.new) (fault_of result)) }
     ensures unseen { seen_in buffers.new ≡ seen_in buffers.old }
+    ensures heads { heads_in buffers.new ≡ heads_in buffers.old }
     ensures counts { Moves (W.traffic wire.old) (W.traffic wire.new)
         (λ es es'. CountsTicked (in_loop node.old es buffers.old) (in_loop node.new es' buffers.new) (fault_of result)
         (counts_in buffers.old) (counts_in buffers.new)) }
@@ -99,6 +100,7 @@ fn note(
     ensures heard { vec_len heads.old < vec_capacity heads.old →
         (g : Group) (from to : ℕ) (message : Message) → DatagramBytes g from to message bytes.now →
         heads.new.items ≡ heads.old.items ++ head_of from to message ∷ [] }
+    ensures few { length heads.new.items ≤ length heads.old.items + 1 }
 {
     let Some(head) = Head::read(bytes) else {
         return;
@@ -131,6 +133,7 @@ fn receive<R: Records>(
     ensures heard { fault_of result ≡ None → vec_len heads.old < vec_capacity heads.old →
         (from : ℕ) (message : Message) → IsFrom (replica_of node.old) from message bytes.now →
         heads.new.items ≡ heads.old.items ++ head_of from (membership_of node.old).me message ∷ [] }
+    ensures few { length heads.new.items ≤ length heads.old.items + 1 }
 {
     match node.receive(bytes, out) {
         Ok(Received::Done) => {
@@ -202,6 +205,8 @@ fn take_one<R: Records, W: Wire>(
     ensures counts { IfOk result (λ had. Moves (W.traffic wire.old) (W.traffic wire.new) (λ es es'. CountsIf had
         (in_loop node.old es buffers.old) (in_loop node.new es' buffers.new) (counts_in buffers.old)
         (counts_in buffers.new))) }
+    ensures heads { IfOk result (λ had. length (heads_in buffers.new) ≤ length (heads_in buffers.old)
+        + (if had then 1 else 0)) }
     ensures grows { applied_of node.old ≤ applied_of node.new }
     ensures same { W.identity wire.new ≡ W.identity wire.old }
 {
@@ -256,6 +261,7 @@ pub(crate) fn drain<R: Records, W: Wire>(
     ensures counts { IfOk result (λ n. Moves (W.traffic wire.old) (W.traffic wire.new) (λ es es'. CountsAll n
         (in_loop node.old es buffers.old) (in_loop node.new es' buffers.new) (counts_in buffers.old)
         (counts_in buffers.new))) }
+    ensures heads { IfOk result (λ n. length (heads_in buffers.new) ≤ n) }
     ensures few { IfOk result (λ n. n ≤ most) }
     ensures grows { applied_of node.old ≤ applied_of node.new }
     ensures same { W.identity wire.new ≡ W.identity wire.old }

@@ -1,4 +1,4 @@
-//! What is kept of what a member sent.
+//! What the resender keeps of the requests and votes that a member sent.
 
 ghost use Rattle.std.specs.Prelude.{◌≡◌, ◌≤◌, length, map};
 ghost use Rattle.node_loop.specs.Total.{total};

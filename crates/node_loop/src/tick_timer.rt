@@ -1,4 +1,4 @@
-//! What the timer of a node knows.
+//! The program's timer: what it keeps. `pacing` has what it decides.
 
 ghost use Rattle.std.specs.Prelude.{◌≤◌, ◌+◌};
 

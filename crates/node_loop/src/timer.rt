@@ -1,4 +1,4 @@
-//! What a node asks when its clock ticks.
+//! What the loop asks to know when the clock ticks, and when what was sent is sent again: the trait [`Timer`].
 
 ghost use Rattle.std.specs.Prelude.{◌≡◌, ℕ, Bool, List, [], ◌∷◌};
 ghost use Rattle.px_transport.specs.Wires.{Adds};

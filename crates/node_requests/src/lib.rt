@@ -14,6 +14,11 @@
 //! - `specs/Routing` defines what HTTP's requests ask for, `specs/Answers` what is answered, `specs/Changing` what a
 //!   change does, `specs/Positions` the lines of a log.
 //!
+//! Within: `routing` reads a request, by `target` (paths and methods), `query` (parameters) and `listing` (the action
+//! that they ask for). `answering` answers it: `changing` a change, `packets` and `bounded` verdicts, `entries` the
+//! log, `request_status` what became of a request; `figures` are a node's numbers, with three renderers: `status`
+//! (lines), `json` and `metrics` (Prometheus).
+//!
 //! # Why
 //!
 //! - Nothing here knows of sockets: node_control moves the bytes, and hands in what it counted ([`Counters`]).
@@ -23,8 +28,8 @@
 //!   counted as one, since a node that computes a verdict does nothing else. `pfx ask test` asks for the others again,
 //!   three times from the start where another position was applied meanwhile. Listings aren't cut: `docs/SPEED.md` has
 //!   what the longest takes.
-//! - **`stuck` goes by the front**, not by a command. **`behind` goes by what was shown 2 seconds ago**: a sound node
-//!   lacks the last positions while votes are on their way.
+//! - **`stuck` goes by the front** (the least position not learned), not by a command. **`behind` goes by what was
+//!   shown 2 seconds ago**: a sound node lacks the last positions while votes are on their way.
 //! - **A carriage return before a newline is no part of an address or a packet**: bodies over HTTP may have such lines.
 //!   In a change it is refused, as in pf.conf(5).
 //! - **The arguments of a change are read once**, where they come in. What isn't understood is refused there; what is

@@ -1,8 +1,10 @@
--- One address more.
-use Rattle.std.proofs.Common.{◌≡◌, ◌∙◌, ◌<◌, ◌+◌, List, ℕ, [], ◌∷◌, ◌++◌, length, map, take, get_or, ap, sym, subst}
+-- One address more, and none.
+use Rattle.std.proofs.Common.{◌≡◌, ◌∙◌, ◌<◌, ◌+◌, ◌==◌, true, None, List, ℕ, [], ◌∷◌, ◌++◌, length, map, take, get_or, ap, refl, sym, subst}
+use Rattle.std.specs.List.{position_or_len, prefix_len}
+use Rattle.std.proofs.lemmas.Bool.{eq-eqb}
 use Rattle.std.proofs.lemmas.List.{take_more, map-append}
 use Rattle.node_udp.specs.declared.address.Address.{Address}
-use Rattle.node_udp.specs.Addresses.{IsFound, AreFound}
+use Rattle.node_udp.specs.Addresses.{IsFound, AreFound, host_port, is_no_colon}
 
 pub one_more : (texts : List (List ℕ)) (rest : List Address) (text : List ℕ) (a : Address) → AreFound texts rest →
     IsFound text a → AreFound (texts ++ text ∷ []) (rest ++ a ∷ [])
@@ -21,3 +23,10 @@ found_more f xs i d rest a now h all one e =
     let split : map f (take (i + 1) xs) ≡ map f (take i xs) ++ f (get_or xs i d) ∷ [] =
     ap (map f) (take_more xs i d h) ∙ map-append f (take i xs) (get_or xs i d ∷ []) in
     subst Q (sym e) (subst P (sym split) (one_more (map f (take i xs)) rest (f (get_or xs i d)) a all one))
+
+-- without a colon there is no port of a name
+pub no_port : (text : List ℕ) → position_or_len (λ b. b == 58) text ≡ length text → host_port text ≡ None
+unfolding host_port
+no_port text e =
+    let none : (prefix_len is_no_colon text == length text) ≡ true = eq-eqb (prefix_len is_no_colon text) (length text) e in
+    rw none refl

@@ -6,7 +6,7 @@ use Rattle.std.specs.List.{AllByRecursion}
 use Rattle.std.specs.declared.net.socket_addr.SocketAddr.{SocketAddr}
 use Rattle.px_transport.specs.Wires.{Gave, Handed, Adds, IsQuiet}
 use Rattle.px_transport.proofs.Traffic.{adds_none}
-use Rattle.node_udp.specs.Members.{peers_of, me_of, last_of, hears_of}
+use Rattle.node_udp.specs.Members.{peers_of, me_of, last_of}
 use Rattle.node_udp.specs.Sockets.{SocketEvent, Came, Went, Passage, Hears, Sends, Loses, below_in, above_in, GoesTo, HasNoAddress, IsSound, WentOver, IsStill, heard_last, AnswersLast}
 use Rattle.node_udp.specs.inner.Heard.{last_after}
 use Rattle.node_udp.specs.declared.udp.UdpWire.{UdpWire}

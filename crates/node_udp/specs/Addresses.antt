@@ -91,6 +91,10 @@ host_port text =
     else if is_host (take colon text) then used_port (port_behind colon text)
     else None
 
+-- the host's name before the colon
+abbrev pub host_of : List ℕ → List ℕ
+host_of text = take (prefix_len is_no_colon text) text
+
 -- the address that the text is, or what the system gives for the name that it is, with its port
 abbrev pub IsFound : List ℕ → Address → Type 0
 IsFound text a = (address_of text ≡ Some a) ⊎ ((address_of text ≡ None) × (host_port text ≡ Some a.port))
@@ -101,3 +105,7 @@ AreFound [] [] = Unit {0}
 AreFound [] (a ∷ rest) = ⊥
 AreFound (text ∷ texts) [] = ⊥
 AreFound (text ∷ texts) (a ∷ rest) = IsFound text a × AreFound texts rest
+
+-- the text is no address, and no name of a known host with a port
+abbrev pub IsUnfound : (is_unknown : (host : List ℕ) → Type 0) → (text : List ℕ) → Type 0
+IsUnfound is_unknown text = (address_of text ≡ None) × ((host_port text ≡ None) ⊎ is_unknown (host_of text))

@@ -1,5 +1,6 @@
 -- What a wire over UDP was made with.
-use Rattle.std.specs.Prelude.{◌≡◌, ◌⊎◌, ℕ, Bool, List, Option, Some, map}
+use Rattle.std.specs.Prelude.{◌≡◌, ◌⊎◌, ◌==◌, ℕ, Bool, List, [], ◌∷◌, Option, Some, Any, IfSome, map, slice_get}
+use Rattle.std.specs.Prelude.{if◌then◌else◌}
 use Rattle.std.specs.declared.net.socket_addr.SocketAddr.{SocketAddr}
 use Rattle.std.specs.declared.net.ip_addr.IpAddr.{IpAddr}
 use Rattle.std.specs.declared.net.ip_addr.IpAddr.TheVariants as ips
@@ -9,7 +10,7 @@ use Rattle.std.specs.Net.Socket.{socket_ip, socket_port}
 use Rattle.pf_addr.specs.declared.addr.Addr.{Addr}
 use Rattle.pf_addr.specs.declared.addr.Addr.TheVariants.{V4, V6}
 use Rattle.px_transport.specs.Wires.{one_more}
-use Rattle.node_udp.specs.Addresses.{shown_address}
+use Rattle.node_udp.specs.Addresses.{shown_address, AreFound, IsUnfound}
 use Rattle.node_udp.specs.declared.address.Address.{Address}
 use Rattle.node_udp.specs.declared.udp.UdpWire.{UdpWire}
 
@@ -57,3 +58,30 @@ strangers_of w = w.strangers
 -- none was dropped, or this one was: it is given as an empty one, and counted
 abbrev pub Drops : (strangers : ℕ) → (given : Option ℕ) → (strangers' : ℕ) → Type 0
 Drops old given new = (new ≡ old) ⊎ ((given ≡ Some 0) × (new ≡ one_more old))
+
+-- ---- where it listens
+
+-- any free port of this machine, for datagrams to an address of this kind
+abbrev pub any_ip : Addr → Addr
+any_ip (V4 bits) = V4 0
+any_ip (V6 bits) = V6 0
+
+abbrev pub any_port : Addr → Address
+any_port ip = record { ip = any_ip ip; port = 0 }
+
+-- where a client listens whose first address takes every send
+abbrev pub client_port : (peers : List Address) → Address
+client_port [] = any_port (V4 0)
+client_port (a ∷ peers) = any_port a.ip
+
+-- where a member listens, and with 255 a client
+abbrev pub own_of : (peers : List Address) → (me : ℕ) → Option Address
+own_of peers me = if me == 255 then Some (client_port peers) else slice_get peers me
+
+-- Why there is no wire of a member, or with 255 of a client: one of the strings is no address; the member has none; or
+-- no socket is to be had at its own.
+abbrev pub HasNoSocket : (is_unknown : (host : List ℕ) → Type 0) → (is_refused : Address → Type 0) →
+    (texts : List (List ℕ)) → (me : ℕ) → Type 0
+HasNoSocket is_unknown is_refused texts me =
+    Any (IsUnfound is_unknown) texts
+    ⊎ ((peers : List Address) × AreFound texts peers × IfSome (own_of peers me) is_refused)

@@ -7,8 +7,7 @@ ghost use Rattle.pf_rules.specs.Words.{number_of};
 ghost use Rattle.node_udp.specs.Addresses.{address_of, four_of, six_of, four_in, six_in, joined};
 ghost use Rattle.node_udp.specs.Addresses.{is_no_colon, is_no_bracket, shown_address};
 ghost use Rattle.node_udp.specs.Sockets.{IsSocketOf};
-ghost use Rattle.node_udp.specs.Members.{ip_at, address_at};
-ghost use Rattle.node_udp.specs.inner.Heard.{any_port};
+ghost use Rattle.node_udp.specs.Members.{any_port, ip_at, address_at};
 
 use pf_addr::{Addr, parse_bytes};
 use pf_rules::parse_decimal;

@@ -3,12 +3,11 @@
 ghost use Rattle.std.specs.Prelude.{◌≡◌, None, IfSome};
 ghost use Rattle.std.specs.List.{list_all, prefix_len};
 ghost use Rattle.pf_rules.specs.Words.{number_of};
-ghost use Rattle.node_udp.specs.Addresses.{address_of, host_port, used_port, is_host, is_host_byte, IsFound};
+ghost use Rattle.node_udp.specs.Addresses.{host_port, used_port, is_host, is_host_byte, IsFound, IsUnfound};
 
-use crate::address::{Address, before_colon, bits_of, parse_address};
-use pf_addr::Addr;
+use crate::address::{Address, before_colon, parse_address};
+use crate::network::Network;
 use pf_rules::parse_decimal;
-use std::net::{Net, SocketAddr, ToSocketAddrs};
 
 /// Whether the byte may be in a host's name.
 fn is_host_byte(b: u8) -> bool
@@ -56,26 +55,10 @@ fn host_port(text: &[u8]) -> Option<u16>
     used_port(&text[colon + 1..])
 }
 
-/// The first IPv4 address that the system gives for the name, else the first of any kind.
-fn look_up<R: Net>(rt: &R, host: &str, port: u16) -> Option<Addr> {
-    let found = (host, port).to_socket_addrs(rt).ok()?;
-    let mut first = None;
-    for address in found {
-        let ip = bits_of(address.ip());
-        if let SocketAddr::V4(_) = address {
-            return Some(ip);
-        }
-        if first.is_none() {
-            first = Some(ip);
-        }
-    }
-    first
-}
-
 /// The address that the text is, or what the system gives for the host's name in it.
-pub(crate) fn find<R: Net>(rt: &R, text: &str) -> Option<Address>
+pub(crate) fn find<R: Network>(rt: &R, text: &str) -> Option<Address>
     ensures found { IfSome result (λ a. IsFound text.now a) }
-    ensures written { result ≡ None → address_of text.now ≡ None }
+    ensures unfound { result ≡ None → IsUnfound (R.is_unknown rt.now) text.now }
 {
     if let Some(address) = parse_address(text) {
         return Some(address);
@@ -84,7 +67,7 @@ pub(crate) fn find<R: Net>(rt: &R, text: &str) -> Option<Address>
     let Some((host, _)) = text.split_once(':') else {
         return None;
     };
-    match look_up(rt, host, port) {
+    match rt.look_up(host, port) {
         Some(ip) => Some(Address { ip, port }),
         None => None,
     }

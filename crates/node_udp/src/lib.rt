@@ -3,8 +3,11 @@
 //! # Organization
 //!
 //! - [`UdpWire`]: a wire of a member, or of a client, over a [`Socket`]: the system's, or a [`MemorySocket`].
-//!   [`parse_address`]: where a member listens; [`shown_is_read`]: what is shown of it is read as it.
+//!   [`parse_address`]: where a member listens; [`shown_is_read`]: what is shown of it is read as it. [`Network`]: what
+//!   binds a socket and looks up a host's name, the system or a test's own.
 //! - [`ask_once`]: one command asked of one node over any wire, and its [`AskAnswer`].
+//!
+//! Within: `host` has a member's address by its host's name.
 //!
 //! # Why
 //!
@@ -39,6 +42,7 @@ mod asking;
 mod host;
 mod laws;
 mod memory_socket;
+mod network;
 mod socket;
 mod udp;
 
@@ -47,6 +51,7 @@ pub use answer::AskAnswer;
 pub use asking::ask_once;
 pub use laws::shown_is_read;
 pub use memory_socket::MemorySocket;
+pub use network::Network;
 pub use pf_entry::Command;
 pub use px_replica::NodeFault;
 pub use px_wire::Membership;

@@ -74,6 +74,8 @@ fn put(datagram: &mut Vec<u8>, into: &mut [u8]) -> usize
 impl Socket for MemorySocket {
     ghost traffic = { WentOver };
 
+    ghost is_timeless = { λ s. ⊥ };
+
     fn receive(&mut self, into: &mut [u8]) -> Result<(usize, SocketAddr), ErrorKind> {
         if self.next >= self.coming.len() {
             return Err(ErrorKind::WouldBlock);

@@ -1,6 +1,6 @@
 //! Sockets of datagrams.
 
-ghost use Rattle.std.specs.Prelude.{◌≡◌, ◌≤◌, List, [], ◌∷◌, IfOk, length};
+ghost use Rattle.std.specs.Prelude.{◌≡◌, ◌≤◌, List, [], ◌∷◌, IfOk, IfErr, length};
 ghost use Rattle.px_transport.specs.Wires.{Adds, IsQuiet};
 ghost use Rattle.node_udp.specs.Sockets.{SocketEvent, Went, comes};
 
@@ -12,6 +12,9 @@ use std::time::Duration;
 pub trait Socket {
     // this went over it so far, in order
     ghost traffic: { Self → List SocketEvent → Type 0 };
+
+    // no time can be set for its waits
+    ghost is_timeless: { Self → Type 0 };
 
     /// Takes a datagram, which is written from the slice's front on and cut to it: how many bytes it has there, and
     /// where it came from. Whether this waits for one, and how long, is set below.
@@ -33,12 +36,16 @@ pub trait Socket {
 
     /// From now on it waits so long, where it does.
     fn set_timeout(&mut self, timeout: Duration) -> Result<(), ErrorKind>
-        ensures quiet { IsQuiet (traffic self.old) (traffic self.new) };
+        ensures quiet { IsQuiet (traffic self.old) (traffic self.new) }
+        ensures refused { IfErr result (λ e. is_timeless self.old) };
 }
 
 // The system's socket. No contract states what went over it: that it is what these calls report is trusted.
 impl Socket for UdpSocket {
     ghost traffic = { λ s es. Unit {0} };
+
+    // nor when the system sets no time
+    ghost is_timeless = { λ s. Unit {0} };
 
     fn receive(&mut self, into: &mut [u8]) -> Result<(usize, SocketAddr), ErrorKind> {
         match self.recv_from(into) {

@@ -1,21 +1,23 @@
 //! Datagrams over a UDP socket.
 
-ghost use Rattle.std.specs.Prelude.{◌≡◌, ◌⊎◌, ◌<◌, ◌≤◌, ◌==◌, ◌*◌, Some, None, Err, IfOk, IfSome, OnErr, IsTrue};
-ghost use Rattle.std.specs.Prelude.{ℕ, ◌&&◌, ◌||◌, [], ◌∷◌, ◌≢◌, map, length, option_map, take, true, false};
+ghost use Rattle.std.specs.Prelude.{◌≡◌, ◌⊎◌, ◌<◌, ◌≤◌, ◌==◌, ◌*◌, Some, None, Err, IfOk, IfErr, IfSome, OnErr};
+ghost use Rattle.std.specs.Prelude.{ℕ, ◌&&◌, ◌||◌, [], ◌∷◌, ◌≢◌, Any, IsTrue, map, length, option_map, take, true};
+ghost use Rattle.std.specs.Prelude.{false};
 ghost use Rattle.std.specs.List.{list_any};
 ghost use Rattle.pf_entry.specs.declared.limits.TheConstants.{CLIENT};
 ghost use Rattle.px_transport.specs.Identities.{plain, with_route};
 ghost use Rattle.px_transport.specs.Wires.{Adds, Counts, Handed, IsQuiet, gives, one_more};
-ghost use Rattle.node_udp.specs.declared.udp.BindFault.TheVariants.{Memory};
-ghost use Rattle.node_udp.specs.Addresses.{AreFound, shown_address};
+ghost use Rattle.node_udp.specs.declared.udp.BindFault.TheVariants.{Memory, NoSocket};
+ghost use Rattle.node_udp.specs.Addresses.{AreFound, IsUnfound, shown_address};
 ghost use Rattle.px_wire.specs.Message.{Group, Message, DatagramBytes};
 ghost use Rattle.node_udp.specs.Members.{socket_of, peers_of, me_of, last_of, hears_of, strangers_of, Drops};
-ghost use Rattle.node_udp.specs.Members.{address_at, wait_of};
+ghost use Rattle.node_udp.specs.Members.{HasNoSocket, address_at, own_of, wait_of};
 ghost use Rattle.node_udp.specs.Sockets.{GoesTo, HasNoAddress, IsStill, Went, WentOver};
-ghost use Rattle.node_udp.specs.inner.Heard.{last_after, own_of};
+ghost use Rattle.node_udp.specs.inner.Heard.{last_after};
 
 use crate::address::Address;
 use crate::host::find;
+use crate::network::Network;
 use crate::socket::Socket;
 use pf_addr::Addr;
 use pf_entry::CLIENT;
@@ -23,7 +25,7 @@ use px_transport::Wire;
 use px_wire::Head;
 use std::alloc::{AllocError, AllocFailed, Global};
 use std::io::ErrorKind;
-use std::net::{Net, SocketAddr, UdpSocket};
+use std::net::{SocketAddr, UdpSocket};
 use std::os::fd::{AsRawFd, RawFd};
 use std::time::{Clock, Duration, Instant};
 use thiserror::Error;
@@ -111,8 +113,9 @@ impl<S: Drop, C: Drop> Drop for UdpWire<S, C> {
 }
 
 /// The addresses of the strings.
-fn addresses<R: Net>(rt: &R, alloc: Global, texts: &[&str]) -> Result<Vec<Address>, BindFault>
+fn addresses<R: Network>(rt: &R, alloc: Global, texts: &[&str]) -> Result<Vec<Address>, BindFault>
     ensures all { IfOk result (λ v. AreFound (map (λ t. t.now) texts.now) v.items) }
+    ensures unfound { result ≡ Err NoSocket → Any (IsUnfound (R.is_unknown rt.now)) (map (λ t. t.now) texts.now) }
 {
     let mut peers = Vec::new(alloc);
     for text in texts {
@@ -163,12 +166,13 @@ fn is_among(peers: &[Address], address: Address) -> bool
     peers.contains(&address)
 }
 
-impl<R: Net + Clock + Copy> UdpWire<UdpSocket, R> {
+impl<R: Network + Clock + Copy> UdpWire<UdpSocket, R> {
     /// A wire of a member, which listens at its address of these, or with 255 of a client on any free port, of whom the
     /// first address takes every send. A wait is n milliseconds long.
     ///
     /// An address is as `parse_address` reads it, or a host's name, `:` and a port; names are looked up here, once.
-    /// `NoSocket` where one is neither, or where the system knows no such name or refuses the socket.
+    /// `NoSocket` where one is neither, or where the system knows no such name or refuses the socket, and for a member
+    /// that has no address.
     pub fn bind(
         rt: &R,
         alloc: Global,
@@ -183,15 +187,21 @@ impl<R: Net + Clock + Copy> UdpWire<UdpSocket, R> {
         ensures strangers { IfOk result (λ w. strangers_of w ≡ 0) }
         ensures hears { IfOk result (λ w. hears_of w ≡ true) }
         ensures traffic { IfOk result (λ w. WentOver (⟦<UdpSocket as Socket>⟧.traffic (socket_of w)) w []) }
+        ensures own { IfOk result (λ w. IfSome (own_of (peers_of w) me) (λ own. R.is_bound rt.now own (socket_of w))) }
+        ensures refused { result ≡ Err NoSocket →
+            HasNoSocket (R.is_unknown rt.now) (R.is_refused rt.now) (map (λ t. t.now) addrs.now) me }
     {
-        let peers = addresses(rt, alloc, addrs)?;
+        let peers = match addresses(rt, alloc, addrs) {
+            Ok(peers) => peers,
+            Err(fault) => return Err(fault),
+        };
         let Some(own) = own_address(peers.as_slice(), me) else {
             return Err(BindFault::NoSocket);
         };
-        let Ok(socket) = UdpSocket::bind(rt, own.socket()) else {
+        let Some(socket) = rt.bind_at(own, Duration::from_millis(u64::from(wait_ms))) else {
             return Err(BindFault::NoSocket);
         };
-        UdpWire::over(socket, *rt, peers, me, wait_ms)
+        Ok(UdpWire::with_socket(socket, *rt, peers, me, wait_ms))
     }
 }
 
@@ -203,6 +213,34 @@ impl<C> UdpWire<UdpSocket, C> {
 }
 
 impl<S: Socket + Drop, C: Clock + Drop> UdpWire<S, C> {
+    /// A wire over a socket that is bound and waits so long.
+    fn with_socket(socket: S, clock: C, peers: Vec<Address>, me: u8, wait_ms: u32) -> UdpWire<S, C>
+        ensures socket { socket_of result ≡ socket }
+        ensures peers { peers_of result ≡ peers.items }
+        ensures me { me_of result ≡ me }
+        ensures wait { wait_of result ≡ wait_ms * 1000000 }
+        ensures strangers { strangers_of result ≡ 0 }
+        ensures hears { hears_of result ≡ true }
+        ensures traffic { S.traffic socket [] → WentOver (S.traffic (socket_of result)) result [] }
+    {
+        let wait = Duration::from_millis(u64::from(wait_ms));
+        UdpWire {
+            socket,
+            clock,
+            peers,
+            me,
+            wait,
+            left: wait,
+            since: None,
+            last: None,
+            timeout: wait,
+            is_blocking: true,
+            hears_asks: true,
+            strangers: 0,
+            failures: 0,
+        }
+    }
+
     /// A wire over a socket that is bound, of a member with these addresses of all members, or with 255 of a client.
     ///
     /// `NoSocket` where no time can be set for the socket's waits.
@@ -220,27 +258,14 @@ impl<S: Socket + Drop, C: Clock + Drop> UdpWire<S, C> {
         ensures strangers { IfOk result (λ w. strangers_of w ≡ 0) }
         ensures hears { IfOk result (λ w. hears_of w ≡ true) }
         ensures traffic { IfOk result (λ w. S.traffic socket [] → WentOver (S.traffic (socket_of w)) w []) }
+        ensures refused { IfErr result (λ e. (e ≡ NoSocket) × S.is_timeless socket) }
     {
-        let wait = Duration::from_millis(u64::from(wait_ms));
         let mut socket = socket;
+        let wait = Duration::from_millis(u64::from(wait_ms));
         if socket.set_timeout(wait).is_err() {
             return Err(BindFault::NoSocket);
         }
-        Ok(UdpWire {
-            socket,
-            clock,
-            peers,
-            me,
-            wait,
-            left: wait,
-            since: None,
-            last: None,
-            timeout: wait,
-            is_blocking: true,
-            hears_asks: true,
-            strangers: 0,
-            failures: 0,
-        })
+        Ok(UdpWire::with_socket(socket, clock, peers, me, wait_ms))
     }
 }
 

@@ -1,5 +1,5 @@
 -- The head of a message: who sends it to whom, its kind, and the ballot, position or number that it is about.
-use Rattle.std.specs.Prelude.{ℕ, ◌+◌, min, Option, Some, None}
+use Rattle.std.specs.Prelude.{ℕ, Bool, ◌+◌, ◌==◌, min, Option, Some, None}
 use Rattle.px_wire.specs.declared.kind.Kind.{Kind}
 use Rattle.px_wire.specs.declared.kind.Kind.TheVariants as kinds
 use Rattle.px_wire.specs.declared.head.Head.{Head}
@@ -20,6 +20,10 @@ number_of kinds.Asked = 9
 number_of kinds.AskRefused = 10
 number_of kinds.PrepareAll = 11
 number_of kinds.PromiseAll = 12
+
+-- a message of this kind refuses a proposal for one of a higher round
+abbrev pub is_nack : Kind → Bool
+is_nack kind = number_of kind == number_of kinds.Nack
 
 -- ---- heads, by what they have
 

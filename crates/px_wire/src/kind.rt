@@ -1,7 +1,7 @@
 //! The kinds of messages, and their numbers.
 
 ghost use Rattle.std.specs.Prelude.{◌≡◌};
-ghost use Rattle.px_wire.specs.Heads.{number_of};
+ghost use Rattle.px_wire.specs.Heads.{is_nack, number_of};
 ghost use Rattle.px_wire.specs.inner.Heads.{kind_in};
 
 /// The kind of a message. The fields of each are at the variant of [`Message`](crate::Message) with its name.
@@ -52,6 +52,13 @@ impl Kind {
             Kind::PrepareAll => 11,
             Kind::PromiseAll => 12,
         }
+    }
+
+    /// Whether a message of this kind refuses a proposal for one of a higher round.
+    pub fn is_nack(self) -> bool
+        ensures { result ≡ is_nack self }
+    {
+        self.number() == Kind::Nack.number()
     }
 
     /// The kind with that number.

@@ -12,6 +12,9 @@
 //! - `specs/Message` is what is to be believed of what is spelled, `specs/Fields` of faults: a table of fields for each
 //!   kind. `specs/Members` joins both with the log's own messages, `specs/Heads` defines a message's head.
 //!
+//! Within: `reading` reads fields from left to right, `limits` has the offsets and bounds, `membership` is who takes
+//! part, `fault` the first field that isn't allowed.
+//!
 //! # The bytes of a datagram
 //!
 //! Numbers are unsigned, the highest byte first. Nothing follows the last field.
@@ -42,10 +45,11 @@
 //! | 12 PromiseAll | ballot of `to` 13, position 21, top 25, accepted 29 |
 //!
 //! A ballot has eight bytes: `round * 256 + member`, the round 1 to 2^48-1. A position has four bytes and is at most
-//! 999,999, a top at most 1,000,000. Accepted is a ballot of 0 for none, else one below the promise's with a length and
-//! an entry behind it. Promised is a ballot not below the first. A length has four bytes and is 1 to 32,768, and that
-//! many bytes spell an entry ([`pf_entry`]): asked of a member, but in an Ask, where its origin is 255 and its number
-//! the client's token. Tokens and numbers have eight bytes and are below 2^48. A code is one byte, 60 or 62.
+//! 999,999. A top is the position from which on the sender accepted nothing, at most 1,000,000. Accepted is a ballot of
+//! 0 for none, else one below the promise's with a length and an entry behind it. Promised is a ballot not below the
+//! first. A length has four bytes and is 1 to 32,768, and that many bytes spell an entry ([`pf_entry`]): asked of a
+//! member, but in an Ask, where its origin is 255 and its number the client's token. Tokens and numbers have eight
+//! bytes and are below 2^48. A code is one byte, 60 or 62.
 //!
 //! Fields are read in this order. A field whose bytes aren't all there is 50 at its offset, a value that isn't allowed
 //! is refused at its offset, and 56 is at the first byte after the last field.

@@ -2,10 +2,8 @@
 use Rattle.std.specs.Prelude.{◌≡◌, ℕ, ◌+◌, ◌-◌, ◌/◌, ◌==◌, ◌&&◌, ◌||◌, Bool, true, false, not, List, [], ◌∷◌, length}
 use Rattle.std.specs.Prelude.{map}
 use Rattle.std.specs.Prelude.{max, nat_le, nat_lt, Option, if◌then◌else◌}
-use Rattle.px_wire.specs.Heads.{learned_below, proposal_in}
+use Rattle.px_wire.specs.Heads.{is_nack, learned_below, proposal_in}
 use Rattle.px_wire.specs.declared.head.Head.{Head}
-use Rattle.px_wire.specs.declared.kind.Kind.{Kind}
-use Rattle.px_wire.specs.declared.kind.Kind.TheVariants as kinds
 use Rattle.node_loop.specs.declared.counts.RoundCounts.{RoundCounts}
 use Rattle.node_loop.specs.declared.running.Progress.{Progress}
 use Rattle.node_requests.specs.declared.counters.Counters.{Counters}
@@ -81,21 +79,6 @@ abbrev pub begun : (now front : ℕ) → (waiting : Bool) → Seen → Seen
 begun now front waiting s = stood_at front waiting (kept_at now (record s { now = now }))
 
 -- ---- what went over the wire
-
--- it refuses a proposal for one of a higher round
-abbrev pub is_nack : Kind → Bool
-is_nack kinds.Prepare = false
-is_nack kinds.Promise = false
-is_nack kinds.Accept = false
-is_nack kinds.Vote = false
-is_nack kinds.Nack = true
-is_nack kinds.Need = false
-is_nack kinds.Learned = false
-is_nack kinds.Ask = false
-is_nack kinds.Asked = false
-is_nack kinds.AskRefused = false
-is_nack kinds.PrepareAll = false
-is_nack kinds.PromiseAll = false
 
 -- a message that another member sent: its proposal, and whether it refuses one
 abbrev pub noted : Head → Seen → Seen

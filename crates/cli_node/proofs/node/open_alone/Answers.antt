@@ -5,7 +5,7 @@ use Rattle.cli_node.proofs.node.open_alone.Goals as goal
 
 pub returns-clause-hosted : goal.returns-clause-hosted
 returns-clause-hosted g c =
-    let r = runs _ _ _ _ _ _ _ (c.open_member-ended.ensures []) in (
+    let r = runs _ _ _ _ _ _ _ (c.open_member-ended.ensures.ran []) in (
       [],
       r.0,
       c.open_member-ended.result.0,
@@ -20,7 +20,7 @@ returns-clause-turns g c = (
   [],
   c.open_member-ended.result.0,
   c.args.outcome,
-  c.open_member-ended.ensures [],
+  c.open_member-ended.ensures.ran [],
   c.ended_outcome.ensures,
   c.requires.wireless,
 )
@@ -29,7 +29,8 @@ pub returns-clause-alone : goal.returns-clause-alone
 returns-clause-alone g c = (
   c.open_member-ended.result.0,
   c.args.outcome,
-  c.open_member-ended.ensures [],
+  c.open_member-ended.ensures.wireless,
+  c.open_member-ended.ensures.ran [],
   c.ended_outcome.ensures,
   c.requires.wireless,
 )

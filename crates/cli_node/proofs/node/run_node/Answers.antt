@@ -11,7 +11,7 @@ returns-then-is_made-clause-ran g c = inr (
   c.in-Some.ensures.some,
   c.in-Ok.ensures.named,
   new_map _ _ _ _ _ _ _ _ _ _ _ _ _ _ (λ start raised. (c.in-Ok-found_at.found, c.in-Ok-found_at.ensures, raised))
-      (λ r h. ((c.in-Ok-found_at.found, c.in-Ok-found_at.ensures, inl (sym c.is_made.ensures ∙ c.if-is_made.true)), h))
+      (λ r h. (c.in-Ok-found_at.found, c.in-Ok-found_at.ensures, inl (sym c.is_made.ensures ∙ c.if-is_made.true), h))
       (λ r h. h) (λ how h. h)
       c.run_new.ensures.ran,
 )
@@ -26,7 +26,12 @@ returns-in-Ok-record_at-clause-ran g c = inr (
     c.in-Ok-record_at.records,
     c.in-Ok-record_at.ensures.members,
     c.in-Ok-record_at.ensures.begins,
-    ((c.in-Ok-found_at.found, c.in-Ok-found_at.ensures, c.in-Ok-record_at.ensures.may), c.in-Ok-record_at.ensures.rows),
+    (
+      c.in-Ok-found_at.found,
+      c.in-Ok-found_at.ensures,
+      c.in-Ok-record_at.ensures.may,
+      c.in-Ok-record_at.ensures.rows,
+    ),
     with_map _ _ _ _ _ _ _ _ _ _ _ _ _ (λ start raised. (c.in-Ok-found_at.found, c.in-Ok-found_at.ensures, raised))
         (λ r h. h) (λ how h. h)
         c.run_sealed.ensures.ran,

@@ -4,16 +4,15 @@ use Rattle.cli_node.specs.declared.outcome.Outcome.{Outcome}
 use Rattle.cli_node.specs.declared.outcome.Outcome.TheVariants.{Refused}
 use Rattle.cli_node.specs.Endings.{adopt_outcome}
 use Rattle.cli_node.specs.Stores.{IsRefusal, IsStoreless}
+use Rattle.cli_node.proofs.Kept.{kept_in}
 use Rattle.cli_node.proofs.Stores.{by_fault, err_is, kind_of_fault, not_lost, unfailed_fault}
 use Rattle.cli_node.proofs.store.record_at.Goals as goal
 
 pub returns-in-Ok-record_in-clause-rows : goal.returns-in-Ok-record_in-clause-rows
-returns-in-Ok-record_in-clause-rows g c = (
-  _,
-  _,
-  c.in-Ok.ensures.at,
-  λ clean f schema auto. c.in-Ok-record_in.ensures.rows clean f (record { schema = schema; auto = auto }),
-)
+returns-in-Ok-record_in-clause-rows g c =
+    kept_in _ _ _ _ c.in-Ok.conn c.in-Ok-record_in.records c.identity_of.ensures c.in-Ok.ensures.at
+    c.in-Ok-record_in.ensures.rows c.in-Ok-record_in.ensures.owned c.in-Ok-record_in.ensures.made
+    c.in-Ok-record_in.ensures.brought
 
 pub returns-in-Err-record_in-clause-refused : goal.returns-in-Err-record_in-clause-refused
 returns-in-Err-record_in-clause-refused g c =

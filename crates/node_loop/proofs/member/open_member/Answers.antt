@@ -3,8 +3,8 @@ use Rattle.std.proofs.Common.{inr, inl, refl}
 use Rattle.node_loop.proofs.Still.{still}
 use Rattle.node_loop.proofs.member.open_member.Goals as goal
 
-pub returns-in-Ok : goal.returns-in-Ok
-returns-in-Ok g c w = inr (record {
+pub returns-in-Ok-clause-ran : goal.returns-in-Ok-clause-ran
+returns-in-Ok-clause-ran g c w = inr (record {
   begun = c.in-Ok.node;
   done = c.in-Ok.node;
   membership = c.in-Ok.ensures.membership;

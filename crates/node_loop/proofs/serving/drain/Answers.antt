@@ -1,5 +1,5 @@
 -- one datagram more
-use Rattle.std.proofs.Common.{◌∙◌, arith, refl}
+use Rattle.std.proofs.Common.{◌∙◌, arith, refl, rules}
 use Rattle.node_loop.specs.Turns.{in_loop}
 use Rattle.node_loop.proofs.Chains.{served_none, same_all, saw_more, saw_no_more}
 use Rattle.node_loop.proofs.Counting.{counts_more, counts_no_more}
@@ -11,6 +11,7 @@ loop-handled-init g c = record {
   served = λ es t. (es, t, served_none _ _ (same_all _));
   saw = λ es t. (es, t, (same_all _, refl));
   counts = λ es t. (es, t, (same_all _, refl));
+  heads = search rules;
   grows = omega arith;
   same = refl;
 }
@@ -28,6 +29,7 @@ loop-handled-preserved g c = record {
       let r = c.loop-handled.invariant.counts es t in
       let s = c.in-Ok.ensures.counts r.0 r.1 in
       (s.0, s.1, counts_more c.loop-handled.handled _ _ _ _ _ _ _ c.in-Ok.had c.if-not-had.false (omega arith) r.2 s.2);
+  heads = search rules;
   grows = omega (arith, c.loop-handled.invariant.grows, c.take_one.ensures.grows);
   same = c.take_one.ensures.same ∙ c.loop-handled.invariant.same;
 }

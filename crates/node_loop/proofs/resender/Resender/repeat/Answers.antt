@@ -7,7 +7,7 @@ use Rattle.node_loop.proofs.Among.{among_all, among_front, hands_more, first_non
 use Rattle.node_loop.proofs.resender.Resender.repeat.Goals as goal
 
 pub loop-i-init : goal.loop-i-init
-loop-i-init g c = record { first = first_none _ (g.W.Wire.traffic c.args.wire.now); none = λ zero es h. h; latest = refl; kept = refl; requests = refl; same = refl }
+loop-i-init g c = record { first = first_none _ (g.W.Wire.traffic c.args.wire.now); none = λ zero es h. h; latest = refl; kept = refl; requests = refl; me = refl; members = refl; time = refl; same = refl }
 
 pub loop-i-preserved : goal.loop-i-preserved
 loop-i-preserved g c = record {
@@ -17,6 +17,9 @@ loop-i-preserved g c = record {
   latest = c.send.ensures.kept ∙ c.loop-i.invariant.latest;
   kept = ap (λ x. x ++ votes_in c.loop-i.self.votes) c.send.ensures.kept ∙ c.loop-i.invariant.kept;
   requests = c.send.ensures.request ∙ c.loop-i.invariant.requests;
+  me = c.loop-i.invariant.me;
+  members = c.loop-i.invariant.members;
+  time = c.loop-i.invariant.time;
   same = c.send.ensures.same ∙ c.loop-i.invariant.same;
 }
 
@@ -34,3 +37,9 @@ pub returns-clause-none : goal.returns-clause-none
 returns-clause-none g c less =
     let is : c.loop-i.i ≡ 0 = omega (arith, c.count-i-end.ensures.none less) in
     c.loop-i.invariant.none is
+
+pub returns-clause-of : goal.returns-clause-of
+returns-clause-of g c = (c.loop-i.invariant.me, c.loop-i.invariant.members)
+
+pub returns-clause-time : goal.returns-clause-time
+returns-clause-time g c = c.loop-i.invariant.time
