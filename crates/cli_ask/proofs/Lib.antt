@@ -6,3 +6,4 @@ pub mod Scripts
 pub mod Fronts
 pub mod Exchanges
 pub mod Misuse
+pub mod Begun

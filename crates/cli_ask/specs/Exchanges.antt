@@ -19,7 +19,7 @@ abbrev pub HasExchange : {D S : Type 0} → (is_refused : D → Type 0) → (is_
     (contents remaining : S → Option (List ℕ)) → Request → Answered → Type 0
 HasExchange is_refused is_new contents remaining r (Ok a) = IsPrinted is_new contents remaining r a
 HasExchange {D} is_refused is_new contents remaining r (Err f) =
-    IsUnanswered is_new ((now : D) × is_refused now) f
+    IsUnanswered is_new contents ((now : D) × is_refused now) r f
 
 -- the same of an event; of the clock, and of where requests are made, nothing is specified
 abbrev pub IsExchanged : {D S : Type 0} → (is_refused : D → Type 0) → (is_new : S → Type 0) →

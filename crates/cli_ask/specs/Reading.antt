@@ -10,7 +10,7 @@ abbrev pub IsRead : {S : Type 0} → (is_new : S → Type 0) → (contents remai
     (is_refused : Type 0) → (target : List ℕ) → Answered → Type 0
 IsRead is_new contents remaining is_refused target (Ok a) =
     (a.code ≡ 200) × IsAnswerTo is_new contents remaining (get target Read) a
-IsRead is_new contents remaining is_refused target (Err f) = IsUnanswered is_new is_refused f
+IsRead is_new contents remaining is_refused target (Err f) = IsUnanswered is_new contents is_refused (get target Read) f
 
 -- That is read at the control socket at a path, for which one connection is asked for at most.
 pub record ReadAt {D S : Type 0} (is_at : (path : List ℕ) → D → Type 0) (dialed : D → ℕ → Type 0)

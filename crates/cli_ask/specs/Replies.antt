@@ -103,12 +103,18 @@ IsAnswerTo {S} is_new contents remaining r a =
     (new : S) × (sent : S) × is_new new × IsSent (contents new) (contents sent) r a.code
     × IfSome (remaining sent) (λ bytes. IsAnswer bytes a)
 
--- Why a request has no answer: the connection for it wasn't made; or one was, and nothing came over it that answers the
--- request; or it was out of memory.
-abbrev pub IsUnanswered : {S : Type 0} → (is_new : S → Type 0) → (is_refused : Type 0) → AskFault → Type 0
-IsUnanswered is_new is_refused fault.Memory = Unit {0}
-IsUnanswered is_new is_refused fault.NoAnswer = is_refused
-IsUnanswered {S} is_new is_refused fault.BadAnswer = (new : S) × is_new new
+-- the bytes of a request were written, or a front of them, and nothing else
+abbrev pub IsBegun : (old new : Option (List ℕ)) → Request → Type 0
+IsBegun old new r = Appends old new (request_bytes r) ⊎ AppendsFront old new (request_bytes r)
+
+-- Why a request has no answer: the connection for it wasn't made; or one was, over which it was sent and nothing else,
+-- and nothing came that answers it; or it was out of memory.
+abbrev pub IsUnanswered : {S : Type 0} → (is_new : S → Type 0) → (contents : S → Option (List ℕ)) →
+    (is_refused : Type 0) → Request → AskFault → Type 0
+IsUnanswered is_new contents is_refused r fault.Memory = Unit {0}
+IsUnanswered is_new contents is_refused r fault.NoAnswer = is_refused
+IsUnanswered {S} is_new contents is_refused r fault.BadAnswer =
+    (new : S) × (sent : S) × is_new new × IsBegun (contents new) (contents sent) r
 
 -- they are none: no head, or one of more than 64 fields, or a body that isn't as long as its head gives
 abbrev pub IsNoAnswer : List ℕ → Type 0

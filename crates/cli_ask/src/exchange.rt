@@ -167,7 +167,8 @@ pub(crate) fn exchange<D: Dial>(
     ensures dialed { (n : ℕ) → D.dialed control.old n → D.dialed control.new n ⊎ D.dialed control.new (n + 1) }
     ensures answer { IfOk result (λ r. IsAnswerTo D.is_new D.Stream.contents D.Stream.remaining (call_value call.now)
         (reply_value r)) }
-    ensures none { IfErr result (IsUnanswered D.is_new (D.is_refused control.new)) }
+    ensures none { IfErr result (IsUnanswered D.is_new D.Stream.contents (D.is_refused control.new)
+        (call_value call.now)) }
 {
     let bytes = request_bytes(alloc, call)?;
     let Ok(mut stream) = control.dial(deadline) else {

@@ -1,4 +1,4 @@
-//! What a member receives, as bytes.
+//! What an event brings to a member: an ask, a tick, or a datagram's bytes.
 
 ghost use Rattle.std.specs.Prelude.{◌≡◌, ◌↔◌, IfSome, IfOk, None, length, true, false};
 ghost use Rattle.px_model.specs.Spelling.{Bytes};

@@ -1,4 +1,4 @@
-//! What happens in a lab.
+//! The events of a lab, as values.
 
 use pf_node::Command;
 use thiserror::Error;

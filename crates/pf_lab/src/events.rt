@@ -1,4 +1,4 @@
-//! An event of a script.
+//! An event of a script: it is done, and what came of it is printed.
 
 ghost use Rattle.std.specs.Prelude.{◌≡◌, ◌++◌, OnOk, string_bytes};
 ghost use Rattle.pf_lab.specs.Scripts as scripts;

@@ -1,4 +1,4 @@
-//! What one of the members receives.
+//! An event at one of the members, by its number.
 
 ghost use Rattle.std.specs.Prelude.{◌≡◌, ◌++◌, ◌<◌, ◌≤◌, ◌+◌, ◌↔◌, List, [], Some};
 ghost use Rattle.std.specs.Prelude.{length, OnOk, OnErr, Err};

@@ -1,4 +1,4 @@
-//! What happens to the world of a lab.
+//! A lab's steps: what each event does.
 
 ghost use Rattle.std.specs.Prelude.{◌≡◌, ◌≤◌, ◌<◌, IfOk, OnOk, OnErr, Err, true, false};
 ghost use Rattle.std.specs.List.{flat_map};

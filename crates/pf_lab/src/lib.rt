@@ -7,10 +7,13 @@
 //! - [`lab_script`]: what a script of events prints.
 //! - `specs/Labs` states which events of px_model's world these are, and when a lab is a world; `specs/Scripts` what a
 //!   script prints.
+//! - [`laws`]: what holds of every lab.
 //!
-//! Within: `numbers`, `asking` and `reading` read a script's line, `fault` is why one is refused, `bench` is the lab
-//! with what was delivered and shown, `events` makes events happen, `passes` delivers what waits, `printing`,
-//! `messages` and `shown` print, `stepping` does a line, `script` all of them.
+//! Within: `state` and `host` are the lab and one of its members; `event` has its events as values, which `lab_events`
+//! does: `coming` is what an event brings to a member, `hosts` finds the member, `running` makes the call of its node;
+//! `showing` and `ever` are what a lab shows. Of scripts, `numbers`, `asking` and `reading` read a line, `fault` is why
+//! one is refused, `bench` is the lab with what was delivered and shown, `events` does an event and prints what came of
+//! it, `passes` delivers what waits, `printing`, `messages` and `shown` print, `stepping` does a line, `script` all.
 //!
 //! # Why
 //!
@@ -56,7 +59,7 @@
 //! - **What was delivered is kept as a number below which all messages were, and a list of others.** A pass begins
 //!   at that number and leaves the list empty, so a lab that runs after each event costs nothing for the messages that
 //!   it has left behind.
-//! - `log` asks the positions up to 64 past the front, beyond which nothing is learned
+//! - `log` asks the positions up to 64 past the front (the least position not learned), beyond which nothing is learned
 //!   (`px_model::laws::in_reach`).
 //! - A message that doesn't decode has no line in `sent`. None is among a lab's, whose messages are spelled
 //!   (`IsWorld`).

@@ -1,4 +1,4 @@
-//! What a member of a lab receives.
+//! A call of a member's node for what an event brings, and its stop or restart.
 
 ghost use Rattle.std.specs.Prelude.{◌≡◌, ◌≤◌, ℕ, [], length, false, Err, IfOk, OnOk, OnErr, true};
 ghost use Rattle.px_model.specs.Entries.{view_of};

@@ -1,5 +1,5 @@
 -- The subcommand that a parse entered, and its packets.
-use Rattle.std.proofs.Common.{◌≡◌, ℕ, true, List, Option, Some, None, [], ◌∷◌, inl, inr, refl, subst, sym, ◌⊎◌, codes}
+use Rattle.std.proofs.Common.{◌≡◌, ℕ, true, false, List, Option, Some, None, [], ◌∷◌, inl, inr, refl, subst, sym, ◌⊎◌, codes}
 use Rattle.std.specs.Prelude.{option_map}
 use Rattle.clap.specs.Words.{Row, Text, subcommand_rows_of, subcommand_rows, subcommand_name_of}
 use Rattle.clap.specs.declared.parser.matches.ArgMatches.{ArgMatches}
@@ -13,7 +13,7 @@ use Rattle.cli_io.specs.declared.status.Status.{Status}
 use Rattle.cli_io.specs.declared.status.Status.TheVariants as status
 use Rattle.std.specs.Io.KnownBytes.{Appends}
 use Rattle.cli_io.specs.Written.{IsMisused, AppendsFront, line}
-use Rattle.pf_tool.specs.Options.{pfx_app, CallValue, called, unless_faulty, call_of}
+use Rattle.pf_tool.specs.Options.{pfx_app, CallValue, called, unless_faulty, call_of, names_other}
 use Rattle.cli_io.specs.declared.paragraph.Explanation.{Explanation}
 use Rattle.pf_tool.specs.Tool.{Ran}
 
@@ -41,60 +41,66 @@ pub none_entered : (m : ArgMatches) → subcommand_name_of m ≡ None → subcom
 none_entered m e = none_both _ (out-ArgMatches m).subcommand _ _ e
 
 -- a parse that passes gives what is called
-pub call_entered : (table : List Explanation) (arguments : List Text) (m : ArgMatches) → fault_of pfx_app arguments ≡ [] → subcommand_rows_of m ≡ subcommand_of pfx_app arguments
-    → call_of table arguments ≡ called table (subcommand_rows_of m)
+pub call_entered : (table : List Explanation) (arguments : List Text) (m : ArgMatches) → names_other arguments ≡ false → fault_of pfx_app arguments ≡ []
+    → subcommand_rows_of m ≡ subcommand_of pfx_app arguments → call_of table arguments ≡ called table (subcommand_rows_of m)
 unfolding call_of
-call_entered table arguments m e f = rw (e, f) refl
+call_entered table arguments m o e f = rw (o, e, f) refl
 
 -- a front of `memory` was written
 abbrev MemoryFront : (old new : Option (List ℕ)) → Type 0
 MemoryFront old new = AppendsFront old new (line (codes "memory"))
 
 -- when out of memory or something failed, nothing hangs on what was called
-unhindered : (table : List Explanation) (s : Status) (call : Option CallValue) (input old new : Option (List ℕ)) → IsMisused s old new → (s ≡ status.Usage → ⊥) → (s ≡ status.Failed → MemoryFront old new) → Ran table s call input old new
-unhindered table status.Memory call input old new h k f = h
-unhindered table status.Failed None input old new h k f = tt
-unhindered table status.Failed (Some call) input old new h k f = inl (f refl)
-unhindered table status.Done call input old new h k f = absurd h
-unhindered table status.Refused call input old new h k f = absurd h
-unhindered table status.Usage call input old new h k f = absurd (k refl)
+unhindered : (has : Text → Text → Type 0) (table : List Explanation) (s : Status) (call : Option CallValue) (input old new : Option (List ℕ)) → IsMisused s old new → (s ≡ status.Usage → ⊥) → (s ≡ status.Failed → MemoryFront old new) → Ran has table s call input old new
+unhindered has table status.Memory call input old new h k f = h
+unhindered has table status.Failed None input old new h k f = tt
+unhindered has table status.Failed (Some call) input old new h k f = inl (f refl)
+unhindered has table status.Done call input old new h k f = absurd h
+unhindered has table status.Refused call input old new h k f = absurd h
+unhindered has table status.Usage call input old new h k f = absurd (k refl)
 
-misused_over : (table : List Explanation) (s : Status) (input old new : Option (List ℕ)) → IsMisused s old new → Ran table s None input old new
-misused_over table status.Memory input old new h = h
-misused_over table status.Failed input old new h = tt
-misused_over table status.Done input old new h = absurd h
-misused_over table status.Refused input old new h = absurd h
-misused_over table status.Usage input old new h = refl
+misused_over : (has : Text → Text → Type 0) (table : List Explanation) (s : Status) (input old new : Option (List ℕ)) → IsMisused s old new → Ran has table s None input old new
+misused_over has table status.Memory input old new h = h
+misused_over has table status.Failed input old new h = tt
+misused_over has table status.Done input old new h = absurd h
+misused_over has table status.Refused input old new h = absurd h
+misused_over has table status.Usage input old new h = refl
 
-refused_by : (table : List Explanation) (s : Status) (kinds : Kinds) (call : Option CallValue) (e : Error) (input old new : Option (List ℕ)) → IsMisused s old new → HasKind kinds e
-    → (kind_of e ≡ OutOfMemory → s ≡ status.Usage → ⊥) → (kind_of e ≡ OutOfMemory → s ≡ status.Failed → MemoryFront old new) → Ran table s (unless_faulty kinds call) input old new
-refused_by table s [] call e input old new h k none failed = elim k as (λ _. Ran table s call input old new) [ inl m ↦ unhindered table s call input old new h (none m) (failed m) | inr bad ↦ absurd bad ]
-refused_by table s (x ∷ xs) call e input old new h k none failed = misused_over table s input old new h
+refused_by : (has : Text → Text → Type 0) (table : List Explanation) (s : Status) (kinds : Kinds) (call : Option CallValue) (e : Error) (input old new : Option (List ℕ)) → IsMisused s old new → HasKind kinds e
+    → (kind_of e ≡ OutOfMemory → s ≡ status.Usage → ⊥) → (kind_of e ≡ OutOfMemory → s ≡ status.Failed → MemoryFront old new) → Ran has table s (unless_faulty kinds call) input old new
+refused_by has table s [] call e input old new h k none failed = elim k as (λ _. Ran has table s call input old new) [ inl m ↦ unhindered has table s call input old new h (none m) (failed m) | inr bad ↦ absurd bad ]
+refused_by has table s (x ∷ xs) call e input old new h k none failed = misused_over has table s input old new h
 
 -- a parse that is refused
-pub call_refused : (table : List Explanation) (s : Status) (arguments : List Text) (e : Error) (input old new : Option (List ℕ)) → IsMisused s old new
-    → HasKind (fault_of pfx_app arguments) e → (kind_of e ≡ OutOfMemory → s ≡ status.Usage → ⊥) → (kind_of e ≡ OutOfMemory → s ≡ status.Failed → MemoryFront old new)
-    → Ran table s (call_of table arguments) input old new
+pub call_refused : (has : Text → Text → Type 0) (table : List Explanation) (s : Status) (arguments : List Text) (e : Error) (input old new : Option (List ℕ)) → IsMisused s old new
+    → names_other arguments ≡ false → HasKind (fault_of pfx_app arguments) e → (kind_of e ≡ OutOfMemory → s ≡ status.Usage → ⊥)
+    → (kind_of e ≡ OutOfMemory → s ≡ status.Failed → MemoryFront old new) → Ran has table s (call_of table arguments) input old new
 unfolding call_of
-call_refused table s arguments e input old new h k none failed = refused_by table s (fault_of pfx_app arguments) _ e input old new h k none failed
+call_refused has table s arguments e input old new h o k none failed = rw o (refused_by has table s (fault_of pfx_app arguments) _ e input old new h k none failed)
+
+-- the subcommand is another crate's
+pub other_over : (has : Text → Text → Type 0) (table : List Explanation) (arguments : List Text) (input old new : Option (List ℕ)) → names_other arguments ≡ true
+    → Ran has table status.Usage (call_of table arguments) input old new
+unfolding call_of
+other_over has table arguments input old new o = rw o refl
 
 -- out of memory
-pub memory_over : (table : List Explanation) (s : Status) (call : Option CallValue) (input old new : Option (List ℕ)) →
-    (s ≡ status.Failed) ⊎ ((s ≡ status.Memory) × Appends old new (line (codes "memory"))) → (s ≡ status.Failed → MemoryFront old new) → Ran table s call input old new
-memory_over table s None input old new h f = elim h [
-  | inl e ↦ subst (λ r. Ran table r None input old new) (sym e) tt
-  | inr both ↦ subst (λ r. Ran table r None input old new) (sym both.0) both.1
+pub memory_over : (has : Text → Text → Type 0) (table : List Explanation) (s : Status) (call : Option CallValue) (input old new : Option (List ℕ)) →
+    (s ≡ status.Failed) ⊎ ((s ≡ status.Memory) × Appends old new (line (codes "memory"))) → (s ≡ status.Failed → MemoryFront old new) → Ran has table s call input old new
+memory_over has table s None input old new h f = elim h [
+  | inl e ↦ subst (λ r. Ran has table r None input old new) (sym e) tt
+  | inr both ↦ subst (λ r. Ran has table r None input old new) (sym both.0) both.1
 ]
-memory_over table s (Some call) input old new h f = elim h [
-  | inl e ↦ subst (λ r. Ran table r (Some call) input old new) (sym e) (inl (f e))
-  | inr both ↦ subst (λ r. Ran table r (Some call) input old new) (sym both.0) both.1
+memory_over has table s (Some call) input old new h f = elim h [
+  | inl e ↦ subst (λ r. Ran has table r (Some call) input old new) (sym e) (inl (f e))
+  | inr both ↦ subst (λ r. Ran has table r (Some call) input old new) (sym both.0) both.1
 ]
 
 -- what is printed for arguments that ask for nothing
-pub misnamed_over : (table : List Explanation) (s : Status) (input old new : Option (List ℕ)) → (s ≡ status.Usage) ⊎ (s ≡ status.Failed) → Ran table s None input old new
-misnamed_over table s input old new h = elim h [
-  | inl e ↦ subst (λ r. Ran table r None input old new) (sym e) refl
-  | inr e ↦ subst (λ r. Ran table r None input old new) (sym e) tt
+pub misnamed_over : (has : Text → Text → Type 0) (table : List Explanation) (s : Status) (input old new : Option (List ℕ)) → (s ≡ status.Usage) ⊎ (s ≡ status.Failed) → Ran has table s None input old new
+misnamed_over has table s input old new h = elim h [
+  | inl e ↦ subst (λ r. Ran has table r None input old new) (sym e) refl
+  | inr e ↦ subst (λ r. Ran has table r None input old new) (sym e) tt
 ]
 
 -- ---- what clap says of a command that is the program's

@@ -1,5 +1,5 @@
 -- The command-line arguments of the program, and what they ask for.
-use Rattle.std.specs.Prelude.{ℕ, Bool, true, false, List, [], ◌∷◌, Option, Some, None}
+use Rattle.std.specs.Prelude.{ℕ, Bool, true, false, ◌||◌, List, [], ◌∷◌, Option, Some, None}
 use Rattle.std.specs.Prelude.{codes, bytes_eq, option_map, unwrap_or, if◌then◌else◌}
 use Rattle.clap.specs.Words.{App, Row, Rule, Text, new_app, new_rule, with_rule, with_subcommand, subcommand_of, all_of}
 use Rattle.clap.specs.Words.{first_of}
@@ -162,11 +162,25 @@ abbrev pub called : List Explanation → Option (Text × List Row) → Option Ca
 called table None = None
 called table (Some (subcommand, rows)) = called_by table subcommand rows
 
+-- a subcommand whose options are another crate's
+abbrev pub is_other : (subcommand : Text) → Bool
+is_other subcommand = bytes_eq subcommand (codes "node") || bytes_eq subcommand (codes "ask")
+    || bytes_eq subcommand (codes "key") || bytes_eq subcommand (codes "show")
+    || bytes_eq subcommand (codes "follow") || bytes_eq subcommand (codes "batch")
+
+-- the arguments, the program's name first, begin with such a subcommand, whatever follows it
+-- Example: pfx node --me 0.
+unfoldable pub names_other : (arguments : List Text) → Bool
+names_other [] = false
+names_other (name ∷ []) = false
+names_other (name ∷ subcommand ∷ rest) = is_other subcommand
+
 -- a call, and none where the arguments have a fault
 abbrev pub unless_faulty : Kinds → Option CallValue → Option CallValue
 unless_faulty [] call = call
 unless_faulty (k ∷ ks) call = None
 
--- what the arguments after the program's name ask for, none where they aren't understood
+-- what the arguments after the program's name ask for, none where they aren't understood or are another crate's
 unfoldable pub call_of : List Explanation → List Text → Option CallValue
-call_of table arguments = unless_faulty (fault_of pfx_app arguments) (called table (subcommand_of pfx_app arguments))
+call_of table arguments = if names_other arguments then None
+    else unless_faulty (fault_of pfx_app arguments) (called table (subcommand_of pfx_app arguments))

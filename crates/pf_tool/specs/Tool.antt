@@ -1,7 +1,7 @@
 -- What the program writes.
 use Rattle.std.specs.Prelude.{◌≡◌, ◌⊎◌, ℕ, Bool, true, false, List, [], ◌∷◌, ◌++◌, Option, Some, None}
 use Rattle.std.specs.Prelude.{Result, Ok, Err}
-use Rattle.std.specs.Prelude.{IfSome, codes, decimal, length, map, if◌then◌else◌}
+use Rattle.std.specs.Prelude.{IfSome, codes, decimal, map, if◌then◌else◌}
 use Rattle.std.specs.List.{flat_map, list_any}
 use Rattle.std.specs.Io.KnownBytes.{Appends}
 use Rattle.clap.specs.Words.{Text}
@@ -23,6 +23,7 @@ use Rattle.pf_scripts.specs.Ctl.{printed}
 use Rattle.pf_lab.specs.Scripts as lab
 use Rattle.cli_io.specs.declared.paragraph.Explanation.{Explanation}
 use Rattle.cli_io.specs.Explained.{paragraph, paragraphs}
+use Rattle.cli_io.specs.Sources.{IsAt}
 use Rattle.pf_tool.specs.declared.output.Ending.{Ending}
 use Rattle.pf_tool.specs.declared.output.Ending.TheVariants.{Done, Refused}
 use Rattle.pf_tool.specs.Options.{CallValue, Test, Check, Ctl, Lab, Explain, CheckFiles, TestFiles}
@@ -134,36 +135,52 @@ abbrev pub quieted : Bool → Written → Written
 quieted true w = record { text = []; ending = w.ending }
 quieted false w = w
 
--- the rulesets of files, whatever they hold; without files that of the input
-abbrev pub AreTexts : List Text → List (Option (List ℕ)) → List ℕ → Type 0
-AreTexts [] texts input = texts ≡ Some input ∷ []
-AreTexts (file ∷ files) texts input = length texts ≡ length (file ∷ files)
+-- these are the contents of the files at these paths, in order; none of a file that can't be read
+abbrev pub AreAt : (has : (path text : Text) → Type 0) → (files : List Text) → List (Option (List ℕ)) → Type 0
+AreAt has [] [] = Unit {0}
+AreAt has [] (text ∷ texts) = ⊥
+AreAt has (file ∷ files) [] = ⊥
+AreAt has (file ∷ files) (text ∷ texts) = IsAt has (Some file) text × AreAt has files texts
+
+-- the rulesets of files; without files that of the input
+abbrev pub AreTexts : (has : (path text : Text) → Type 0) → (files : List Text) → List (Option (List ℕ)) → List ℕ →
+    Type 0
+AreTexts has [] texts input = texts ≡ Some input ∷ []
+AreTexts has (file ∷ files) texts input = AreAt has (file ∷ files) texts
 
 -- check of files, or of the input
-abbrev pub AreChecked : Place → Bool → List Text → List ℕ → Written → Type 0
-AreChecked place quiet files input w = (texts : List (Option (List ℕ))) × AreTexts files texts input
+abbrev pub AreChecked : (has : (path text : Text) → Type 0) → Place → Bool → (files : List Text) → List ℕ → Written →
+    Type 0
+AreChecked has place quiet files input w = (texts : List (Option (List ℕ))) × AreTexts has files texts input
     × (w ≡ quieted quiet (checked_texts place texts))
 
--- the rules of a file, whatever it holds; without a file those of the input
-abbrev pub AreRules : Option Text → Option (List ℕ) → List ℕ → Type 0
-AreRules (Some file) rules input = Unit {0}
-AreRules None rules input = rules ≡ Some input
+-- the rules of a file; without a file those of the input
+abbrev pub AreRules : (has : (path text : Text) → Type 0) → (file : Option Text) → Option (List ℕ) → List ℕ → Type 0
+AreRules has (Some file) rules input = IsAt has (Some file) rules
+AreRules has None rules input = rules ≡ Some input
 
--- the packets of a file, whatever it holds; without a file and arguments those of the input
-abbrev pub AreLines : Option Text → List Text → Option (List ℕ) → List ℕ → Type 0
-AreLines (Some more) packets bytes input = Unit {0}
-AreLines None [] bytes input = bytes ≡ Some input
-AreLines None (packet ∷ packets) bytes input = bytes ≡ Some []
+-- the packets of the input, none where arguments are packets
+abbrev pub AreInputLines : (packets : List Text) → Option (List ℕ) → List ℕ → Type 0
+AreInputLines [] bytes input = bytes ≡ Some input
+AreInputLines (packet ∷ packets) bytes input = bytes ≡ Some []
+
+-- the packets of a file; without a file those of the input
+abbrev pub AreLines : (has : (path text : Text) → Type 0) → (file : Option Text) → (packets : List Text) →
+    Option (List ℕ) → List ℕ → Type 0
+AreLines has (Some file) packets bytes input = IsAt has (Some file) bytes
+AreLines has None packets bytes input = AreInputLines packets bytes input
 
 -- test under these rules, of packets given as arguments and after them in lines
-abbrev pub IsTested : Option Text → Bool → List Text → Option (List ℕ) → List ℕ → Written → Type 0
-IsTested more quiet packets rules input w = (bytes : Option (List ℕ)) × AreLines more packets bytes input
+abbrev pub IsTested : (has : (path text : Text) → Type 0) → (more : Option Text) → Bool → List Text →
+    Option (List ℕ) → List ℕ → Written → Type 0
+IsTested has more quiet packets rules input w = (bytes : Option (List ℕ)) × AreLines has more packets bytes input
     × (w ≡ quieted quiet (tested_texts packets rules bytes))
 
 -- test under the rules of a file, or of the input
-abbrev pub AreTested : (file more : Option Text) → Bool → List Text → List ℕ → Written → Type 0
-AreTested file more quiet packets input w =
-    (rules : Option (List ℕ)) × AreRules file rules input × IsTested more quiet packets rules input w
+abbrev pub AreTested : (has : (path text : Text) → Type 0) → (file more : Option Text) → Bool → List Text → List ℕ →
+    Written → Type 0
+AreTested has file more quiet packets input w =
+    (rules : Option (List ℕ)) × AreRules has file rules input × IsTested has more quiet packets rules input w
 
 -- ---- refusals
 
@@ -179,32 +196,33 @@ abbrev pub status_of : Ending → Status
 status_of Done = status.Done
 status_of Refused = status.Refused
 
--- what is asked for, over this input, with this table of refusals
-abbrev pub IsAnswer : List Explanation → CallValue → List ℕ → Written → Type 0
-IsAnswer table (Test packets) input w = w ≡ test_output packets input
-IsAnswer table (Check place) input w = w ≡ check_output place input
-IsAnswer table Ctl input w = w ≡ record { text = printed input; ending = Done }
-IsAnswer table Lab input w = w ≡ record { text = lab.printed input; ending = Done }
-IsAnswer table (Explain refusal) input w = w ≡ explained table refusal
-IsAnswer table (CheckFiles place quiet files) input w = AreChecked place quiet files input w
-IsAnswer table (TestFiles file more quiet packets) input w = AreTested file more quiet packets input w
+-- what is asked for, over what files have and over this input, with this table of refusals
+abbrev pub IsAnswer : (has : (path text : Text) → Type 0) → List Explanation → CallValue → List ℕ → Written → Type 0
+IsAnswer has table (Test packets) input w = w ≡ test_output packets input
+IsAnswer has table (Check place) input w = w ≡ check_output place input
+IsAnswer has table Ctl input w = w ≡ record { text = printed input; ending = Done }
+IsAnswer has table Lab input w = w ≡ record { text = lab.printed input; ending = Done }
+IsAnswer has table (Explain refusal) input w = w ≡ explained table refusal
+IsAnswer has table (CheckFiles place quiet files) input w = AreChecked has place quiet files input w
+IsAnswer has table (TestFiles file more quiet packets) input w = AreTested has file more quiet packets input w
 
 -- the text is put behind what was written before, and the run ends as the text does
 abbrev pub Writes : Option (List ℕ) → Option (List ℕ) → Status → Written → Type 0
 Writes old new ending written = Appends old new written.text × (ending ≡ status_of written.ending)
 
 -- what a run of a call may have written that failed: a front of its answer, or of `memory`; nothing is one of either
-abbrev pub WroteFront : List Explanation → CallValue → (input old new : Option (List ℕ)) → Type 0
-WroteFront table call input old new = AppendsFront old new (line (codes "memory"))
-    ⊎ IfSome input (λ bytes. (w : Written) × IsAnswer table call bytes w × AppendsFront old new w.text)
+abbrev pub WroteFront : (has : (path text : Text) → Type 0) → List Explanation → CallValue →
+    (input old new : Option (List ℕ)) → Type 0
+WroteFront has table call input old new = AppendsFront old new (line (codes "memory"))
+    ⊎ IfSome input (λ bytes. (w : Written) × IsAnswer has table call bytes w × AppendsFront old new w.text)
 
--- What a run that ended so has done, over this input. Out of memory it wrote that alone; the text for arguments that
--- aren't understood isn't specified.
-abbrev pub Ran : List Explanation → Status → Option CallValue → Option (List ℕ) → Option (List ℕ) →
-    Option (List ℕ) → Type 0
-Ran table status.Memory call input old new = Appends old new (line (codes "memory"))
-Ran table status.Failed None input old new = Unit {0}
-Ran table status.Failed (Some call) input old new = WroteFront table call input old new
-Ran table ending (Some call) input old new =
-    IfSome input (λ bytes. (w : Written) × IsAnswer table call bytes w × Writes old new ending w)
-Ran table ending None input old new = ending ≡ status.Usage
+-- What a run that ended so has done, over what files have and over this input. Out of memory it wrote that alone; the
+-- text for arguments that aren't understood isn't specified.
+abbrev pub Ran : (has : (path text : Text) → Type 0) → List Explanation → Status → Option CallValue →
+    Option (List ℕ) → Option (List ℕ) → Option (List ℕ) → Type 0
+Ran has table status.Memory call input old new = Appends old new (line (codes "memory"))
+Ran has table status.Failed None input old new = Unit {0}
+Ran has table status.Failed (Some call) input old new = WroteFront has table call input old new
+Ran has table ending (Some call) input old new =
+    IfSome input (λ bytes. (w : Written) × IsAnswer has table call bytes w × Writes old new ending w)
+Ran has table ending None input old new = ending ≡ status.Usage

@@ -1,13 +1,14 @@
 //! What a call writes over the input and over files.
 
-ghost use Rattle.std.specs.Prelude.{◌≡◌, ◌∷◌, [], Some, None, IfOk, IfSome, map};
+ghost use Rattle.std.specs.Prelude.{◌≡◌, ◌∷◌, ◌++◌, [], Some, None, IfOk, IfSome, OnOk, map, string_bytes};
 ghost use Rattle.std.specs.Option.{option_copied};
 ghost use Rattle.pf_scripts.specs.Ctl.{printed};
 ghost use Rattle.pf_lab.specs.Scripts as lab;
 ghost use Rattle.pf_tool.specs.declared.output.Ending.TheVariants as ending;
-ghost use Rattle.pf_tool.specs.Tool.{IsAnswer, IsTested, AreChecked, AreTested, AreLines};
+ghost use Rattle.pf_tool.specs.Tool.{IsAnswer, IsTested, AreChecked, AreTested, AreInputLines};
 ghost use Rattle.pf_tool.specs.Tool.{test_output, check_output, checked_texts, tested_texts, quieted};
 ghost use Rattle.pf_tool.specs.inner.Calls.{asked};
+ghost use Rattle.pf_tool.specs.inner.Deciding.{decided_texts};
 ghost use Rattle.pf_tool.specs.inner.Output.{written};
 ghost use Rattle.pf_tool.specs.inner.Sources.{text_in};
 
@@ -21,7 +22,7 @@ use crate::remarks::Remarks;
 use crate::scripts::{lab_output, script_output};
 use crate::source::{Source, source_at, sources_at};
 use crate::testing::{test_output, tested_texts};
-use cli_io::{Explanation, InputFault, read_all};
+use cli_io::{Explanation, InputFault, Sources, read_all};
 use pf_grammar::Place;
 use std::alloc::{AllocError, AllocFailed, Global};
 use std::io::Read;
@@ -145,8 +146,9 @@ fn input_source<R: Read>(alloc: Global, reader: &mut R) -> Result<Vec<Source<'st
 }
 
 /// `check FILE..`, or `check` of the input.
-fn check_files<R: Read>(
-    rt: &HostRuntime,
+fn check_files<T: Sources, R: Read>(
+    sources: &T,
+    alloc: Global,
     place: Place,
     quiet: bool,
     files: &[&str],
@@ -154,17 +156,16 @@ fn check_files<R: Read>(
     remarks: &mut Remarks<'_>,
 ) -> Result<Output, RunFault>
     ensures { IfOk result (λ o. IfSome (R.remaining reader.old)
-        (λ input. AreChecked place quiet (map (λ f. f.now) files.now) input (written o))) }
+        (λ input. AreChecked (T.has sources.now) place quiet (map (λ f. f.now) files.now) input (written o))) }
 {
-    let alloc = rt.alloc();
     match files {
         [] => {
-            let sources = input_source(alloc, reader)?;
-            Ok(check_sources(alloc, place, quiet, &sources, remarks)?)
+            let texts = input_source(alloc, reader)?;
+            Ok(check_sources(alloc, place, quiet, &texts, remarks)?)
         }
         [_, ..] => {
-            let sources = sources_at(rt, alloc, files)?;
-            Ok(check_sources(alloc, place, quiet, &sources, remarks)?)
+            let texts = sources_at(sources, alloc, files)?;
+            Ok(check_sources(alloc, place, quiet, &texts, remarks)?)
         }
     }
 }
@@ -176,11 +177,17 @@ fn report_decided(
     rules: Option<&[u8]>,
     lines: Option<&[u8]>,
     remarks: &mut Remarks<'_>,
-) -> Result<(), AllocError> {
-    let (Some(text), Some(lines)) = (rules, lines) else {
+) -> Result<(), AllocError>
+    ensures { OnOk result (string_bytes remarks.new.text ≡ string_bytes remarks.old.text
+        ++ decided_texts (map (λ p. p.now) packets.now) (option_copied rules.entry) (option_copied lines.entry)) }
+{
+    let Some(text) = rules else {
         return Ok(());
     };
-    match packet_texts(alloc, lines)? {
+    let Some(bytes) = lines else {
+        return Ok(());
+    };
+    match packet_texts(alloc, bytes)? {
         Some(more) => {
             let mut all = Vec::new(alloc);
             all.extend_from_slice(packets)?;
@@ -228,7 +235,7 @@ fn input_lines<R: Read>(
     reader: &mut R,
 ) -> Result<Source<'static>, RunFault>
     ensures { IfOk result (λ s. IfSome (R.remaining reader.old)
-        (λ input. AreLines None (map (λ p. p.now) packets.now) (text_in s) input)) }
+        (λ input. AreInputLines (map (λ p. p.now) packets.now) (text_in s) input)) }
 {
     let text = match packets {
         [] => input_of(alloc, reader)?,
@@ -241,8 +248,9 @@ fn input_lines<R: Read>(
 }
 
 /// `test` under these rules: without a file of packets and without arguments, the packets are the input's lines.
-fn test_under<R: Read>(
-    rt: &HostRuntime,
+fn test_under<T: Sources, R: Read>(
+    sources: &T,
+    alloc: Global,
     quiet: bool,
     packets: &[&str],
     rules: &Source<'_>,
@@ -250,13 +258,12 @@ fn test_under<R: Read>(
     reader: &mut R,
     remarks: &mut Remarks<'_>,
 ) -> Result<Output, RunFault>
-    ensures { IfOk result (λ o. IfSome (R.remaining reader.old) (λ input. IsTested (option_copied more.entry) quiet
-        (map (λ p. p.now) packets.now) (text_in rules.now) input (written o))) }
+    ensures { IfOk result (λ o. IfSome (R.remaining reader.old) (λ input. IsTested (T.has sources.now)
+        (option_copied more.entry) quiet (map (λ p. p.now) packets.now) (text_in rules.now) input (written o))) }
 {
-    let alloc = rt.alloc();
     match more {
         Some(path) => {
-            let lines = source_at(rt, alloc, path)?;
+            let lines = source_at(sources, alloc, path)?;
             Ok(test_sources(alloc, quiet, packets, rules, &lines, remarks)?)
         }
         None => {
@@ -267,8 +274,9 @@ fn test_under<R: Read>(
 }
 
 /// `test -f FILE`
-fn test_file<R: Read>(
-    rt: &HostRuntime,
+fn test_file<T: Sources, R: Read>(
+    sources: &T,
+    alloc: Global,
     quiet: bool,
     packets: &[&str],
     file: &str,
@@ -276,27 +284,29 @@ fn test_file<R: Read>(
     reader: &mut R,
     remarks: &mut Remarks<'_>,
 ) -> Result<Output, RunFault>
-    ensures { IfOk result (λ o. IfSome (R.remaining reader.old) (λ input. AreTested (Some file.now)
-        (option_copied more.entry) quiet (map (λ p. p.now) packets.now) input (written o))) }
+    ensures { IfOk result (λ o. IfSome (R.remaining reader.old) (λ input. AreTested (T.has sources.now)
+        (Some file.now) (option_copied more.entry) quiet (map (λ p. p.now) packets.now) input (written o))) }
 {
-    let rules = source_at(rt, rt.alloc(), file)?;
-    test_under(rt, quiet, packets, &rules, more, reader, remarks)
+    let rules = source_at(sources, alloc, file)?;
+    test_under(
+        sources, alloc, quiet, packets, &rules, more, reader, remarks,
+    )
 }
 
 /// `test` under the input's rules, for packets given as arguments and in a file. Without either the input would be both
 /// rules and packets: no arguments ask for that.
-fn test_files<R: Read>(
-    rt: &HostRuntime,
+fn test_files<T: Sources, R: Read>(
+    sources: &T,
+    alloc: Global,
     quiet: bool,
     packets: &[&str],
     more: Option<&str>,
     reader: &mut R,
     remarks: &mut Remarks<'_>,
 ) -> Result<Output, RunFault>
-    ensures { IfOk result (λ o. IfSome (R.remaining reader.old) (λ input. AreTested None
+    ensures { IfOk result (λ o. IfSome (R.remaining reader.old) (λ input. AreTested (T.has sources.now) None
         (option_copied more.entry) quiet (map (λ p. p.now) packets.now) input (written o))) }
 {
-    let alloc = rt.alloc();
     let input = input_of(alloc, reader)?;
     let rules = Source {
         name: "stdin",
@@ -304,7 +314,7 @@ fn test_files<R: Read>(
     };
     match more {
         Some(path) => {
-            let lines = source_at(rt, alloc, path)?;
+            let lines = source_at(sources, alloc, path)?;
             Ok(test_sources(alloc, quiet, packets, &rules, &lines, remarks)?)
         }
         None => match packets {
@@ -321,17 +331,17 @@ fn test_files<R: Read>(
 }
 
 /// What a call writes over the input and over files.
-pub(crate) fn output_for<R: Read>(
-    rt: &HostRuntime,
+pub(crate) fn output_for<T: Sources, R: Read>(
+    sources: &T,
+    alloc: Global,
     table: &[Explanation],
     call: Call<'_, '_>,
     reader: &mut R,
     remarks: &mut Remarks<'_>,
 ) -> Result<Output, RunFault>
     ensures { IfOk result (λ o. IfSome (R.remaining reader.old)
-        (λ input. IsAnswer table.now (asked call.entry) input (written o))) }
+        (λ input. IsAnswer (T.has sources.now) table.now (asked call.entry) input (written o))) }
 {
-    let alloc = rt.alloc();
     match call {
         Call::Test(packets) => test_input(alloc, packets, reader, remarks),
         Call::Check(place) => check_input(alloc, place, reader, remarks),
@@ -342,15 +352,15 @@ pub(crate) fn output_for<R: Read>(
             place,
             quiet,
             files,
-        } => check_files(rt, place, quiet, files, reader, remarks),
+        } => check_files(sources, alloc, place, quiet, files, reader, remarks),
         Call::TestFiles {
             file,
             more,
             quiet,
             packets,
         } => match file {
-            Some(file) => test_file(rt, quiet, packets, file, more, reader, remarks),
-            None => test_files(rt, quiet, packets, more, reader, remarks),
+            Some(file) => test_file(sources, alloc, quiet, packets, file, more, reader, remarks),
+            None => test_files(sources, alloc, quiet, packets, more, reader, remarks),
         },
     }
 }

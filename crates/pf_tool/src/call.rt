@@ -4,12 +4,13 @@ ghost use Rattle.std.specs.Prelude.{◌≡◌, Some, map, option_map};
 ghost use Rattle.std.specs.Option.{option_copied};
 ghost use Rattle.clap.specs.Words.{found_of, rows_of, first_of, subcommand_rows_of};
 ghost use Rattle.pf_tool.specs.Options.{place_for, is_given, check_call, test_call, packets_call, explain_as};
-ghost use Rattle.pf_tool.specs.Options.{called_by, called};
+ghost use Rattle.pf_tool.specs.Options.{called_by, called, is_other, names_other};
 ghost use Rattle.pf_tool.specs.inner.Calls.{asked};
 
 use clap::ArgMatches;
 use cli_io::{Explanation, named, values_in};
 use pf_grammar::Place;
+use std::convert::AsStr;
 
 /// What the arguments ask for.
 #[derive(Clone, Copy)]
@@ -207,6 +208,27 @@ pub(crate) fn misnamed(matches: &ArgMatches<'_>) -> &'static str {
         Some("test") =>
             "error: no packet is given\n\nFor more information, try 'pfx test --help'.\n",
         Some("explain") => "error: no refusal has this number; pfx explain shows all\n",
-        _ => "error: this subcommand must come directly after pfx\n",
+        _ => "",
+    }
+}
+
+/// Whether a subcommand's options are another crate's.
+fn is_other(subcommand: &str) -> bool
+    ensures { result ≡ is_other subcommand.now }
+{
+    matches!(
+        subcommand,
+        "node" | "ask" | "key" | "show" | "follow" | "batch"
+    )
+}
+
+/// Whether the arguments, the program's name first, begin with such a subcommand.
+#[tactic(auto, unfolding(crate::specs::Options::names_other))]
+pub(crate) fn names_other<S: AsStr>(arguments: &[S]) -> bool
+    ensures { result ≡ names_other (map S.text arguments.now) }
+{
+    match arguments {
+        [_, subcommand, ..] => is_other(subcommand.as_str()),
+        _ => false,
     }
 }

@@ -27,9 +27,9 @@
 //! - **`run` is lent the table of refusals**, and so are the calls of cli_io. A clause can't name a constant
 //!   that is a list of structs, and a copy of the table among the definitions would be a second table. So what is
 //!   promised of `explain` holds for whatever table is lent, and `main` lends the one that there is.
-//! - **No contract states what files hold**, so the clauses on files state that there are such rulesets. Names of files
-//!   are UTF-8 arguments. A file is read whole before anything is written; `-` doesn't name standard input,
-//!   `/dev/stdin` does.
+//! - **A clause names the path of each file that is read**, and what a file has is what `cli_io::Sources` says of its
+//!   path; of the system's files that is that some file has it. Names of files are UTF-8 arguments. A file is read
+//!   whole before anything is written; `-` doesn't name standard input, `/dev/stdin` does.
 //! - **`check FILE..` goes on behind a refused file**, as compilers do, and shows by the status that one was; so a
 //!   script sees all that is wrong. The message on standard error names the file.
 //! - **The messages on standard error are made from what is printed**: a line `refused CODE` gives its message. So they
@@ -50,14 +50,6 @@
 //! - **Rows are data** (pfx, by `batch`): rulesets, arguments, exact output and status are in tables that a program
 //!   goes through when the gate runs it, since rows as tests are proved code, and are paid for at each check. A row
 //!   that doesn't match ends the program with a status that its stored run doesn't have.
-//! - **The rows of `pfx` are its stored run**, by `pfx batch`, so that both compilers run them on the program that
-//!   ships, and no second program links what it links. A program has one stored run; `a_quick_pass_after_a_block`
-//!   alone is that of first_verdict, and one of the rows.
-//! - **`batch` goes on behind a line that it refuses**, and shows by its status alone whether each line ended as its
-//!   mark states, since its output has each status anyway. What a command line writes isn't kept, but for `show`, whose
-//!   script is another's input: so a line that runs on, as `node` does, writes as it goes.
-//! - **`chmod` is a line of a batch**, since a checkout has no file that its owner alone may read, and a node's key
-//!   must be one.
 //! - **The body is in `running.rt`**, since a module may not have the name of a function that the crate hands out
 //!   (`run`).
 //! - **`test` loads its text into an empty configuration**, so tables that no rule refers to and that aren't
@@ -68,9 +60,10 @@
 //!   of their clauses states when, so a status of a failed read or write has no clause beyond itself; tests with
 //!   readers and writers that don't fail are in its place.
 //! - **The status is an enum with a code**, so that a body that gives up doesn't meet the contract by returning 1.
-//! - **`run` answers `node`, `ask`, `key`, `show` and `follow` with status 2**: it knows them by name. These
-//!   subcommands are `run_net`'s, `run_control_ask`'s, `run_show`'s and `run_follow`'s, to which `pfx` hands every run
-//!   whose first argument is one of them: so pf_tool depends on neither sockets nor databases.
+//! - **`run` answers `node`, `ask`, `key`, `show`, `follow` and `batch` with status 2, and writes nothing**: it knows
+//!   them by name. These subcommands are `run_net`'s, `run_control_ask`'s, `run_show`'s, `run_follow`'s and those of
+//!   `pfx`, which hands on every run whose first argument is one of them: so pf_tool depends on neither sockets nor
+//!   databases.
 //! - **What runs of all subcommands have in common** (`Status`, `read_all`, `misused`, `out_of_memory`) is in cli_io,
 //!   over `clap` alone, so that the subcommands of the network, the control socket and nftables wait for no lab.
 //! - **No test lends an allocator that refuses**: what takes memory takes `alloc: Global`, which is one type and

@@ -1,5 +1,8 @@
 //! Messages on standard error: what is refused, and which rules decide.
 
+ghost use Rattle.std.specs.Prelude.{◌≡◌, ◌++◌, OnOk, string_bytes};
+ghost use Rattle.cli_io.specs.Written.{line};
+
 use cli_io::{Explanation, NO_PACKET, Remark, Shown, explanation};
 use std::alloc::{AllocError, Global};
 
@@ -65,8 +68,10 @@ impl<'t> Remarks<'t> {
     }
 
     /// Adds a line.
-    pub(crate) fn push_line(&mut self, line: &str) -> Result<(), AllocError> {
-        self.text.push_str(line)?;
+    pub(crate) fn push_line(&mut self, message: &str) -> Result<(), AllocError>
+        ensures { OnOk result (string_bytes self.new.text ≡ string_bytes self.old.text ++ line message.now) }
+    {
+        self.text.push_str(message)?;
         self.text.push('\n')
     }
 

@@ -1,23 +1,26 @@
 //! A run of the program.
 
-ghost use Rattle.std.specs.Prelude.{◌≡◌, ◌⊎◌, map, Some};
-ghost use Rattle.pf_tool.specs.Options.{call_of};
+ghost use Rattle.std.specs.Prelude.{◌≡◌, ◌⊎◌, [], true, map, Some};
+ghost use Rattle.std.specs.Io.KnownBytes.{Appends};
+ghost use Rattle.pf_tool.specs.Options.{call_of, names_other};
 ghost use Rattle.pf_tool.specs.Tool.{Ran};
 ghost use Rattle.pf_tool.specs.inner.Calls.{asked};
 
 use crate::answering::{RunFault, output_for};
-use crate::call::{Call, call_in, is_verbose, misnamed};
+use crate::call::{Call, call_in, is_verbose, misnamed, names_other};
 use crate::options::command;
 use crate::output::Ending;
 use crate::remarks::{Level, Remarks};
-use cli_io::{Explanation, Status, misused, out_of_memory, write_bytes};
+use cli_io::{Explanation, Sources, Status, misused, out_of_memory, write_bytes};
+use std::alloc::Global;
 use std::convert::AsStr;
 use std::io::{Read, Write};
 
 /// Does what is asked for, and writes the output and the messages.
 #[tactic(auto, using(cli_io::proofs::Fronts::nothing_written))]
-fn answer<R: Read, W: Write, E: Write>(
-    rt: &HostRuntime,
+fn answer<T: Sources, R: Read, W: Write, E: Write>(
+    sources: &T,
+    alloc: Global,
     table: &[Explanation],
     call: Call<'_, '_>,
     level: Level,
@@ -25,11 +28,11 @@ fn answer<R: Read, W: Write, E: Write>(
     writer: &mut W,
     errors: &mut E,
 ) -> Status
-    ensures { Ran table.now result (Some (asked call.entry)) (R.remaining reader.old) (W.contents writer.old)
-        (W.contents writer.new) }
+    ensures { Ran (T.has sources.now) table.now result (Some (asked call.entry)) (R.remaining reader.old)
+        (W.contents writer.old) (W.contents writer.new) }
 {
-    let mut remarks = Remarks::new(rt.alloc(), table, level);
-    let output = match output_for(rt, table, call, reader, &mut remarks) {
+    let mut remarks = Remarks::new(alloc, table, level);
+    let output = match output_for(sources, alloc, table, call, reader, &mut remarks) {
         Ok(output) => output,
         Err(RunFault::Memory) => return out_of_memory(writer),
         Err(RunFault::Failed) => return Status::Failed,
@@ -77,9 +80,10 @@ fn misnamed_words<W: Write>(text: &str, writer: &mut W) -> Status
 /// anchor. Both read files where their arguments name some; one that can't be read gives `refused 90`. All that is
 /// written goes to the writer at once; an input, and a file, is 16,777,216 bytes at most. The messages, a line for each
 /// refusal and, with `-v`, the rules that decide, change nothing of what is written, nor of the status. `explain`
-/// writes the table's paragraph of a number, or all of them, and reads nothing.
-pub fn run<S: AsStr, R: Read, W: Write, E: Write>(
-    rt: &HostRuntime,
+/// writes the table's paragraph of a number, or all of them, and reads nothing. With the subcommand of another crate
+/// nothing is written.
+pub fn run<T: AllocGlobal + Sources, S: AsStr, R: Read, W: Write, E: Write>(
+    rt: &T,
     table: &[Explanation],
     arguments: &[S],
     reader: &mut R,
@@ -87,9 +91,14 @@ pub fn run<S: AsStr, R: Read, W: Write, E: Write>(
     errors: &mut E,
     is_terminal: bool,
 ) -> Status
-    ensures { Ran table.now result (call_of table.now (map S.text arguments.now)) (R.remaining reader.old)
-        (W.contents writer.old) (W.contents writer.new) }
+    ensures ran { Ran (T.has rt.now) table.now result (call_of table.now (map S.text arguments.now))
+        (R.remaining reader.old) (W.contents writer.old) (W.contents writer.new) }
+    ensures other { names_other (map S.text arguments.now) ≡ true →
+        (result ≡ Status.Usage) × Appends (W.contents writer.old) (W.contents writer.new) [] }
 {
+    if names_other(arguments) {
+        return Status::Usage;
+    }
     let alloc = rt.alloc();
     let Ok(command) = command(alloc) else {
         return out_of_memory(writer);
@@ -101,7 +110,7 @@ pub fn run<S: AsStr, R: Read, W: Write, E: Write>(
     match call_in(table, &matches) {
         Some(call) => {
             let level = level_of(is_verbose(&matches), is_terminal);
-            answer(rt, table, call, level, reader, writer, errors)
+            answer(rt, alloc, table, call, level, reader, writer, errors)
         }
         None => misnamed_words(misnamed(&matches), writer),
     }

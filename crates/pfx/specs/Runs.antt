@@ -29,9 +29,9 @@ IsProgram has_arguments has_control is_run = (given : List (List ℕ)) × (contr
     is_run (program_arguments given control)
 
 -- a run of what reaches no node wrote what its arguments ask for
-abbrev pub IsToolRun : (table : List Explanation) → RunEvent → Type 0
-IsToolRun table (Ran arguments input old new is_terminal ending) =
-    tool.Ran table ending (call_of table arguments) input old new
+abbrev pub IsToolRun : (has : (path text : Text) → Type 0) → (table : List Explanation) → RunEvent → Type 0
+IsToolRun has table (Ran arguments input old new is_terminal ending) =
+    tool.Ran has table ending (call_of table arguments) input old new
 
 -- What `node`, `ask` over UDP or `key` did that ended so, between two states of who runs nodes, makes wires and makes
 -- files.

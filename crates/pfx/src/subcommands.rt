@@ -52,8 +52,9 @@ pub(crate) struct Tool<'t> {
 }
 
 impl Runner for Tool<'_> {
-    // each wrote what its arguments ask for
-    ghost did = { λ tool runs. AllByRecursion (IsToolRun tool.table.now) runs };
+    // each wrote what its arguments ask for, over what the system's files have
+    ghost did = { λ tool runs.
+        AllByRecursion (IsToolRun (⟦<HostRuntime as Sources>⟧.has tool.rt) tool.table.now) runs };
 
     fn run<R: Read, W: Write, E: Write>(
         &mut self,

@@ -1,7 +1,9 @@
 -- the answer is one to this target
 use Rattle.std.proofs.Common.{subst}
-use Rattle.cli_ask.specs.Calls.{Request}
-use Rattle.cli_ask.specs.Replies.{IsAnswerTo, reply_value}
+use Rattle.cli_ask.specs.Calls.{Request, call_value}
+use Rattle.cli_ask.specs.Replies.{IsAnswerTo, IsUnanswered, reply_value}
+use Rattle.cli_ask.specs.declared.exchange.AskFault.TheVariants as fault
+use Rattle.cli_ask.proofs.Begun.{answer_begun}
 use Rattle.cli_ask.proofs.exchange.read_over.Goals as goal
 
 pub returns-then-reply-eq200-clause-read : goal.returns-then-reply-eq200-clause-read
@@ -10,3 +12,8 @@ returns-then-reply-eq200-clause-read g c = (
   subst (λ (r : Request). IsAnswerTo g.D.Dial.is_new g.D.Stream.Write.contents g.D.Stream.Read.remaining r (reply_value c.in-Ok.reply))
       c.get-call.ensures c.in-Ok.ensures.answer,
 )
+
+pub returns-in-Ok-clause-read : goal.returns-in-Ok-clause-read
+returns-in-Ok-clause-read g c =
+    subst (λ (r : Request). IsUnanswered g.D.Dial.is_new g.D.Stream.Write.contents (Unit {0}) r fault.BadAnswer) c.get-call.ensures
+    (answer_begun g.D.Dial.is_new g.D.Stream.Write.contents g.D.Stream.Read.remaining (Unit {0}) (call_value c.get-call.result) (reply_value c.in-Ok.reply) c.in-Ok.ensures.answer)
