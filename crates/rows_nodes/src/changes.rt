@@ -1,4 +1,4 @@
-//! The fronts of a datagram, and each byte set to each value.
+//! The prefixes of a datagram, and each byte set to each value.
 
 use crate::answer::{Answer, Reader};
 use crate::row::Row;

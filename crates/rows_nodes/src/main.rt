@@ -15,7 +15,7 @@
 //!
 //! Any other line is a name, who reads (a member of the three of cluster 7, or 255) and a datagram's bytes in
 //! hexadecimal digits; `scripts/datagram-rows` derives these lines, and what is written of them, from the formats. For
-//! each of its proper fronts, by length, and for each byte, for each value that it may be set to, it is written what
+//! each of its proper prefixes, by length, and for each byte, for each value that it may be set to, it is written what
 //! the reader answers, runs of equal answers together. An answer is a fault's code and offset, or `same`: read, and
 //! written again as those bytes. A member's node gets each that is refused too, and must ignore it with that fault,
 //! hand out nothing, and stay as it was, else the answer is `wrong`. With `x1000` before the bytes a new node receives
@@ -26,6 +26,9 @@
 //! else the run prints `wrong`. A line that begins with `memory` has how many calls were refused so, and behind how
 //! many datagrams less was applied than learned. `nothing` is printed where the program itself is out of memory for a
 //! line, or can't read it.
+//!
+//! Within: `row` is a line of the input; `answer`, `changes`, `repeated` and `written` are of datagrams, `run`, `stops`
+//! and `step` of runs, with `member`, its record `kept`, and `shown` what is printed.
 #![tactic(auto)]
 
 mod answer;

@@ -1,5 +1,5 @@
-//! Requests to nodes of clusters of one and of three, runs of `ask`, `follow` and `node`, and what they give: the stored
-//! input has these, the stored output what is to be written.
+//! Requests to nodes of clusters of one and of three, runs of `ask`, `follow` and `node`, and what they give: the
+//! stored input has these, the stored output what is to be written.
 //!
 //! A row of the input is a line `== METHOD PATH?QUERY`, which `json` may follow for a client that wants JSON, and
 //! the text up to the newline before the next such line is its body. What is before the first one is passed over.
@@ -24,7 +24,8 @@
 //!
 //! A row `== NODE N` runs the first of N members at its control socket, with the timer that a node has, and a clock of
 //! the row's own: a round of the node takes a millisecond. Its body has steps, a line each, behind each of which the
-//! node makes six rounds and what the clients received is printed, and what the node reports on standard error:
+//! node makes six rounds and what the clients received is printed, and what the node reports on standard error. In a
+//! request's body `|` stands for a newline:
 //!
 //! | Step | Does |
 //! |---|---|
@@ -35,15 +36,24 @@
 //! | `pfx ARGUMENTS` | as a row `== PFX ARGUMENTS` |
 //! | `K` | client K connects; a client that isn't there connects first in the steps below too |
 //! | `K tcp` | client K connects to the port of figures |
-//! | `K METHOD TARGET BODY` | client K sends a request; without a target the front of one |
+//! | `K METHOD TARGET BODY` | client K sends a request; without a target the first bytes of one |
 //! | `K * N METHOD TARGET BODY` | client K sends the same N times at once, and reads one answer |
 //! | `K + N METHOD TARGET BODY` | client K does so, reads from the tenth step on, and its bytes are counted |
+//!
+//! How many bytes are counted is stored as summed without the program: an answer's head is `HTTP/1.1 200 OK`,
+//! `pfx-node: 0`, `pfx-applied: 1`, `pfx-front: 1`, `content-type: text/plain; charset=utf-8`, `content-length: N` and
+//! an empty line, each with two bytes at its end. So 40 answers have 9,575 bytes each, 9,450 of them a thousand
+//! addresses, and one has 148,607, of which 148,480 are 1,024 rules of 145 bytes.
 //!
 //! A row `== PFX ARGUMENTS` runs the program's `node`, `key`, or `ask` over UDP, in a cluster of two, of which `@1` is
 //! the address of the first member, `@2` that of the second, at which the row listens, and `@3` that of figures of the
 //! node of such rows: it prints what the second member received. `== SUM NAME` prints a sum of a file's bytes, which
 //! shows whether it has changed. `== STRANGER` prints how many bytes are given of datagrams of a member and of a
 //! stranger where members are heard.
+//!
+//! Within: `asking` does RUN, LIVE, LATE and CUT, `following` FOLLOW, `scripted` NODE and its steps, `network` PFX;
+//! `node` is a node of a cluster of one, `serving` one at a control socket, `operator` the handle that answers a client
+//! by it.
 #![tactic(auto)]
 
 mod asking;

@@ -150,7 +150,7 @@ impl Steps<'_> {
         let times = times.parse::<usize>().unwrap_or(0);
         let mut parts = request.splitn(3, ' ');
         let (method, target) = (parts.next().unwrap_or(""), parts.next().unwrap_or(""));
-        let body = parts.next().unwrap_or("");
+        let body = parts.next().unwrap_or("").replace(alloc, "|", "\n")?;
         let text = if target.is_empty() {
             String::from_str(alloc, method)?
         } else {

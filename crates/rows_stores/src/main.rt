@@ -5,25 +5,29 @@
 //!
 //! Each store is that of a member of 3, and a line's parts are between ` | `.
 //!
-//! | Line | Does | |---|---| | `in FILE \| TASK \| ..` | opens the store in the file, or in empty ones in memory, `in
-//! memory`, and does the tasks | | `twice FILE \| TASK \| ..` | the same; opens the file once more, which must be
-//! refused; does the tasks again | | `plain K WHEN \| STEP, .. \| STEP, ..` | steps over a record in memory whose
-//! `K`-th commit fails `before` or `after` its change (0: none does), then steps over the record itself | | `stops
-//! BEFORE \| SQL \| RECORD \| CHANGE \| RECORD \| ..` | a run in files that stop (see [`stops`]) | | `node-stops BEFORE
-//! \| SQL \| RECORD \| STEP \| RECORD \| ..` | a node's run in files that stop | | `nodes in memory` | a run of three
-//! nodes over empty stores in memory, one of which stops (see [`cluster`]) | | `text FILE`, `folder FILE`, `cut FILE
-//! BYTES` | writes a file, makes a folder, leaves the first bytes of the file |
+//! - `in FILE | TASK | ..`: opens the store in the file, or in empty ones in memory, `in memory`, and does the tasks.
+//! - `twice FILE | TASK | ..`: the same; opens the file once more, which must be refused; does the tasks again.
+//! - `plain K WHEN | STEP, .. | STEP, ..`: steps over a record in memory whose `K`-th commit fails `before` or `after`
+//!   its change (0: none does), then steps over the record itself.
+//! - `stops BEFORE | SQL | RECORD | CHANGE | RECORD | ..`: a run in files that stop (see [`stops`]).
+//! - `node-stops BEFORE | SQL | RECORD | STEP | RECORD | ..`: a node's run in files that stop.
+//! - `nodes in memory`: a run of three nodes over empty stores in memory, one of which stops (see [`cluster`]).
+//! - `text FILE`, `folder FILE`, `cut FILE BYTES`: writes a file, makes a folder, leaves the first bytes of the file.
 //!
-//! | Task | Does |
-//! |---|---|
-//! | `take STEP, ..` | takes the store as member 0 of cluster 7, `other` as that of cluster 8, `second` as member 1;
-//! `again` as `take`, but as a store that isn't new |
-//! | `node STEP, .. then STEP, ..` | a node's steps (see [`node`]) over the store of member 0, then those of its
-//! record, which the node gave back and which is taken again |
-//! | `sql STATEMENTS` | runs statements that answer nothing |
-//! | `count` | reads the format in its row, and counts its tables |
+//! A task is one of these:
 //!
-//! The steps are those of [`record`].
+//! - `take STEP, ..`: takes the store as member 0 of cluster 7, `other` as that of cluster 8, `second` as member 1;
+//!   `again` as `take`, but as a store that isn't new.
+//! - `node STEP, .. then STEP, ..`: a node's steps (see [`node`]) over the store of member 0, then those of its record,
+//!   which the node gave back and which is taken again.
+//! - `sql STATEMENTS`: runs statements that answer nothing.
+//! - `count`: reads the format in its row, and counts its tables.
+//!
+//! The steps are those of [`record`]. Files that stop are made by `fused`: they refuse each call after the first n.
+//! What no sync has confirmed stays then, as where a process ends, or is lost, as where power fails.
+//!
+//! Within: `step` reads steps, `change` changes of a record; `store` and `files` do tasks, `place` is a file or one in
+//! memory, `said` what is printed.
 //!
 //! # Why
 //!

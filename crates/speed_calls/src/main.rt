@@ -12,6 +12,9 @@
 //!
 //! With no arguments each line of the standard input has them, tabs between. The status is 2 for other arguments, and 1
 //! where it is out of memory or the answer can't be written.
+//!
+//! Within: a module for each (`tables`, `packets`, `events`, `datagrams`, `tags`), and `record`, a member's record in
+//! memory for `events`.
 #![tactic(auto)]
 
 mod datagrams;

@@ -4,17 +4,22 @@ use std::io::{self, ErrorKind};
 use std::panic::Expect;
 use std::random::RandomSource;
 
-/// A source whose bytes are all fives.
-struct Fives;
+/// A source whose bytes are 0, 1, 2 and so on.
+struct Ascending;
 
-impl RandomSource for Fives {
+impl RandomSource for Ascending {
     fn fill_bytes(&self, buf: &mut [u8]) -> io::Result<()> {
+        let mut next = 0u8;
         for byte in buf {
-            *byte = 0x55;
+            *byte = next;
+            next = next.wrapping_add(1);
         }
         Ok(())
     }
 }
+
+/// The bytes from 0 to 31 as a key's text.
+const ASCENDING: &[u8] = b"000102030405060708090a0b0c0d0e0f101112131415161718191a1b1c1d1e1f";
 
 /// A source that fails.
 struct Broken;
@@ -27,8 +32,8 @@ impl RandomSource for Broken {
 
 #[test]
 fn a_key_is_its_sources(rt: HostRuntime) {
-    let fives = new_key(&Fives).expect(&rt, "a key");
-    assert!(rt; fives == [0x55; 32]);
+    let ascending = new_key(&Ascending).expect(&rt, "a key");
+    assert!(rt; read(rt.alloc(), ASCENDING) == Ok(ascending));
     assert!(rt; new_key(&Broken).is_err());
     let first = new_key(&rt).expect(&rt, "a key");
     let second = new_key(&rt).expect(&rt, "a key");

@@ -4,6 +4,10 @@
 //! files of keys and starts, and a command asked over UDP.
 //!
 //! The tests are in a crate of their own, since a crate with tests is proved twice.
+//!
+//! Within: `bytes`, `party`, `bench`, `disk` and `own` are what tests share; `entries`, `datagrams`, `heads`, `kinds`
+//! and `largest` are of messages, `seals`, `packets`, `arrivals`, `pieces`, `receivers` and `clocks` of packets, `keys`
+//! and `starts` of files, `sockets` and `asking` of UDP.
 #![tactic(auto)]
 
 #[cfg(test)]

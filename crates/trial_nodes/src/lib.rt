@@ -1,8 +1,13 @@
-//! Tests of members and nodes: in code, over wires in memory and over UDP, with datagrams that are lost, and over
-//! packets. Cores beside plain records made by hand, with what they send to each other on a list; when a node's clock
-//! ticks, what it does when it starts and when its turns are over, what it sends again and to whom.
+//! Tests of members and nodes: in code, over wires in memory and over UDP, with datagrams that are lost, over packets,
+//! and at control sockets. Cores beside plain records made by hand, with what they send to each other on a list; when a
+//! node's clock ticks, what it does when it starts and when its turns are over, what it sends again and to whom.
 //!
 //! The tests are in a crate of their own, since they take longer to prove than what they try.
+//!
+//! Within: `member`, `bus`, `step`, `runs` and `shown` are runs of cores; `members`, `parties`, `echo` and `cluster`
+//! have nodes and their wires, `packets` wires with a key, `control` control sockets too; `starting`, `listing`,
+//! `long_log`, `hosting` and `ending` are of nodes, `tick_timer`, `busy` and `waiting` of the clock, `latest`, `votes`
+//! and `reminding` of what is sent again.
 #![tactic(auto)]
 
 #[cfg(test)]
@@ -11,6 +16,8 @@ mod bus;
 mod busy;
 #[cfg(test)]
 mod cluster;
+#[cfg(test)]
+mod control;
 #[cfg(test)]
 mod echo;
 #[cfg(test)]

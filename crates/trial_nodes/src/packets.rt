@@ -15,7 +15,7 @@ use std::panic::Expect;
 
 const KEY: [u8; 32] = [7; 32];
 
-static MEMBERS: [&str; 3] = ["127.0.0.1:39461", "127.0.0.1:39462", "127.0.0.1:39463"];
+static MEMBERS: [&str; 3] = ["127.0.0.1:39454", "127.0.0.1:39455", "127.0.0.1:39456"];
 
 /// A member's wire: packets over UDP, of which some are lost.
 type Packets = LoopbackWire<PacketWire<FaultyWire<UdpWire<UdpSocket, HostRuntime>>, HostRuntime>>;

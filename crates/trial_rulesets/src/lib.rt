@@ -3,6 +3,9 @@
 //! entries.
 //!
 //! The tests are in a crate of their own, since a crate with tests is proved twice.
+//!
+//! Within: `addresses`, `tokens`, `profiles` and `large` are of rulesets, `effects` of loads, `leading_back` of what
+//! isn't rendered for nftables, `settings` of files, `runs` and `endings` of the program; `refusing` fails a test.
 #![tactic(auto)]
 
 #[cfg(test)]
@@ -13,6 +16,8 @@ mod effects;
 mod endings;
 #[cfg(test)]
 mod large;
+#[cfg(test)]
+mod leading_back;
 #[cfg(test)]
 mod profiles;
 #[cfg(test)]
