@@ -42,23 +42,23 @@ kept_in {S} {g} held there owner i given r same was rows owned made brought = re
 }
 
 -- what takes a store that was found so isn't refused to this owner
-abbrev pub IsTaken : {S : Type 0} {g : store.Ghosts S} → (given : Held S) → (refused : Format → Trees → Option AdoptFault) →
+abbrev pub IsAccepted : {S : Type 0} {g : store.Ghosts S} → (given : Held S) → (refused : Format → Trees → Option AdoptFault) →
     Result (SqlRecords S g) (AdoptFault × Held S) → Type 0
-IsTaken {S} {g} given refused result =
+IsAccepted {S} {g} given refused result =
     IfOk result (λ r. HasCleanDisk (state g (connection_of r)) → (f : Format) → Began f (state g given) → refused f (state g given).now.trees ≡ None)
 
 found_as : {S : Type 0} {g : store.Ghosts S} (there x : Found) (i : Identity) (given : Held S) (result : Result (SqlRecords S g) (AdoptFault × Held S)) →
-    there ≡ x → IsTaken given (λ f. refusal_at x f i) result → IsTaken given (λ f. refusal_at there f i) result
-found_as there x i given result is h = subst (λ (y : Found). IsTaken given (λ f. refusal_at y f i) result) (sym is) h
+    there ≡ x → IsAccepted given (λ f. refusal_at x f i) result → IsAccepted given (λ f. refusal_at there f i) result
+found_as there x i given result is h = subst (λ (y : Found). IsAccepted given (λ f. refusal_at y f i) result) (sym is) h
 
 -- one that was there isn't new
 pub owned_store : {S : Type 0} {g : store.Ghosts S} (there : Found) (i : Identity) (given : Held S) (result : Result (SqlRecords S g) (AdoptFault × Held S)) →
-    there ≡ found.Store → IsTaken given (λ f. reopen_refusal f i) result → IsTaken given (λ f. refusal_at there f i) result
+    there ≡ found.Store → IsAccepted given (λ f. reopen_refusal f i) result → IsAccepted given (λ f. refusal_at there f i) result
 owned_store there i given result is h = found_as there found.Store i given result is h
 
 pub owned_new : {S : Type 0} {g : store.Ghosts S} (there : Found) (i : Identity) (given : Held S) (result : Result (SqlRecords S g) (AdoptFault × Held S)) →
     (there ≡ found.Nothing) ⊎ ((there ≡ found.Empty) ⊎ (there ≡ found.Other)) →
-    IsTaken given (λ f. refusal f i) result → IsTaken given (λ f. refusal_at there f i) result
+    IsAccepted given (λ f. refusal f i) result → IsAccepted given (λ f. refusal_at there f i) result
 owned_new there i given result (inl is) h = found_as there found.Nothing i given result is h
 owned_new there i given result (inr (inl is)) h = found_as there found.Empty i given result is h
 owned_new there i given result (inr (inr is)) h = found_as there found.Other i given result is h

@@ -22,7 +22,7 @@ use crate::outcome::{Outcome, answer_outcome, fault_outcome};
 use clap::ArgMatches;
 use cli_io::{InputFault, Sources, number_in, source_named, value_in};
 use node_udp::{BindFault, Membership, UdpWire, ask_once};
-use pf_arguments::{Action, Command, from_matches};
+use pf_arguments::{Action, Command, USAGE, from_matches};
 use px_transport::Wire;
 use std::alloc::Global;
 use std::io::Read;
@@ -103,7 +103,7 @@ fn unread(name: &str, fault: InputFault) -> Outcome
         InputFault::Failed | InputFault::TooLong => if name == "-" {
             Outcome::Unread
         } else {
-            Outcome::Refused(40)
+            Outcome::Refused(USAGE)
         },
     }
 }
@@ -137,7 +137,7 @@ fn change_in(alloc: Global, matches: &ArgMatches<'_>, text: &[u8]) -> Result<Com
 {
     match from_matches(alloc, matches, text) {
         Ok(Action::Change(command)) => Ok(command),
-        Ok(_) => Err(Outcome::Refused(40)),
+        Ok(_) => Err(Outcome::Refused(USAGE)),
         Err(fault) => match fault.code() {
             Some(code) => Err(Outcome::Refused(code)),
             None => Err(Outcome::Memory),
@@ -242,7 +242,7 @@ pub(crate) fn ask_outcome<T: Sources, C: Client, R: Read>(
         result }
 {
     let Some(m) = membership(arguments) else {
-        return Outcome::Refused(40);
+        return Outcome::Refused(USAGE);
     };
     let text = match text_for(sources, alloc, value_in(matches, "file"), reader) {
         Ok(text) => text,

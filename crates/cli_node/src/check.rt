@@ -28,6 +28,7 @@ use crate::sockets::{of_control, of_own_address};
 use crate::store::{Found, Opening, failed_outcome, found_at, identity_of, opening_of, untaken};
 use cli_io::{Shown, open_regular};
 use node_loop::Membership;
+use pf_arguments::USAGE;
 use px_store::{AdoptFault, examine};
 use sqlite::{Alter, Connection, Error, ErrorCode, File, FileStore};
 use sqlite_trees::store::Store;
@@ -243,7 +244,7 @@ fn of_place(
         Some(_) => Outcome::Sound,
         None => {
             log_place(rt, arguments);
-            Outcome::Refused(40)
+            Outcome::Refused(USAGE)
         }
     }
 }

@@ -36,10 +36,12 @@ use cli_io::{has_flag, number_in, value_in};
 use node_control::{ControlPlace, Observer, run_at_socket, run_sealed_at_socket};
 use node_loop::{Membership, Timer, open_member};
 use node_udp::{Address, BindFault, UdpWire};
+use pf_arguments::USAGE;
 use px_packet::PacketKeys;
 use px_records::Records;
 use px_store::SqlRecords;
 use px_transport::{PacketWire, Wire};
+use px_wire::MEMBERS;
 use sqlite::{File, FileStore};
 use sqlite_trees::store::Store;
 use std::alloc::{AllocError, Global};
@@ -168,13 +170,13 @@ impl<'m, 'w, 'a> NodeArguments<'m, 'w, 'a> {
     }
 }
 
-/// How many members there are, if 1 to 15.
+/// How many members there are, if that many may be.
 fn count(members: &[&str]) -> Option<u8>
     ensures some { IfSome result (λ n. n ≡ length members.now) }
     ensures none { IsSome result ↔ IsTrue (is_count (length members.now)) }
 {
     let n = members.len();
-    if n >= 1 && n <= 15 {
+    if n >= 1 && n <= usize::from(MEMBERS) {
         Some(n as u8)
     } else {
         None
@@ -600,7 +602,7 @@ pub fn run_node<F: NodeFiles, D: Databases, T: Timer>(
 {
     let Some(m) = membership(arguments) else {
         log_place(rt, arguments);
-        return Outcome::Refused(40);
+        return Outcome::Refused(USAGE);
     };
     let keys = match keys_for(rt, files, alloc, arguments) {
         Ok(keys) => keys,

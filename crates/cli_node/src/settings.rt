@@ -22,6 +22,7 @@ use clap::ArgMatches;
 use cli_files::{FileFault, NodeFile};
 use cli_io::{Shown, Sources, has_flag, number_in, value_in};
 use node_loop::TickTimer;
+use pf_arguments::USAGE;
 use px_records::Records;
 use px_store::SqlRecords;
 use sqlite::{File, FileStore};
@@ -114,7 +115,7 @@ fn settings_code(matches: &ArgMatches<'_>) -> u8
 {
     match value_in(matches, "config") {
         Some(_) => BAD_SETTINGS,
-        None => 40,
+        None => USAGE,
     }
 }
 

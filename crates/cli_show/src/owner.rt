@@ -13,6 +13,7 @@ ghost use Rattle.cli_show.specs.Owners.{IsOwner, IsUnanswered, IsUnowned, Answer
 
 use crate::store::Closed;
 use px_replica::Membership;
+use px_wire::MEMBERS;
 use sqlite::{Alter, Connection, Error, ErrorCode, Row};
 use sqlite_resolve::CompileError;
 
@@ -50,7 +51,7 @@ fn number_at(row: &Row, at: usize) -> Result<u64, Closed>
 fn is_member_of(cluster: u64, members: u64, node: u64) -> bool
     ensures { result ≡ is_member_of cluster members node }
 {
-    cluster <= 4_294_967_295 && 1 <= members && members <= 15 && node < members
+    cluster <= 4_294_967_295 && 1 <= members && members <= u64::from(MEMBERS) && node < members
 }
 
 /// That member, none where there is none.

@@ -15,7 +15,7 @@ use crate::wanted::{Kind, kind_of, rest_of};
 use clap::ArgMatches;
 use cli_io::{Sources, Status, given_in, misused, number_in, out_of_memory, value_in};
 use cli_nft::read_file;
-use pf_arguments::from_matches;
+use pf_arguments::{USAGE, from_matches};
 use std::alloc::Global;
 use std::convert::AsStr;
 use std::io::Write;
@@ -42,7 +42,7 @@ fn nft_outcome<RT: Stores + Sources>(
         kind.Nft store.now result }
 {
     let Some(file) = value_in(matches, "interfaces") else {
-        return Outcome::Refused(40);
+        return Outcome::Refused(USAGE);
     };
     match read_file(rt, alloc, file) {
         Ok(Some(text)) => shown_of(
@@ -85,7 +85,7 @@ fn packets_outcome<RT: Stores + Sources>(
 {
     match rest_of(matches) {
         [_, packets @ ..] => shown_of(rt, alloc, store, Wanted::Packets(packets)),
-        [] => Outcome::Refused(40),
+        [] => Outcome::Refused(USAGE),
     }
 }
 
@@ -113,10 +113,10 @@ fn outcome_of<RT: Stores + Sources>(rt: &RT, alloc: Global, matches: &ArgMatches
     ensures { Asks (RT.answers rt.now) (RT.has rt.now) (rows_of (found_of matches.now)) result }
 {
     let Some(kind) = kind_of(matches) else {
-        return Outcome::Refused(40);
+        return Outcome::Refused(USAGE);
     };
     let Some(store) = value_in(matches, "store") else {
-        return Outcome::Refused(40);
+        return Outcome::Refused(USAGE);
     };
     match kind {
         Kind::Nft => nft_outcome(rt, alloc, store, matches),

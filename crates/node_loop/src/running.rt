@@ -23,13 +23,11 @@ use pf_node::Node;
 use px_records::Records;
 use px_replica::NodeFault;
 use px_transport::Wire;
+use px_wire::MEMBERS;
 use std::time::Instant;
 
 /// How many datagrams are taken before it is looked whether the clock is to tick.
 const MOST: u32 = 64;
-
-/// How many members there are at most.
-const MEMBERS: u8 = 15;
 
 /// How many rounds a node makes at most to work off what waits when it ends.
 const LAST_ROUNDS: u32 = 3_000;

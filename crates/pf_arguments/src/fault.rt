@@ -8,6 +8,9 @@ use pf_addr::AddrFault;
 use std::alloc::{AllocError, AllocFailed};
 use thiserror::Error;
 
+/// The number of the refusal of arguments that aren't understood, here and at every other reader of arguments.
+pub const USAGE: u8 = 40;
+
 /// Why arguments ask for nothing. Of several faults the first in this list is returned, and of faulty addresses the
 /// lowest fault.
 #[derive(Clone, Copy, Debug, PartialEq, Eq, Error)]
@@ -36,7 +39,7 @@ impl CommandFault {
     {
         match self {
             CommandFault::Memory => None,
-            CommandFault::Usage => Some(40),
+            CommandFault::Usage => Some(USAGE),
             CommandFault::BadPath => Some(24),
             CommandFault::BadAddress(fault) => Some(fault.code()),
             CommandFault::TooLong => Some(41),

@@ -33,7 +33,7 @@ mod reading;
 pub use action::Action;
 pub use addresses::read_addresses;
 pub use args::pfctl_args;
-pub use fault::CommandFault;
+pub use fault::{CommandFault, USAGE};
 pub use pf_entry::{
     Command, CommandView, EncodeFault, Entry, EntryView, Path, TableName, decode, encode,
 };

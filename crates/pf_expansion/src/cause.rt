@@ -13,7 +13,8 @@ pub enum Cause {
     Macro,
     /// 12: the grammar doesn't spell it.
     Syntax,
-    /// 13: a port that is neither number nor name, or ports in a rule whose protocols aren't all tcp or udp.
+    /// 13: a port that is neither number nor name, or ports in a rule whose protocols aren't all tcp or udp, or
+    /// none is named.
     Ports,
     /// 14: no combination of what is listed is of one family.
     NoCombination,
@@ -26,7 +27,8 @@ pub enum Cause {
     /// 18: more tokens, open braces, nested lists, combinations, rules or entries of a table than there
     /// may be.
     TooMany,
-    /// 19: a type of ICMP that is neither number nor name, or a type in a rule whose protocols aren't all icmp.
+    /// 19: a type of ICMP that is neither number nor name, or a type in a rule whose protocols aren't all icmp, or none
+    /// is named.
     IcmpType,
 }
 

@@ -3,6 +3,7 @@
 ghost use Rattle.std.specs.Prelude.{◌≡◌};
 ghost use Rattle.pf_lab.specs.declared.fault.LineFault.TheVariants.{Memory};
 
+use pf_arguments::USAGE;
 use std::alloc::{AllocError, AllocFailed};
 
 /// Why a line gives nothing.
@@ -15,7 +16,7 @@ pub(crate) enum LineFault {
 }
 
 /// The number of an unknown line, and of arguments that don't go together.
-pub(crate) const UNKNOWN: LineFault = LineFault::Refused(40);
+pub(crate) const UNKNOWN: LineFault = LineFault::Refused(USAGE);
 
 /// The number where no such node or message is.
 pub(crate) const NOT_THERE: u8 = 81;

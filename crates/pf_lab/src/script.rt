@@ -12,6 +12,7 @@ use crate::event::LabFault;
 use crate::numbers::number_in;
 use crate::state::Lab;
 use crate::stepping::{run_words, step};
+use pf_arguments::USAGE;
 use pf_scripts::{Waiting, cut_line, push_refusal, words_in};
 use std::alloc::{AllocError, Global};
 
@@ -120,7 +121,7 @@ pub fn lab_script(alloc: Global, script: &[u8]) -> Result<String, AllocError>
     let mut out = String::new(alloc);
     match begun(alloc, script)? {
         Some((members, behind)) => run_lines(alloc, members, behind, &mut out)?,
-        None => push_refusal(alloc, &mut out, 40, 0)?,
+        None => push_refusal(alloc, &mut out, USAGE, 0)?,
     }
     Ok(out)
 }

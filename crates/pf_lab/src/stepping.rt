@@ -11,6 +11,7 @@ ghost use Rattle.pf_lab.specs.inner.Benches.{IsBench, Does, Steps};
 use crate::bench::Bench;
 use crate::fault::LineFault;
 use crate::reading::{LabLine, line_in};
+use pf_arguments::USAGE;
 use pf_scripts::{Line, Waiting, push_bytes, push_refusal, takes_text, words_in};
 use std::alloc::{AllocError, Global};
 
@@ -81,7 +82,7 @@ fn begin<'a>(
         bench.new (option_map waiting_of w) (string_bytes out.old) (string_bytes out.new)) }
 {
     let Some(words) = words else {
-        push_refusal(alloc, out, 40, 0)?;
+        push_refusal(alloc, out, USAGE, 0)?;
         return Ok(None);
     };
     if words.is_empty() {

@@ -17,7 +17,7 @@ use crate::pfctl::{file_in, is_standard, matches_in};
 use crate::printing::push_line;
 use crate::words_read::{ChangeFault, WordsRead};
 use clap::ArgMatches;
-use pf_arguments::{Action, Command, from_matches};
+use pf_arguments::{Action, Command, USAGE, from_matches};
 use pf_config::Config;
 use pf_grammar::{ParseFault, Place, Profile, parse};
 use pf_rules::Name;
@@ -35,10 +35,10 @@ fn action_of(
     ensures short { IfOk result IsShort }
 {
     let Some(matches) = matches else {
-        return Err(ChangeFault::Refused(40));
+        return Err(ChangeFault::Refused(USAGE));
     };
     if !is_standard(file_in(matches)) {
-        return Err(ChangeFault::Refused(40));
+        return Err(ChangeFault::Refused(USAGE));
     }
     match from_matches(alloc, matches, text) {
         Ok(action) => Ok(action),
@@ -145,7 +145,7 @@ pub fn read_change(alloc: Global, words: &[&str], text: &[u8]) -> Result<Command
     };
     match action_of(alloc, matches.as_ref(), text) {
         Ok(Action::Change(command)) => Ok(command),
-        Ok(_) => Err(ChangeFault::Refused(40)),
+        Ok(_) => Err(ChangeFault::Refused(USAGE)),
         Err(fault) => Err(fault),
     }
 }

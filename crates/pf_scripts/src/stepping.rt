@@ -10,6 +10,7 @@ use crate::lines::{Line, push_bytes, spaced, words_in};
 use crate::pfctl::{matches_in, takes_text_by};
 use crate::printing::{push_line, push_refusal};
 use crate::waiting::Waiting;
+use pf_arguments::USAGE;
 use pf_config::Config;
 use pf_eval::{PacketFault, parse_packet, show_verdict, verdict};
 use std::alloc::{AllocError, Global};
@@ -71,7 +72,7 @@ fn run_line<'a>(
         config.new (option_map waiting_of w) (string_bytes out.old) (string_bytes out.new)) }
 {
     let Some(words) = words else {
-        push_refusal(alloc, out, 40, 0)?;
+        push_refusal(alloc, out, USAGE, 0)?;
         return Ok(None);
     };
     match words.as_slice() {
@@ -84,7 +85,7 @@ fn run_line<'a>(
                 test_packet(alloc, config, rest, out)?;
                 return Ok(None);
             }
-            push_refusal(alloc, out, 40, 0)?;
+            push_refusal(alloc, out, USAGE, 0)?;
             Ok(None)
         }
     }

@@ -98,6 +98,7 @@ pub use encoding::{encode, encode_sent};
 pub use fault::WireFault;
 pub use head::Head;
 pub use kind::Kind;
+pub use limits::MEMBERS;
 pub use membership::Membership;
 pub use px_model::{Entry, EntryView, Message, Proposal};
 

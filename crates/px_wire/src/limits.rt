@@ -23,7 +23,7 @@ pub(crate) const POSITION_AT: usize = 21;
 /// Where an answer to a command from outside has, after the token, the entry's number or the code of the refusal.
 pub(crate) const ANSWER_AT: usize = 21;
 /// The most members of a cluster.
-pub(crate) const MEMBERS: u8 = 15;
+pub const MEMBERS: u8 = 15;
 /// Who is no member: a client.
 pub(crate) const CLIENT: u8 = 255;
 /// Rounds, tokens and the numbers of entries are below this: they have six bytes.
