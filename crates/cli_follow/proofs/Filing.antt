@@ -2,6 +2,7 @@
 use Rattle.std.proofs.Common.{◌≡◌, ◌∙◌, ℕ, Bool, true, false, List, [], ◌++◌, Option, Some, None, refl, sym, subst, append-nil, inl, inr}
 use Rattle.std.specs.Prelude.{◌&&◌}
 use Rattle.std.proofs.KnownBytes.{Appends-nil}
+use Rattle.nft_rules.specs.Rendering.{Machine}
 use Rattle.cli_follow.specs.declared.files.TextFiles.{TextFiles}
 use Rattle.cli_follow.specs.declared.follower.Due.{Due}
 use Rattle.cli_follow.specs.declared.follower.Due.TheVariants as due
@@ -18,10 +19,10 @@ still_filed (AsksEntries f) old = inl (refl, refl)
 still_filed (AsksStatus f) old = (refl, refl)
 still_filed Ended old = (refl, refl)
 
-due_filed : (o : Option (List ℕ)) (f : Follower) (old : Option TextFiles) (acts : List Act) (new : Option TextFiles) →
+due_filed : (o : Option Machine) (f : Follower) (old : Option TextFiles) (acts : List Act) (new : Option TextFiles) →
     FilesWritten f.followed.configuration old acts new → FiledIn (written_to o f).stage (written_to o f).is_due old acts new
 due_filed None f old acts new h = h
-due_filed (Some file) f old acts new h = h
+due_filed (Some m) f old acts new h = h
 
 late_filed : (f : Follower) (again behind : Bool) (old : Option TextFiles) (acts : List Act) (new : Option TextFiles) → are_behind old ≡ behind →
     FilesWrittenIf (again && behind) f.followed.configuration old acts new → FiledIn (AsksEntries f) false old acts new
@@ -55,10 +56,10 @@ went_still x y w e f due.Another a first other leads = let (es, given, led) = le
 
 -- what was followed was due, and is put
 pub filed_due : (x y : List Exchange → Type 0) (p q : List Act → Type 0) (w : Wanted) (e f : Follower) (t : Stage) (old new : Option TextFiles) →
-    Leads x y w (AsksEntries e) (due_in w f due.Write) → (written_to w.file f).stage ≡ t → Acted p q (λ acts. FilesWritten f.followed.configuration old acts new) →
+    Leads x y w (AsksEntries e) (due_in w f due.Write) → (written_to w.machine f).stage ≡ t → Acted p q (λ acts. FilesWritten f.followed.configuration old acts new) →
     TurnFiled x y p q w e t old new
 filed_due x y p q w e f t old new leads at (acts, (adds, h)) =
-    let (es, given, led) = leads in (es, written_to w.file f, given, led, at, (acts, (adds, due_filed w.file f old acts new h)))
+    let (es, given, led) = leads in (es, written_to w.machine f, given, led, at, (acts, (adds, due_filed w.machine f old acts new h)))
 
 -- all is there: what is behind is put again
 pub filed_late : (x y : List Exchange → Type 0) (p q : List Act → Type 0) (w : Wanted) (e f : Follower) (again : Bool) (old new : Option TextFiles) →
@@ -110,10 +111,10 @@ still_in (AsksEntries f) false old = inl refl
 still_in (AsksStatus f) due old = refl
 still_in Ended due old = refl
 
-due_left : (o : Option (List ℕ)) (f : Follower) (old : Option TextFiles) (acts : List Act) →
+due_left : (o : Option Machine) (f : Follower) (old : Option TextFiles) (acts : List Act) →
     FilesLeft f.followed.configuration old acts → LeftIn (written_to o f).stage (written_to o f).is_due old acts
 due_left None f old acts h = h
-due_left (Some file) f old acts h = h
+due_left (Some m) f old acts h = h
 
 late_left : (f : Follower) (again behind : Bool) (old : Option TextFiles) (acts : List Act) → are_behind old ≡ behind →
     FilesLeftIf (again && behind) f.followed.configuration old acts → LeftIn (AsksEntries f) false old acts
@@ -132,7 +133,7 @@ left_still x y p w e old fails =
 pub left_due : (x y : List Exchange → Type 0) (p q : List Act → Type 0) (w : Wanted) (e f : Follower) (old : Option TextFiles) →
     Leads x y w (AsksEntries e) (due_in w f due.Write) → Acted p q (λ acts. FilesLeft f.followed.configuration old acts) → TurnLeft x y p q w e old
 left_due x y p q w e f old leads (acts, (adds, h)) =
-    let (es, given, led) = leads in (es, written_to w.file f, given, led, (acts, (adds, due_left w.file f old acts h)))
+    let (es, given, led) = leads in (es, written_to w.machine f, given, led, (acts, (adds, due_left w.machine f old acts h)))
 
 -- it was, and its files are put
 pub left_behind : (x y : List Exchange → Type 0) (p q : List Act → Type 0) (w : Wanted) (e f : Follower) (old new : Option TextFiles) →

@@ -1,9 +1,9 @@
-mod Ends
 mod Texts
+mod Listing
 pub mod Following
 pub mod Same
+mod WordsRead
 pub mod MembersRead
-pub mod Loads
 pub mod Runs
 pub mod Filing
 pub mod Writes

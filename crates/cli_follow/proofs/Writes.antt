@@ -21,7 +21,7 @@ then f ms last asks = record { followed = followed_of (still f); members = ms; l
 
 wrote_some : {T E : Type 0} (r : Result T E) (n m : Nft) (f : FollowedConfiguration) (begun : Bool) (a b : Option (List ℕ)) →
     m.kernel.members ≡ n.kernel.members → OnOk r (Wrote n m (still f) a b) →
-    OnOk r ((asks : ℕ) → Written (written_to (wanted_for (Some n)).file (before f (Some n) begun asks)) (before (still f) (Some m) true asks) a b)
+    OnOk r ((asks : ℕ) → Written (written_to (wanted_for (Some n)).machine (before f (Some n) begun asks)) (before (still f) (Some m) true asks) a b)
 wrote_some (Err e) n m f begun a b same h = tt
 wrote_some (Ok u) n m f begun a b same h = λ asks. (
   ap (λ (l : Option Given). AsksEntries (then f n.kernel.members.items l asks)) (sym h.0)
@@ -31,17 +31,17 @@ wrote_some (Ok u) n m f begun a b same h = λ asks. (
 
 pub wrote : {T E : Type 0} (r : Result T E) (o : Option Nft) (n m : Nft) (f : FollowedConfiguration) (begun : Bool) (a b : Option (List ℕ)) → o ≡ Some n →
     m.kernel.members ≡ n.kernel.members → OnOk r (Wrote n m (still f) a b) →
-    OnOk r ((asks : ℕ) → Written (written_to (wanted_for o).file (before f o begun asks)) (before (still f) (Some m) true asks) a b)
+    OnOk r ((asks : ℕ) → Written (written_to (wanted_for o).machine (before f o begun asks)) (before (still f) (Some m) true asks) a b)
 wrote r o n m f begun a b is same h =
-    subst (λ (p : Option Nft). OnOk r ((asks : ℕ) → Written (written_to (wanted_for p).file (before f p begun asks)) (before (still f) (Some m) true asks) a b)) (sym is)
+    subst (λ (p : Option Nft). OnOk r ((asks : ℕ) → Written (written_to (wanted_for p).machine (before f p begun asks)) (before (still f) (Some m) true asks) a b)) (sym is)
     (wrote_some r n m f begun a b same h)
 
 fronts_some : {T E : Type 0} (r : Result T E) (n : Nft) (f : FollowedConfiguration) (begun : Bool) (a b : Option (List ℕ)) → OnErr r (AppendsFront a b (loads_of n (still f)).lines) →
-    OnErr r ((asks : ℕ) → AppendsFront a b (written_to (wanted_for (Some n)).file (before f (Some n) begun asks)).out)
+    OnErr r ((asks : ℕ) → AppendsFront a b (written_to (wanted_for (Some n)).machine (before f (Some n) begun asks)).out)
 fronts_some (Ok u) n f begun a b h = tt
 fronts_some (Err e) n f begun a b h = λ asks. h
 
 pub fronts : {T E : Type 0} (r : Result T E) (o : Option Nft) (n : Nft) (f : FollowedConfiguration) (begun : Bool) (a b : Option (List ℕ)) → o ≡ Some n → OnErr r (AppendsFront a b (loads_of n (still f)).lines) →
-    OnErr r ((asks : ℕ) → AppendsFront a b (written_to (wanted_for o).file (before f o begun asks)).out)
+    OnErr r ((asks : ℕ) → AppendsFront a b (written_to (wanted_for o).machine (before f o begun asks)).out)
 fronts r o n f begun a b is h =
-    subst (λ (p : Option Nft). OnErr r ((asks : ℕ) → AppendsFront a b (written_to (wanted_for p).file (before f p begun asks)).out)) (sym is) (fronts_some r n f begun a b h)
+    subst (λ (p : Option Nft). OnErr r ((asks : ℕ) → AppendsFront a b (written_to (wanted_for p).machine (before f p begun asks)).out)) (sym is) (fronts_some r n f begun a b h)

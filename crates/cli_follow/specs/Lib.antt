@@ -1,5 +1,4 @@
 pub mod Following
-pub mod Stepping
 pub mod Members
 pub mod Exchanges
 pub mod Files

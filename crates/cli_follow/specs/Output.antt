@@ -11,7 +11,10 @@ use Rattle.nft_rules.specs.declared.guard.Member.{Member}
 use Rattle.nft_rules.specs.Guard.{same_addr}
 use Rattle.cli_ask.specs.declared.exchange.AskFault.{AskFault}
 use Rattle.cli_ask.specs.declared.exchange.Reply.{Reply}
-use Rattle.cli_nft.specs.Outputs.{Written, config_output}
+use Rattle.nft_rules.specs.Rendering.{Machine}
+use Rattle.nft_rules.specs.declared.rendering.RenderFault.{RenderFault}
+use Rattle.nft_text.specs.Loading.{rendered_lines}
+use Rattle.nft_text.specs.Texts.{TransactionsValue}
 use Rattle.cli_io.specs.Written.{AppendsFront}
 use Rattle.cli_follow.specs.declared.files.TextFiles.{TextFiles}
 use Rattle.cli_follow.specs.declared.follower.WriteFault.{WriteFault}
@@ -20,24 +23,23 @@ use Rattle.cli_follow.specs.Exchanges.{Question, Entries, Status, Exchange, Adds
 use Rattle.cli_follow.specs.Files.{Act, Acted, FilesWritten, FilesLeft, are_behind}
 use Rattle.cli_follow.specs.Following.{Followed, LinesApplied, lines_applied}
 use Rattle.cli_follow.specs.Members.{members_reported}
-use Rattle.cli_follow.specs.Stepping.{two_lines, end_line}
 
 -- ---- what is kept
 
--- what nft(8) was given last: the position whose names it has, and its three lines
+-- what nft(8) was given last: the position whose names it has, and its lines
 pub record Given : Type 0 where
   pub position : ℕ
-  pub text : List ℕ
+  pub lines : TransactionsValue
 
--- what is wanted: lines for the interfaces that a file lists, if one is named; and whether behind the members' guard
+-- what is wanted: lines for a machine, if a file of its interfaces is named; and whether behind the members' guard
 pub record Wanted : Type 0 where
-  pub file : Option (List ℕ)
+  pub machine : Option Machine
   pub is_guarded : Bool
 
--- of this file, if there is one: without lines there is no guard
-abbrev pub wanted : Option (List ℕ) → (guarded : Bool) → Wanted
-wanted None guarded = record { file = None; is_guarded = false }
-wanted (Some file) guarded = record { file = Some file; is_guarded = guarded }
+-- for this machine, if there is one: without lines there is no guard
+abbrev pub wanted : Option Machine → (guarded : Bool) → Wanted
+wanted None guarded = record { machine = None; is_guarded = false }
+wanted (Some m) guarded = record { machine = Some m; is_guarded = guarded }
 
 -- the log's configuration, the members that the guard lets through, what was given last, whether anything was to be
 -- written yet, and how often entries were asked for
@@ -66,19 +68,23 @@ stays s = record { stage = s; out = []; is_due = false }
 
 -- ---- lines for nft(8)
 
--- the rendering is no refusal, and that text
-abbrev pub renders : Written → List ℕ → Bool
-renders w text = not w.refused && bytes_eq w.text text
+abbrev pub are_same : (a b : TransactionsValue) → Bool
+are_same a b = bytes_eq a.load b.load && bytes_eq a.end b.end
+
+-- the rendering is no refusal, and these lines
+abbrev pub renders : Result TransactionsValue RenderFault → TransactionsValue → Bool
+renders (Err fault) lines = false
+renders (Ok l) lines = are_same l lines
 
 -- under the names of what was given last the configuration is that again
-abbrev pub is_same : (file : List ℕ) → List Member → Option Given → Configuration → Bool
-is_same file ms None c = false
-is_same file ms (Some g) c = renders (config_output (Some file) ms g.position c) g.text
+abbrev pub is_same : Machine → List Member → Option Given → Configuration → Bool
+is_same m ms None c = false
+is_same m ms (Some g) c = renders (rendered_lines c m ms g.position) g.lines
 
 -- the line that ends what was given last, unless its names are used on
 abbrev pub end_of : (position : ℕ) → Option Given → List ℕ
 end_of position None = []
-end_of position (Some g) = if g.position == position then [] else end_line g.text
+end_of position (Some g) = if g.position == position then [] else g.lines.end
 
 -- what was given last, and the lines that were written for it
 pub record Loads : Type 0 where
@@ -86,17 +92,18 @@ pub record Loads : Type 0 where
   pub lines : List ℕ
 
 -- a rendering is given, but for a refusal
-abbrev pub loads_new : Option Given → (position : ℕ) → Written → Loads
-loads_new last position w = if w.refused then record { last = last; lines = [] } else record {
-  last = Some (record { position = position; text = w.text });
-  lines = two_lines w.text ++ end_of position last;
+abbrev pub loads_new : Option Given → (position : ℕ) → Result TransactionsValue RenderFault → Loads
+loads_new last position (Err fault) = record { last = last; lines = [] }
+loads_new last position (Ok l) = record {
+  last = Some (record { position = position; lines = l });
+  lines = l.load ++ end_of position last;
 }
 
 -- what nft(8) is to load of a configuration after that many entries: nothing that it has already
-abbrev pub loads : (file : List ℕ) → List Member → Option Given → Configuration → (position : ℕ) → Loads
-loads file ms last c position =
-    if is_same file ms last c then record { last = last; lines = [] }
-    else loads_new last position (config_output (Some file) ms position c)
+abbrev pub loads : Machine → List Member → Option Given → Configuration → (position : ℕ) → Loads
+loads m ms last c position =
+    if is_same m ms last c then record { last = last; lines = [] }
+    else loads_new last position (rendered_lines c m ms position)
 
 -- ---- what an answer leads to
 
@@ -113,13 +120,13 @@ abbrev pub given : Follower → Loads → Reached
 given f l = record { stage = AsksEntries (record (settled f) { last = l.last }); out = l.lines; is_due = true }
 
 -- the configuration is due to be written; for nft(8) where lines are wanted
-abbrev pub written_to : Option (List ℕ) → Follower → Reached
+abbrev pub written_to : Option Machine → Follower → Reached
 written_to None f = record { stage = AsksEntries (settled f); out = []; is_due = true }
-written_to (Some file) f =
-    given f (loads file f.members f.last f.followed.configuration f.followed.position)
+written_to (Some m) f =
+    given f (loads m f.members f.last f.followed.configuration f.followed.position)
 
 abbrev pub written_if : Wanted → Bool → Follower → Reached
-written_if w wanted f = if wanted then written_to w.file f else silent f
+written_if w wanted f = if wanted then written_to w.machine f else silent f
 
 -- the first ask of a series: of 20
 abbrev pub is_again : (asks : ℕ) → Bool

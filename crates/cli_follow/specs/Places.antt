@@ -1,7 +1,7 @@
 -- What is to be written where, and how a run ends.
 use Rattle.std.specs.Prelude.{◌≡◌, ◌⊎◌, ◌&&◌, ℕ, ◌^◌, ◌<◌, Bool, true, false, List, [], Option, Some, None}
 use Rattle.std.specs.Prelude.{Result, Ok, Err, not, codes}
-use Rattle.std.specs.Prelude.{is_some, option_map, string_bytes}
+use Rattle.std.specs.Prelude.{is_some, option_and_then, option_map, string_bytes}
 use Rattle.std.specs.Io.KnownBytes.{Appends}
 use Rattle.std.specs.Str.Parse.{IsNumeral, digits_value, without_leading_plus}
 use Rattle.clap.specs.Words.{Row, Text, first_of}
@@ -9,6 +9,9 @@ use Rattle.cli_io.specs.Given.{is_given}
 use Rattle.cli_io.specs.Sources.{IsAt}
 use Rattle.cli_io.specs.declared.status.Status.{Status}
 use Rattle.cli_io.specs.declared.status.Status.TheVariants as status
+use Rattle.cli_nft.specs.Machines.{machine_in}
+use Rattle.nft_rules.specs.Rendering.{Machine}
+use Rattle.nft_rules.specs.Seen.{machine_of}
 use Rattle.cli_follow.specs.Exchanges.{Exchange, Adds}
 use Rattle.cli_follow.specs.Files.{Act}
 use Rattle.cli_follow.specs.Output.{Wanted, Ends, wanted}
@@ -51,12 +54,20 @@ abbrev pub recorded : Option TextFiles → List TextFile
 recorded None = []
 recorded (Some files) = files.written.items
 
+-- the machine of the interfaces
+abbrev pub machine_at : Places → Option Machine
+machine_at p = option_map (λ v. machine_of v.items) p.interfaces
+
+-- the machine that the file which is named lists, if one is named
+abbrev pub IsListed : (has : (path text : List ℕ) → Type 0) → Option Text → Option Machine → Type 0
+IsListed has named machine = (text : Option (List ℕ)) × (IsAt has named text × (machine ≡ option_and_then machine_in text))
+
 -- lines for nft(8) are written where these are asked for, for the interfaces of the file that is named, and with the
 -- guard unless it is declined; rulesets for pfctl(8) go into the folder that is named, of which nothing is recorded yet
 pub record IsWantedBy (has : (path text : List ℕ) → Type 0) (rows : List Row) (p : Places) : Type 0 where
   pub good : are_good rows ≡ true
   pub lines : is_some p.interfaces ≡ has_nft rows
-  pub file : IsAt has (first_of (codes "interfaces") rows) (option_map (λ v. v.items) p.interfaces)
+  pub machine : IsListed has (first_of (codes "interfaces") rows) (machine_at p)
   pub guard : p.is_guarded ≡ (has_nft rows && not (has_no_guard rows))
   pub folder : folder_of p.files ≡ first_of (codes "pf") rows
   pub none : recorded p.files ≡ []
@@ -95,7 +106,7 @@ AreTurns (Some text) n = IsNumeral 10 (without_leading_plus text) →
 
 -- what the places want
 abbrev pub wanted_at : Places → Wanted
-wanted_at p = wanted (option_map (λ v. v.items) p.interfaces) p.is_guarded
+wanted_at p = wanted (machine_at p) p.is_guarded
 
 -- the log is followed to these places, and the run ends as that does
 abbrev pub FollowedTo : (given now : List Exchange → Type 0) → (done did : List Act → Type 0) → Places → (turns : ℕ) →

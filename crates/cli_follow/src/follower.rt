@@ -3,6 +3,7 @@
 ghost use Rattle.std.specs.Prelude.{◌≡◌, ◌+◌, ◌||◌, ◌&&◌, ℕ, true, not, Some, Ok, IfOk, IfErr, OnOk, OnErr, option_map};
 ghost use Rattle.std.specs.Io.KnownBytes.{Appends};
 ghost use Rattle.cli_io.specs.Written.{AppendsFront};
+ghost use Rattle.nft_rules.specs.Seen.{machine_of};
 ghost use Rattle.cli_follow.specs.Output.{wanted, start, is_again, is_more, is_behind, caught_up, informed};
 ghost use Rattle.cli_follow.specs.Output.{after_entries, after_status, same_members, written_if, written_to};
 ghost use Rattle.cli_follow.specs.Output.{Wanted};
@@ -15,6 +16,7 @@ use crate::members::members_reported;
 use cli_ask::{AskFault, Reply};
 use cli_io::write_bytes;
 use cli_nft::Member;
+use nft_rules::MachineInterface;
 use node_requests::{ENTRIES_BYTES, ENTRIES_MAX};
 use std::alloc::{AllocError, Global};
 use std::io::Write;
@@ -116,6 +118,17 @@ pub(crate) fn log_change<E: Write>(
     Ok(())
 }
 
+/// Logs why nothing is written for a position.
+fn log_refusal<E: Write>(
+    errors: &mut E,
+    alloc: Global,
+    position: u32,
+    code: u8,
+) -> Result<(), AllocError> {
+    let line = format!(in alloc; "refused {code}\n")?;
+    log_change(errors, alloc, position, line.as_str())
+}
+
 /// Writes lines, and all that is kept back.
 fn write_lines<W: Write>(writer: &mut W, lines: &[u8]) -> Result<(), WriteFault>
     ensures whole { OnOk result (Appends (W.contents writer.old) (W.contents writer.new) lines.now) }
@@ -176,27 +189,27 @@ impl Nft {
         let position = followed.position;
         match self.kernel.load(alloc, &followed.config, position)? {
             Step::Same => Ok(()),
-            Step::Refused(line) => Ok(log_change(errors, alloc, position, line.as_str())?),
+            Step::Refused(code) => Ok(log_refusal(errors, alloc, position, code)?),
             Step::Lines(lines) => write_lines(writer, lines.as_slice()),
         }
     }
 }
 
 impl Follower {
-    /// Nothing was followed yet: lines for nft(8) are wanted where a file lists the interfaces.
+    /// Nothing was followed yet: lines for nft(8) are wanted where there are interfaces.
     pub fn new(
         alloc: Global,
-        interfaces: Option<Vec<u8>>,
+        interfaces: Option<Vec<MachineInterface>>,
         is_guarded: bool,
     ) -> Result<Follower, AllocError>
         ensures start { IfOk result (λ f. follower_of 0 f ≡ start) }
         ensures wanted { IfOk result (λ f. wanted_of f
-            ≡ wanted (option_map (λ v. v.items) interfaces) is_guarded) }
+            ≡ wanted (option_map (λ v. machine_of v.items) interfaces) is_guarded) }
     {
         let followed = FollowedConfiguration::new(alloc)?;
         match interfaces {
-            Some(text) => {
-                let kernel = Kernel::new(alloc, text);
+            Some(interfaces) => {
+                let kernel = Kernel::new(alloc, interfaces);
                 Ok(Follower {
                     followed,
                     nft: Some(Nft { kernel, is_guarded }),
@@ -317,10 +330,10 @@ impl Follower {
         errors: &mut E,
     ) -> Result<(), WriteFault>
         ensures whole { OnOk result ((asks : ℕ) →
-            Written (written_to (wanted_of self.old).file (follower_of asks self.old))
+            Written (written_to (wanted_of self.old).machine (follower_of asks self.old))
             (follower_of asks self.new) (W.contents writer.old) (W.contents writer.new)) }
         ensures front { OnErr result ((asks : ℕ) → AppendsFront (W.contents writer.old) (W.contents writer.new)
-            (written_to (wanted_of self.old).file (follower_of asks self.old)).out) }
+            (written_to (wanted_of self.old).machine (follower_of asks self.old)).out) }
         ensures fault { IfErr result (λ e. e ≡ WriteFault.Another → ⊥) }
         ensures wanted { wanted_of self.new ≡ wanted_of self.old }
     {

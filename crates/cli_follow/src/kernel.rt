@@ -1,14 +1,14 @@
 //! What nft(8) is to load, one position after the other.
 
-ghost use Rattle.std.specs.Prelude.{◌≡◌, [], ◌≤◌, ◌==◌, ◌↔◌, IfOk, OnErr, IsTrue, Some, None, false, length, not};
-ghost use Rattle.std.specs.List.{prefix_len};
-ghost use Rattle.cli_nft.specs.Outputs.{config_output};
-ghost use Rattle.cli_nft.specs.Seen.{written};
-ghost use Rattle.cli_follow.specs.Output.{loads};
+ghost use Rattle.std.specs.Prelude.{◌≡◌, [], ◌↔◌, IfOk, None, false};
+ghost use Rattle.nft_rules.specs.Refusing.{Renders};
+ghost use Rattle.nft_rules.specs.Seen.{machine_of};
+ghost use Rattle.nft_text.specs.Loading.{transactions_value, rendered_lines};
+ghost use Rattle.cli_follow.specs.Output.{are_same, end_of, is_same, loads};
 ghost use Rattle.cli_follow.specs.inner.Seen.{given_of, lines_of};
-ghost use Rattle.cli_follow.specs.Stepping.{line_end, two_lines, end_line, end_of, IsSameAs, IsStep};
 
-use cli_nft::{Member, Written, config_output};
+use nft_rules::{MachineInterface, Member, RenderFault};
+use nft_text::{Transactions, rendered_lines};
 use pf_config::Config;
 use std::alloc::{AllocError, Global};
 
@@ -17,15 +17,15 @@ use std::alloc::{AllocError, Global};
 struct Loaded {
     /// The position whose names it has.
     position: u32,
-    /// Its three lines.
-    text: String,
+    /// Its lines.
+    lines: Transactions,
 }
 
 /// What a kernel was given, on a machine with these interfaces.
 #[derive(Drop)]
-pub struct Kernel {
-    /// The file that lists the interfaces.
-    interfaces: Vec<u8>,
+pub(crate) struct Kernel {
+    /// The machine's interfaces.
+    interfaces: Vec<MachineInterface>,
     /// Whose datagrams pass whatever the rules say.
     members: Vec<Member>,
     /// What was handed out last.
@@ -34,46 +34,25 @@ pub struct Kernel {
 
 /// What comes of a configuration.
 #[derive(Drop)]
-pub enum Step {
+pub(crate) enum Step {
     /// Nothing: it is what was handed out last, but for the names.
     Same,
-    /// A refusal's line: it can't be rendered, and what was handed out last stays in force.
-    Refused(String),
+    /// The number of a refusal: it can't be rendered, and what was handed out last stays in force.
+    Refused(u8),
     /// Lines for nft(8), a transaction each: sets, rules, and the end of what was handed out last.
     Lines(Vec<u8>),
 }
 
-/// How many bytes are before the end of the first line.
-#[tactic(auto, using(crate::proofs::Ends::line_len_le))]
-fn line_len(text: &[u8]) -> usize
-    ensures value { result ≡ prefix_len (λ b. not (b == 10)) text.now }
-    ensures within { result ≤ length text.now }
+/// Whether these are the same lines.
+fn are_same(a: &Transactions, b: &Transactions) -> bool
+    ensures { result ≡ are_same (transactions_value a.now) (transactions_value b.now) }
 {
-    text.iter().take_while(|b| **b != b'\n').count()
-}
-
-/// How many bytes the first line has, with its newline.
-fn line_end(text: &[u8]) -> usize
-    ensures value { result ≡ line_end text.now }
-    ensures within { result ≤ length text.now }
-{
-    let len = line_len(text);
-    if len < text.len() { len + 1 } else { len }
-}
-
-/// The first two lines, and what is behind them.
-fn cut_end(text: &[u8]) -> (&[u8], &[u8])
-    ensures front { result.0.now ≡ two_lines text.now }
-    ensures end { result.1.now ≡ end_line text.now }
-{
-    let first = line_end(text);
-    let (_, rest) = text.split_at(first);
-    text.split_at(first + line_end(rest))
+    a.load.as_str() == b.load.as_str() && a.end.as_str() == b.end.as_str()
 }
 
 impl Kernel {
     /// Nothing was handed out yet, and no members are known.
-    pub fn new(alloc: Global, interfaces: Vec<u8>) -> Kernel
+    pub(crate) fn new(alloc: Global, interfaces: Vec<MachineInterface>) -> Kernel
         ensures interfaces { result.interfaces ≡ interfaces }
         ensures members { result.members.items ≡ [] }
         ensures last { result.last ≡ None }
@@ -87,7 +66,7 @@ impl Kernel {
 
     /// From now on what these members send each other passes whatever the rules say. Answers whether they are others
     /// than those before.
-    pub fn set_members(&mut self, members: Vec<Member>) -> bool
+    pub(crate) fn set_members(&mut self, members: Vec<Member>) -> bool
         ensures same { result ≡ false ↔ self.old.members.items ≡ members.items }
         ensures members { self.new.members ≡ members }
         ensures interfaces { self.new.interfaces ≡ self.old.interfaces }
@@ -99,44 +78,46 @@ impl Kernel {
     }
 
     /// What is rendered under names of a position.
-    fn rendered(&self, alloc: Global, config: &Config, position: u32) -> Result<Written, AllocError>
-        ensures { IfOk result (λ w. written w ≡ config_output (Some self.now.interfaces.items) self.now.members.items
-            position config.now) }
+    fn rendered(
+        &self,
+        alloc: Global,
+        config: &Config,
+        position: u32,
+    ) -> Result<Transactions, RenderFault>
+        ensures { Renders transactions_value result (rendered_lines config.now (machine_of self.now.interfaces.items)
+            self.now.members.items position) }
     {
-        config_output(
-            alloc,
-            Some(self.interfaces.as_slice()),
-            config,
-            self.members.as_slice(),
-            position,
-        )
+        let (interfaces, members) = (self.interfaces.as_slice(), self.members.as_slice());
+        rendered_lines(alloc, config, interfaces, members, position)
     }
 
     /// Whether this is what was handed out last, but for the names.
     fn is_same(&self, alloc: Global, config: &Config) -> Result<bool, AllocError>
-        ensures { IfOk result (λ same. IsTrue same ↔ IsSameAs self.now.interfaces.items self.now.members.items
-            self.now.last config.now) }
+        ensures { IfOk result (λ same. same ≡ is_same (machine_of self.now.interfaces.items) self.now.members.items
+            (given_of self.now.last) config.now) }
     {
-        match &self.last {
-            Some(last) => {
-                let again = self.rendered(alloc, config, last.position)?;
-                Ok(!again.refused && again.text.as_str() == last.text.as_str())
-            }
-            None => Ok(false),
+        let Some(last) = &self.last else {
+            return Ok(false);
+        };
+        match self.rendered(alloc, config, last.position) {
+            Ok(again) => Ok(are_same(&again, &last.lines)),
+            Err(fault) => match fault.code() {
+                Some(_) => Ok(false),
+                None => Err(AllocError),
+            },
         }
     }
 
     /// The line that ends what was handed out last; nothing where that has the names of this position.
     fn end_of(&self, position: u32) -> &[u8]
-        ensures { result.now ≡ end_of position self.now.last }
+        ensures { result.now ≡ end_of position (given_of self.now.last) }
     {
         match &self.last {
             Some(last) => {
                 if last.position == position {
                     return &[];
                 }
-                let (_, end) = cut_end(last.text.as_bytes());
-                end
+                last.lines.end.as_bytes()
             }
             None => &[],
         }
@@ -145,49 +126,31 @@ impl Kernel {
     /// What is to be loaded of the configuration after that many entries: nothing where it would be rendered under the
     /// names of what was handed out last as that was; else its first two lines, and the last line of what was handed
     /// out last, unless it has the same names. Where it can't be rendered, what was handed out last stays in force.
-    pub fn step(
-        &mut self,
-        alloc: Global,
-        config: &Config,
-        position: u32,
-    ) -> Result<Step, AllocError>
-        ensures steps { IfOk result (λ s. IsStep self.old.interfaces.items self.old.members.items self.old.last
-            self.new.last config.now position s) }
-        ensures interfaces { self.new.interfaces ≡ self.old.interfaces }
-        ensures members { self.new.members ≡ self.old.members }
-        ensures memory { OnErr result (self.new ≡ self.old) }
-    {
-        if self.is_same(alloc, config)? {
-            return Ok(Step::Same);
-        }
-        let written = self.rendered(alloc, config, position)?;
-        if written.refused {
-            return Ok(Step::Refused(written.text));
-        }
-        let (front, _) = cut_end(written.text.as_bytes());
-        let mut lines = Vec::from_slice(alloc, front)?;
-        lines.extend_from_slice(self.end_of(position))?;
-        self.last = Some(Loaded {
-            position,
-            text: written.text,
-        });
-        Ok(Step::Lines(lines))
-    }
-
-    /// The same, as what was handed out last and what is to be loaded.
-    #[tactic(auto, using(crate::proofs::Loads::loads_by))]
     pub(crate) fn load(
         &mut self,
         alloc: Global,
         config: &Config,
         position: u32,
     ) -> Result<Step, AllocError>
-        ensures loads { IfOk result (λ s. loads self.old.interfaces.items self.old.members.items
+        ensures loads { IfOk result (λ s. loads (machine_of self.old.interfaces.items) self.old.members.items
             (given_of self.old.last) config.now position
             ≡ record { last = given_of self.new.last; lines = lines_of s }) }
         ensures interfaces { self.new.interfaces ≡ self.old.interfaces }
         ensures members { self.new.members ≡ self.old.members }
     {
-        self.step(alloc, config, position)
+        if self.is_same(alloc, config)? {
+            return Ok(Step::Same);
+        }
+        let lines = match self.rendered(alloc, config, position) {
+            Ok(lines) => lines,
+            Err(fault) => match fault.code() {
+                Some(code) => return Ok(Step::Refused(code)),
+                None => return Err(AllocError),
+            },
+        };
+        let mut written = Vec::from_slice(alloc, lines.load.as_bytes())?;
+        written.extend_from_slice(self.end_of(position))?;
+        self.last = Some(Loaded { position, lines });
+        Ok(Step::Lines(written))
     }
 }

@@ -7,11 +7,10 @@
 //!   ([`Folders`]): what it writes, and does with files, is what the answers lead to.
 //! - [`FollowedConfiguration`]: the configuration after the first entries of a log, as a control socket's lines give
 //!   them.
-//! - [`Kernel`]: what nft(8) is to load, one position after the other; it knows neither sockets nor files.
 //! - [`members_are_read`]: the members that a node names are read as such.
 //!
 //! Within: `options` has the arguments as `clap` reads them, `running` the loop, `control` the control socket,
-//! `follower` what an answer leads to, `places` where it is written, `files` the rulesets for pfctl(8), `members` where
+//! `follower` what an answer leads to, `kernel` what nft(8) is to load, `places` where it is written, `files` the rulesets for pfctl(8), `members` where
 //! a node's members listen.
 //!
 //! # Why
@@ -55,6 +54,5 @@ pub use control::{Control, ControlSockets};
 pub use files::{Folders, SystemFiles, TextFiles};
 pub use followed_configuration::{FollowedConfiguration, TakeFault};
 pub use follower::WriteFault;
-pub use kernel::{Kernel, Step};
 pub use laws::members_are_read;
 pub use running::{follow, run_follow};

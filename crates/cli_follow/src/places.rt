@@ -1,13 +1,15 @@
 //! What is to be written where, by the arguments.
 
-ghost use Rattle.std.specs.Prelude.{◌≡◌, [], IfOk, IfSome, option_map};
+ghost use Rattle.std.specs.Prelude.{◌≡◌, [], IfOk, IfSome, Some, option_map};
 ghost use Rattle.clap.specs.Words.{found_of, rows_of};
-ghost use Rattle.cli_follow.specs.Places.{folder_of, recorded, ArePlaces};
+ghost use Rattle.nft_rules.specs.Seen.{machine_of};
+ghost use Rattle.cli_follow.specs.Places.{folder_of, recorded, ArePlaces, IsListed};
 
 use crate::files::TextFiles;
 use clap::ArgMatches;
 use cli_io::{Shown, Sources, has_flag, value_in};
 use cli_nft::{machine_in, read_file};
+use nft_rules::MachineInterface;
 use std::alloc::{AllocError, Global};
 use std::fs::{self, Files};
 use std::io::{self, Write};
@@ -15,27 +17,25 @@ use std::io::{self, Write};
 /// What is to be written where.
 #[derive(Drop)]
 pub(crate) struct Places {
-    /// The interfaces for which lines for nft(8) are wanted.
-    pub(crate) interfaces: Option<Vec<u8>>,
+    /// The machine's interfaces, where lines for nft(8) are wanted.
+    pub(crate) interfaces: Option<Vec<MachineInterface>>,
     /// Whether those have the members' guard.
     pub(crate) is_guarded: bool,
     /// Rulesets for pfctl(8).
     pub(crate) files: Option<TextFiles>,
 }
 
-/// The text of a file of interfaces; none where it lists none.
+/// The interfaces that a file lists; none where it lists none.
 fn interfaces_in<T: Sources>(
     sources: &T,
     alloc: Global,
     file: &str,
-) -> Result<Option<Vec<u8>>, AllocError>
-    ensures { IfOk result (λ o. IfSome o (λ text. T.has sources.now file.now text.items)) }
+) -> Result<Option<Vec<MachineInterface>>, AllocError>
+    ensures { IfOk result (λ o. IfSome o (λ m. IsListed (T.has sources.now) (Some file.now)
+        (Some (machine_of m.items)))) }
 {
-    let Some(text) = read_file(sources, alloc, file)? else {
-        return Ok(None);
-    };
-    match machine_in(alloc, text.as_slice())? {
-        Some(_) => Ok(Some(text)),
+    match read_file(sources, alloc, file)? {
+        Some(text) => machine_in(alloc, text.as_slice()),
         None => Ok(None),
     }
 }
@@ -102,8 +102,8 @@ pub(crate) fn places_for<RT: Files + Sources, E: Write>(
         return Ok(Err(40));
     }
     match interfaces_in(rt, alloc, file)? {
-        Some(text) => Ok(Ok(Places {
-            interfaces: Some(text),
+        Some(interfaces) => Ok(Ok(Places {
+            interfaces: Some(interfaces),
             is_guarded,
             files,
         })),

@@ -5,6 +5,7 @@ ghost use Rattle.clap.specs.Words.{found_of, rows_of, one_of, kind_of};
 ghost use Rattle.clap.specs.declared.error.kind.ErrorKind.TheVariants.{OutOfMemory};
 ghost use Rattle.cli_io.specs.Written.{IsMisused};
 ghost use Rattle.cli_follow.specs.Arguments.{given_of};
+ghost use Rattle.nft_rules.specs.Seen.{machine_of};
 ghost use Rattle.cli_follow.specs.Files.{Acted, FilesWritten, FilesWrittenIf, FilesLeft, FilesLeftIf, are_behind};
 ghost use Rattle.cli_follow.specs.Output.{AsksEntries, wanted, is_again, Went, Stopped, TurnFiled, TurnLeft, Ends};
 ghost use Rattle.cli_follow.specs.inner.Seen.{follower_of, wanted_of, due_in, stage_in, stage_if, Leads, Fails};
@@ -21,6 +22,7 @@ use clap::error::ErrorKind;
 use clap::{ArgMatches, Error};
 use cli_ask::{AskFault, Pauses};
 use cli_io::{Sources, Status, given_in, misused, value_in};
+use nft_rules::MachineInterface;
 use std::alloc::{AllocError, Global};
 use std::convert::AsStr;
 use std::fs::Files;
@@ -201,7 +203,7 @@ fn rest<RT: Pauses, C: Control, E: Write>(
 }
 
 /// Follows a node's log until the output is closed, or entries were asked for so often, or another log is there: what
-/// nft(8) is to load goes to the writer, for the interfaces that a file lists, if there is one, with the members' guard
+/// nft(8) is to load goes to the writer, for a machine with these interfaces, if there are any, with the members' guard
 /// or without; rulesets for pfctl(8) go into files, where they are wanted: for the system's files `folders` is
 /// [`SystemFiles`]. Refusals go to `errors`.
 pub fn follow<RT: Pauses, F: Folders, C: Control, W: Write, E: Write>(
@@ -210,7 +212,7 @@ pub fn follow<RT: Pauses, F: Folders, C: Control, W: Write, E: Write>(
     alloc: Global,
     control: &mut C,
     turns: u64,
-    interfaces: Option<Vec<u8>>,
+    interfaces: Option<Vec<MachineInterface>>,
     is_guarded: bool,
     files: Option<TextFiles>,
     writer: &mut W,
@@ -218,7 +220,7 @@ pub fn follow<RT: Pauses, F: Folders, C: Control, W: Write, E: Write>(
 ) -> Result<(), WriteFault>
     ensures { Ends (C.exchanged control.old) (C.exchanged control.new)
         (F.done folders.old) (F.done folders.new)
-        (wanted (option_map (λ v. v.items) interfaces) is_guarded) files turns result
+        (wanted (option_map (λ v. machine_of v.items) interfaces) is_guarded) files turns result
         (W.contents writer.old) (W.contents writer.new) }
 {
     let Ok(mut follower) = Follower::new(alloc, interfaces, is_guarded) else {

@@ -13,6 +13,7 @@ use Rattle.nft_rules.specs.Rendering.{Machine}
 use Rattle.nft_rules.specs.declared.guard.Member.{Member}
 use Rattle.nft_rules.specs.declared.rendering.RenderFault.{RenderFault}
 use Rattle.nft_rules.specs.Refusing.{fault_code}
+use Rattle.nft_text.specs.Texts.{TransactionsValue}
 use Rattle.nft_text.specs.Loading.{rendered_lines}
 use Rattle.pf_expansion.specs.Causes.{cause_code}
 use Rattle.cli_nft.specs.Machines.{machine_in}
@@ -36,8 +37,8 @@ refused_at code line = record {
 }
 
 -- the lines for nft(8), or the refusal of the rendering
-abbrev pub written_lines : Result (List ℕ) RenderFault → Written
-written_lines (Ok text) = record { text = text; refused = false }
+abbrev pub written_lines : Result TransactionsValue RenderFault → Written
+written_lines (Ok l) = record { text = l.load ++ l.end; refused = false }
 written_lines (Err fault) = refused (fault_code fault)
 
 -- the lines for the configuration that a load gives, or the refusal of the load or of the rendering

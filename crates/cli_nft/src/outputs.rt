@@ -1,6 +1,6 @@
 //! What `check --nft` and `show --nft` write.
 
-ghost use Rattle.std.specs.Prelude.{◌≡◌, [], Some, IfOk, option_map};
+ghost use Rattle.std.specs.Prelude.{◌≡◌, ◌++◌, [], Some, IfOk, option_map, string_bytes};
 ghost use Rattle.pf_rules.specs.Rulesets.{ruleset_of};
 ghost use Rattle.pf_config.specs.Changes.{load_ruleset};
 ghost use Rattle.nft_rules.specs.Seen.{machine_of};
@@ -14,7 +14,7 @@ ghost use Rattle.nft_text.specs.Loading.{rendered_lines};
 
 use crate::machines::machine_in;
 use nft_rules::{MachineInterface, Member};
-use nft_text::rendered_lines;
+use nft_text::{Transactions, rendered_lines};
 use pf_config::Config;
 use pf_grammar::{ParseFault, Place, Profile, parse};
 use pf_rules::{Path, Ruleset};
@@ -51,6 +51,16 @@ fn refused_at(alloc: Global, code: u8, line: u64) -> Result<Written, AllocError>
     })
 }
 
+/// All lines.
+fn all_lines(lines: Transactions) -> Result<String, AllocError>
+    ensures { IfOk result (λ text. string_bytes text ≡ string_bytes lines.load ++ string_bytes lines.end) }
+{
+    let Transactions { load, end } = lines;
+    let mut text = load;
+    text.push_str(end.as_str())?;
+    Ok(text)
+}
+
 /// The lines of a configuration.
 fn written_lines(
     alloc: Global,
@@ -63,8 +73,8 @@ fn written_lines(
         ≡ written_lines (rendered_lines config.now (machine_of machine.now) members.now position)) }
 {
     match rendered_lines(alloc, config, machine, members, position) {
-        Ok(text) => Ok(Written {
-            text,
+        Ok(lines) => Ok(Written {
+            text: all_lines(lines)?,
             refused: false,
         }),
         Err(fault) => match fault.code() {

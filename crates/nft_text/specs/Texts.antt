@@ -379,8 +379,14 @@ gone_line position ms inward outward =
     ++ (fixed_gone position ++ (members_gone position ms ++ (flat_map (set_gone position inward) inward.sets
     ++ codes "\n"))))
 
+-- what is loaded, two lines, and for later the line of its end
+pub record TransactionsValue : Type 0 where
+  pub load : List ℕ
+  pub end : List ℕ
+
 -- the three lines
-unfoldable pub lines : ℕ → Bool → List Member → NftRuleset → NftRuleset → List ℕ
-lines position keeps ms inward outward =
-    sets_line position inward
-    ++ (rules_line position keeps ms inward outward ++ gone_line position ms inward outward)
+unfoldable pub lines : ℕ → Bool → List Member → NftRuleset → NftRuleset → TransactionsValue
+lines position keeps ms inward outward = record {
+  load = sets_line position inward ++ rules_line position keeps ms inward outward;
+  end = gone_line position ms inward outward;
+}

@@ -2,7 +2,7 @@
 //!
 //! # Organization
 //!
-//! - [`rendered_lines`]: a configuration as three lines, a transaction each, or why there are none.
+//! - [`rendered_lines`]: a configuration as three lines, a transaction each ([`Transactions`]), or why there are none.
 //! - [`lines`]: the lines of two rulesets, one a direction.
 //!
 //! Within: `set_lines`, `chain_lines` and `rule_lines` write sets, chains and rules, `matching` a rule's matches, with
@@ -21,4 +21,4 @@ mod rule_lines;
 mod set_lines;
 mod states;
 
-pub use loading::{lines, rendered_lines};
+pub use loading::{Transactions, lines, rendered_lines};

@@ -1,6 +1,6 @@
 //! The three transactions.
 
-ghost use Rattle.std.specs.Prelude.{◌≡◌, ◌++◌, Some, IfOk, codes, string_bytes};
+ghost use Rattle.std.specs.Prelude.{◌≡◌, ◌++◌, Some, IfOk, codes};
 ghost use Rattle.std.specs.List.{flat_map};
 ghost use Rattle.nft_rules.specs.Subset.{Base};
 ghost use Rattle.nft_rules.specs.Guard.{ToChain, hook_of};
@@ -8,7 +8,7 @@ ghost use Rattle.nft_rules.specs.Refusing.{Renders};
 ghost use Rattle.nft_rules.specs.Seen.{machine_of, ruleset_of};
 ghost use Rattle.nft_text.specs.Texts.{fragments_text, headers_text, guard_text, refuse_text, jump_text, hook_text};
 ghost use Rattle.nft_text.specs.Texts.{sets_line, rules_line, fixed_gone, gone_line, lines};
-ghost use Rattle.nft_text.specs.Loading.{rendered_lines};
+ghost use Rattle.nft_text.specs.Loading.{transactions_value, rendered_lines};
 
 use crate::chain_lines::{ChainTexts, ChainsGone};
 use crate::labels::{ChainLabel, Generation, Whole};
@@ -20,6 +20,15 @@ use pf_config::Config;
 use pf_rules::Direction;
 use std::alloc::{AllocError, Global};
 use std::fmt::{self, Display};
+
+/// What nft(8) is to load of a position: three lines, a transaction each.
+#[derive(Drop)]
+pub struct Transactions {
+    /// The sets, to which nothing refers yet, and all rules in place of those before: two lines.
+    pub load: String,
+    /// For later, the end of this position's sets and chains, once another position's rules have come: a line.
+    pub end: String,
+}
 
 /// What are the hooks of a machine's packets, and the sets: nothing asks them yet.
 #[derive(Clone, Copy)]
@@ -312,8 +321,8 @@ pub fn lines<'r, 'c>(
     members: &'r [Member],
     inward: &'r NftRuleset<'c>,
     outward: &'r NftRuleset<'c>,
-) -> Result<String, AllocError>
-    ensures { IfOk result (λ text. string_bytes text
+) -> Result<Transactions, AllocError>
+    ensures { IfOk result (λ l. transactions_value l
         ≡ lines position keeps members.now (ruleset_of inward.now) (ruleset_of outward.now)) }
 {
     let both = Both {
@@ -330,7 +339,10 @@ pub fn lines<'r, 'c>(
     });
     let rules = RulesLine(both);
     let gone = GoneLine(both);
-    format!(in alloc; "{sets}{rules}{gone}")
+    Ok(Transactions {
+        load: format!(in alloc; "{sets}{rules}")?,
+        end: format!(in alloc; "{gone}")?,
+    })
 }
 
 /// A configuration, on a machine with these interfaces, behind the guard of these members, as three lines for nft(8),
@@ -342,8 +354,8 @@ pub fn rendered_lines(
     machine: &[MachineInterface],
     members: &[Member],
     position: u32,
-) -> Result<String, RenderFault>
-    ensures { Renders string_bytes result (rendered_lines config.now (machine_of machine.now) members.now
+) -> Result<Transactions, RenderFault>
+    ensures { Renders transactions_value result (rendered_lines config.now (machine_of machine.now) members.now
         position) }
 {
     let keeps = some_keep_state(config, &config.paths()?);

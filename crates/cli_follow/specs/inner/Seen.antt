@@ -1,7 +1,9 @@
 -- What values of the code stand for.
-use Rattle.std.specs.Prelude.{◌≡◌, ℕ, Bool, true, false, List, [], Option, Some, None, option_map, string_bytes}
+use Rattle.std.specs.Prelude.{◌≡◌, ℕ, Bool, true, false, List, [], Option, Some, None, option_map}
 use Rattle.std.specs.Io.KnownBytes.{Appends}
+use Rattle.nft_rules.specs.Seen.{machine_of}
 use Rattle.nft_rules.specs.declared.guard.Member.{Member}
+use Rattle.nft_text.specs.Loading.{transactions_value}
 use Rattle.cli_follow.specs.Following.{followed_of}
 use Rattle.cli_follow.specs.Output.{Wanted, Follower, Given, Loads, Reached, AsksEntries, AsksStatus, Ended, loads}
 use Rattle.cli_follow.specs.Output.{silent, stays}
@@ -18,12 +20,12 @@ use Rattle.cli_follow.specs.declared.kernel.Step.TheVariants as step
 
 -- what was handed out last
 abbrev pub given_of : Option Loaded → Option Given
-given_of last = option_map (λ l. record { position = l.position; text = string_bytes l.text }) last
+given_of last = option_map (λ l. record { position = l.position; lines = transactions_value l.lines }) last
 
 -- the lines of a step
 abbrev pub lines_of : Step → List ℕ
 lines_of step.Same = []
-lines_of (step.Refused line) = []
+lines_of (step.Refused code) = []
 lines_of (step.Lines lines) = lines.items
 
 -- where lines are wanted: the members, what was given last, and what is wanted
@@ -36,8 +38,8 @@ last_of None = None
 last_of (Some n) = given_of n.kernel.last
 
 abbrev pub wanted_for : Option Nft → Wanted
-wanted_for None = record { file = None; is_guarded = false }
-wanted_for (Some n) = record { file = Some n.kernel.interfaces.items; is_guarded = n.is_guarded }
+wanted_for None = record { machine = None; is_guarded = false }
+wanted_for (Some n) = record { machine = Some (machine_of n.kernel.interfaces.items); is_guarded = n.is_guarded }
 
 abbrev pub wanted_of : code.Follower → Wanted
 wanted_of f = wanted_for f.nft
@@ -58,12 +60,12 @@ due_in w f due.More = silent f
 due_in w f due.Rest = silent f
 due_in w f (due.Nothing fault) = silent f
 due_in w f due.Status = stays (AsksStatus f)
-due_in w f due.Write = written_to w.file f
+due_in w f due.Write = written_to w.machine f
 due_in w f due.Another = stays Ended
 
 -- what nft(8) is to load of what was followed
 abbrev pub loads_of : Nft → FollowedConfiguration → Loads
-loads_of n f = loads n.kernel.interfaces.items n.kernel.members.items (given_of n.kernel.last) f.config f.position
+loads_of n f = loads (machine_of n.kernel.interfaces.items) n.kernel.members.items (given_of n.kernel.last) f.config f.position
 
 -- it was written
 abbrev pub Wrote : (old new : Nft) → FollowedConfiguration → Option (List ℕ) → Option (List ℕ) → Type 0

@@ -1,6 +1,5 @@
-use Rattle.cli_ask.proofs.Lines.{args_read, text_read}
 use Rattle.cli_follow.proofs.MembersRead.{are_read}
 use Rattle.cli_follow.proofs.laws.members_are_read.Goals as goal
 
 pub returns : goal.returns
-returns c = λ addresses. are_read c.shown_is_read.ensures.read c.shown_is_read.ensures.word args_read text_read addresses
+returns c = λ addresses. are_read c.shown_is_read.ensures.read c.shown_is_read.ensures.word addresses

@@ -1,4 +1,5 @@
 use Rattle.std.proofs.Common.{◌∙◌, ◌+◌, option_map, subst, sym, rules}
+use Rattle.nft_rules.specs.Seen.{machine_of}
 use Rattle.cli_follow.specs.Output.{Follower, AsksEntries, Ended, wanted, start, Went, FiledTo}
 use Rattle.cli_follow.specs.inner.Seen.{follower_of, wanted_of, stage_in}
 use Rattle.cli_follow.proofs.Runs.{went_nowhere, stopped_here, ends_early, turned, stopped_turn}
@@ -8,7 +9,7 @@ use Rattle.cli_follow.proofs.running.follow.Goals as goal
 pub returns-in_default : goal.returns-in_default
 returns-in_default g c =
     let x = g.C.Control.exchanged c.args.control.now in
-    let w = wanted (option_map (λ v. v.items) c.args.interfaces) c.args.is_guarded in
+    let w = wanted (option_map (λ v. machine_of v.items) c.args.interfaces) c.args.is_guarded in
     let p = g.F.Folders.done c.args.folders.now in
     let a = g.W.Write.contents c.args.writer.now in
     (stopped_here x x w (AsksEntries start) (AsksEntries start) a a (went_nowhere x w (AsksEntries start) a), left_first x p w c.args.files)
@@ -17,7 +18,7 @@ pub loop-asks-init : goal.loop-asks-init
 loop-asks-init g c =
     let x = g.C.Control.exchanged c.args.control.now in
     let p = g.F.Folders.done c.args.folders.now in
-    let w = wanted (option_map (λ v. v.items) c.args.interfaces) c.args.is_guarded in
+    let w = wanted (option_map (λ v. machine_of v.items) c.args.interfaces) c.args.is_guarded in
     let a = g.W.Write.contents c.args.writer.now in
     record {
       went = subst (λ (f : Follower). Went x x w (AsksEntries start) (AsksEntries f) a a) (sym c.in-Ok.ensures.start) (went_nowhere x w (AsksEntries start) a);
@@ -32,7 +33,7 @@ returns-in-Err g c =
     let p = g.F.Folders.done c.args.folders.now in
     let q = g.F.Folders.done c.loop-asks.folders in
     let r = g.F.Folders.done c.turn.new.folders in
-    let w = wanted (option_map (λ v. v.items) c.args.interfaces) c.args.is_guarded in
+    let w = wanted (option_map (λ v. machine_of v.items) c.args.interfaces) c.args.is_guarded in
     let a = g.W.Write.contents c.args.writer.now in
     let d = g.W.Write.contents c.turn.new.writer in
     ends_early x z p r w c.args.files c.args.turns c.in-Err.fault a d c.in-Err.ensures.fault
@@ -50,7 +51,7 @@ returns-then-is_another g c =
     let p = g.F.Folders.done c.args.folders.now in
     let q = g.F.Folders.done c.loop-asks.folders in
     let r = g.F.Folders.done c.turn.new.folders in
-    let w = wanted (option_map (λ v. v.items) c.args.interfaces) c.args.is_guarded in
+    let w = wanted (option_map (λ v. machine_of v.items) c.args.interfaces) c.args.is_guarded in
     let e = follower_of c.loop-asks.asks c.loop-asks.follower in
     let f = follower_of (c.loop-asks.asks + 1) c.turn.new.follower in (
       turned x y z w (wanted_of c.loop-asks.follower) (AsksEntries start) (AsksEntries e) (stage_in f c.in-Ok-turn.due) Ended (g.W.Write.contents c.args.writer.now) (g.W.Write.contents c.loop-asks.writer)
@@ -70,7 +71,7 @@ loop-asks-preserved g c =
     let p = g.F.Folders.done c.args.folders.now in
     let q = g.F.Folders.done c.loop-asks.folders in
     let r = g.F.Folders.done c.turn.new.folders in
-    let w = wanted (option_map (λ v. v.items) c.args.interfaces) c.args.is_guarded in
+    let w = wanted (option_map (λ v. machine_of v.items) c.args.interfaces) c.args.is_guarded in
     let e = follower_of c.loop-asks.asks c.loop-asks.follower in
     let f = follower_of (c.loop-asks.asks + 1) c.turn.new.follower in
     record {

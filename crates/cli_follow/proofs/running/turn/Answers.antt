@@ -36,8 +36,8 @@ returns-in_err-write-in-Write-clause-stopped g c =
     let a = g.W.Write.contents c.args.writer.now in
     let b = g.W.Write.contents c.write.new.writer in
     let leads : Leads x y w s (due_in w f due.Write) = subst (λ d. Leads x y w s (due_in w f d)) c.in-Write.is c.in-Ok.ensures.due in
-    let front : AppendsFront a b (written_to w.file f).out =
-    subst (λ (u : Wanted). AppendsFront a b (written_to u.file f).out) c.ask.ensures.wanted (c.in_err-write-in-Write.ensures.front (c.args.asks + 1)) in
+    let front : AppendsFront a b (written_to w.machine f).out =
+    subst (λ (u : Wanted). AppendsFront a b (written_to u.machine f).out) c.ask.ensures.wanted (c.in_err-write-in-Write.ensures.front (c.args.asks + 1)) in
     if_err c.from_residual-in_err-write-in-Write.result (Stopped x y w s a b) (stopped_within x y w s (due_in w f due.Write) a b leads front)
 
 pub returns-in_ok-write-in-Write-clause-filed : goal.returns-in_ok-write-in-Write-clause-filed
@@ -49,8 +49,8 @@ returns-in_ok-write-in-Write-clause-filed g c =
     let f = follower_of (c.args.asks + 1) c.ask.new.follower in
     let f2 = follower_of (c.args.asks + 1) c.write.new.self in
     let leads : Leads x y w (AsksEntries e) (due_in w f due.Write) = subst (λ d. Leads x y w (AsksEntries e) (due_in w f d)) c.in-Write.is c.in-Ok.ensures.due in
-    let at : (written_to w.file f).stage ≡ AsksEntries f2 =
-    subst (λ (u : Wanted). (written_to u.file f).stage ≡ AsksEntries f2) c.ask.ensures.wanted (c.in_ok-write-in-Write.ensures.whole (c.args.asks + 1)).0 in
+    let at : (written_to w.machine f).stage ≡ AsksEntries f2 =
+    subst (λ (u : Wanted). (written_to u.machine f).stage ≡ AsksEntries f2) c.ask.ensures.wanted (c.in_ok-write-in-Write.ensures.whole (c.args.asks + 1)).0 in
     filed_due x y (g.F.Folders.done c.args.folders.now) (g.F.Folders.done c.write_texts.new.folders) w e f (stage_in f2 c.in-Ok.due) c.args.files.now c.write_texts.new.files leads
     (at ∙ ap (λ d. stage_in f2 d) (sym c.in-Write.is)) c.in_ok-write_texts-in-Write.ensures.written
 
