@@ -1,4 +1,5 @@
 pub mod Lines
+pub mod Actions
 pub mod Names
 pub mod Series
 pub mod Parts

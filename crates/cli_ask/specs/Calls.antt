@@ -1,16 +1,22 @@
 -- What is sent at a control socket for the arguments of `ask`.
-use Rattle.std.specs.Prelude.{ℕ, Bool, true, false, List, [], ◌∷◌, ◌++◌, ◌==◌, ◌||◌, Option, Some, None, nat_lt, codes}
-use Rattle.std.specs.Prelude.{decimal}
-use Rattle.std.specs.Prelude.{bytes_eq, is_some, option_map, unwrap_or, string_bytes, if◌then◌else◌}
+use Rattle.std.specs.Prelude.{ℕ, Bool, false, List, [], ◌∷◌, ◌++◌, ◌==◌, ◌||◌, Option, Some, None, nat_lt, codes}
+use Rattle.std.specs.Prelude.{Result, Ok, Err, decimal}
+use Rattle.std.specs.Prelude.{bytes_eq, is_some, unwrap_or, string_bytes, if◌then◌else◌}
 use Rattle.std.specs.List.{list_any}
 use Rattle.clap.specs.Words.{Row, Text, all_of, first_of}
 use Rattle.percent_encoding.specs.Percent.{percent_encode}
 use Rattle.percent_encoding.specs.declared.ascii_set.TheConstants.{NON_ALPHANUMERIC}
-use Rattle.pf_arguments.specs.Asked.{is_given}
-use Rattle.cli_ask.specs.Sending.{has_control, change_body, lines_of}
+use Rattle.pf_rules.specs.declared.profile.Profile.TheVariants.{Two}
+use Rattle.pf_entry.specs.Entry.{Command, load, spelling}
+use Rattle.pf_arguments.specs.Asked.{ActionValue, Change, CheckOnly, ShowRules, ShowTables, ShowAnchors, TableShow}
+use Rattle.pf_arguments.specs.Asked.{TableTest, asked, given_in, is_given}
+use Rattle.pf_scripts.specs.Ctl.{numbered}
+use Rattle.cli_ask.specs.Checking.{by_code, command_refusal}
+use Rattle.cli_ask.specs.Sending.{has_control, lines_of}
 use Rattle.cli_ask.specs.declared.call.Call.{Call}
 use Rattle.cli_ask.specs.declared.call.Kind.{Kind}
 use Rattle.cli_ask.specs.declared.call.Kind.TheVariants as kind
+use Rattle.cli_ask.specs.declared.checking.Refused.{Refused}
 use Rattle.cli_ask.specs.declared.target.TheConstants.{BUT_DOT}
 
 -- a request
@@ -70,35 +76,22 @@ path_with path word at = with_position at (path ++ percent_encode BUT_DOT word)
 
 -- ---- changes
 
--- an option and its value
-abbrev pub given : (option : Text) → Option Text → List Text
-given option None = []
-given option (Some value) = option ∷ value ∷ []
+-- a command that is sent: the bytes of its entry, whose origin and number the node doesn't use
+-- Source: the bytes of an entry, in pf_entry.
+abbrev pub entry_call : Command → Kind → Request
+entry_call command k = post (codes "/v1/entry") (spelling (record { origin = 0; number = 0; command = command })) k
 
--- behind a file's name its text is sent
-abbrev pub text_args : (file : Option Text) → List Text
-text_args None = []
-text_args (Some file) = codes "-f" ∷ codes "-" ∷ []
+-- a request, unless there is a refusal
+abbrev pub unless_refused : Option Refused → Request → Result Request Refused
+unless_refused None r = Ok r
+unless_refused (Some refused) r = Err refused
 
--- pfctl's arguments of a change
-abbrev pub change_args : List Row → (rest : List Text) → List Text
-change_args rows rest = given (codes "-a") (first_of (codes "path") rows)
-    ++ given (codes "-F") (first_of (codes "flush") rows) ++ given (codes "-t") (first_of (codes "table") rows)
-    ++ given (codes "-T") (first_of (codes "change") rows) ++ rest ++ text_args (first_of (codes "file") rows)
+-- a change; one whose ruleset the grammar refuses is refused, unless `--unchecked` is given
+abbrev pub change_call : (unchecked : Bool) → Command → Result Request Refused
+change_call unchecked command =
+    unless_refused (if unchecked then None else command_refusal command) (entry_call command kind.Change)
 
--- none where an argument can't be sent as one
-abbrev pub change_call : (args : List Text) → (text : List ℕ) → Option Request
-change_call args text = option_map (λ body. post (codes "/v1/changes") body kind.Change) (change_body args text)
-
--- ---- listings
-
--- the path that `-s` reads
-abbrev pub shown_path : (show : Text) → Option (List ℕ)
-shown_path show =
-    if bytes_eq show (codes "rules") then Some (codes "/v1/rules")
-    else if bytes_eq show (codes "Tables") then Some (codes "/v1/tables")
-    else if bytes_eq show (codes "Anchors") then Some (codes "/v1/anchors")
-    else None
+-- ---- what pfctl's options ask for
 
 abbrev pub list_call : List Row → (at : ℕ) → (path : List ℕ) → Request
 list_call rows at path = get (target_in path rows at) kind.List
@@ -107,33 +100,35 @@ list_call rows at path = get (target_in path rows at) kind.List
 abbrev pub lines_call : List Row → (at : ℕ) → (path : List ℕ) → (words : List Text) → Kind → Request
 lines_call rows at path words k = post (target_in path rows at) (lines_of words) k
 
--- what `-T` reads: the table, or whether addresses are in it
-abbrev pub table_call : List Row → (rest : List Text) → (at : ℕ) → (change : Text) → Option Request
-table_call rows rest at change =
-    if bytes_eq change (codes "show") then Some (list_call rows at (codes "/v1/table"))
-    else if bytes_eq change (codes "test") then Some (lines_call rows at (codes "/v1/table-test") rest kind.TableTest)
-    else None
+-- the request of an action, whose addresses are the rest of the arguments; what reads a ruleset and doesn't load it is
+-- refused with 40
+abbrev pub action_call : List Row → (rest : List Text) → (at : ℕ) → ActionValue → Result Request Refused
+action_call rows rest at (Change command) = change_call (is_given (first_of (codes "unchecked") rows)) command
+action_call rows rest at (CheckOnly path) = Err (by_code 40)
+action_call rows rest at (ShowRules path) = Ok (list_call rows at (codes "/v1/rules"))
+action_call rows rest at (ShowTables path) = Ok (list_call rows at (codes "/v1/tables"))
+action_call rows rest at ShowAnchors = Ok (list_call rows at (codes "/v1/anchors"))
+action_call rows rest at (TableShow path table) = Ok (list_call rows at (codes "/v1/table"))
+action_call rows rest at (TableTest path table list) =
+    Ok (lines_call rows at (codes "/v1/table-test") rest kind.TableTest)
 
-abbrev pub table_listing : List Row → (rest : List Text) → (at : ℕ) → (change : Option Text) → Option Request
-table_listing rows rest at None = None
-table_listing rows rest at (Some change) = table_call rows rest at change
+-- the same of an action, or of the number of its refusal
+abbrev pub asked_call : List Row → (rest : List Text) → (at : ℕ) → Result ActionValue ℕ → Result Request Refused
+asked_call rows rest at (Ok action) = action_call rows rest at action
+asked_call rows rest at (Err code) = Err (by_code code)
 
-abbrev pub listing_of : List Row → (rest : List Text) → (at : ℕ) → (show change : Option Text) → Option Request
-listing_of rows rest at (Some show) change = option_map (list_call rows at) (shown_path show)
-listing_of rows rest at None change = table_listing rows rest at change
-
--- what a listing sends; none where the arguments ask for no listing
-abbrev pub listing : List Row → (rest : List Text) → (at : ℕ) → Option Request
-listing rows rest at = listing_of rows rest at (first_of (codes "show") rows) (first_of (codes "change") rows)
+-- what pfctl's options ask for, with the text that `-f` names
+abbrev pub pfctl_call : List Row → (rest : List Text) → (text : List ℕ) → (at : ℕ) → Result Request Refused
+pfctl_call rows rest text at = asked_call rows rest at (numbered (asked (given_in rows) text))
 
 -- ---- a node's own subcommands
 
 abbrev pub read : (target : List ℕ) → Option Request
 read target = Some (get target kind.Read)
 
--- a command that changes nothing, since its text is refused wherever it is loaded
+-- a load that changes nothing, since its text is refused wherever it is loaded
 abbrev pub sync : Request
-sync = post (codes "/v1/changes") (codes "-f -\nsync\n") kind.Sync
+sync = entry_call (load [] Two (codes "sync\n")) kind.Sync
 
 -- a subcommand alone
 abbrev pub plain_call : List Row → (word : Text) → (at : ℕ) → Option Request
@@ -193,22 +188,18 @@ has_ruleset_option rows = is_some (first_of (codes "file") rows) || is_some (fir
 abbrev pub has_option : List Row → Bool
 has_option rows = has_table_option rows || has_ruleset_option rows
 
--- the first of two, else the other
-abbrev pub either : {X : Type 0} → Option X → Option X → Option X
-either None other = other
-either (Some x) other = Some x
+-- a request of the node's own; where there is none, the refusal 40
+abbrev pub known : Option Request → Result Request Refused
+known None = Err (by_code 40)
+known (Some r) = Ok r
 
-abbrev pub own_unless : (has_option : Bool) → List Row → (rest : List Text) → (at : ℕ) → Option Request
-own_unless true rows rest at = None
-own_unless false rows rest at = own_call rows rest at
-
--- The request: a listing, a subcommand of the node itself where no option of pfctl's is there, else a change. None
--- where an argument has a control character, or one of a change can't be sent as one.
-abbrev pub call_with : List Row → (rest : List Text) → (text : List ℕ) → (at : ℕ) → Option Request
+-- The request, or what the arguments are refused with: 40 where one of them has a control character. With an option of
+-- pfctl's it is what these options ask for, else a subcommand of the node itself.
+abbrev pub call_with : List Row → (rest : List Text) → (text : List ℕ) → (at : ℕ) → Result Request Refused
 call_with rows rest text at =
-    if list_any has_control rest || options_have_control rows then None
-    else either (listing rows rest at)
-    (either (own_unless (has_option rows) rows rest at) (change_call (change_args rows rest) text))
+    if list_any has_control rest || options_have_control rows then Err (by_code 40)
+    else if has_option rows then pfctl_call rows rest text at
+    else known (own_call rows rest at)
 
-abbrev pub call_of : List Row → (text : List ℕ) → (at : ℕ) → Option Request
+abbrev pub call_of : List Row → (text : List ℕ) → (at : ℕ) → Result Request Refused
 call_of rows text at = call_with rows (unwrap_or (all_of (codes "address") rows) []) text at

@@ -1,6 +1,6 @@
 -- What a run of `ask` asks and writes, and how it ends.
-use Rattle.std.specs.Prelude.{◌≡◌, ◌⊎◌, ℕ, Bool, true, false, ◌||◌, List, [], ◌∷◌, Option, Some, None, Ok, Err}
-use Rattle.std.specs.Prelude.{codes, bytes_eq}
+use Rattle.std.specs.Prelude.{◌≡◌, ◌⊎◌, ℕ, Bool, true, false, ◌||◌, List, [], ◌∷◌, Option, Some, None, Result}
+use Rattle.std.specs.Prelude.{Ok, Err, codes, bytes_eq}
 use Rattle.std.specs.Prelude.{nat_lt, is_some, unwrap_or, if◌then◌else◌}
 use Rattle.std.specs.Io.KnownBytes.{Appends}
 use Rattle.cli_io.specs.declared.status.Status.{Status}
@@ -13,13 +13,14 @@ use Rattle.cli_io.specs.Numbers.{number_at}
 use Rattle.clap.specs.Words.{Row, Text, all_of, first_of}
 use Rattle.cli_ask.specs.Answers.{is_done}
 use Rattle.cli_ask.specs.Asking.{Answered as Answer, Event, Adds, AskedAt}
-use Rattle.cli_ask.specs.Calls.{Request, call_of, has_option}
-use Rattle.cli_ask.specs.Checking.{by_code, refusal_of}
+use Rattle.cli_ask.specs.Calls.{Request, call_value, call_of, has_option}
+use Rattle.cli_ask.specs.Checking.{by_code}
 use Rattle.cli_ask.specs.Replies.{reply_value}
 use Rattle.cli_ask.specs.Scripts.{items_in, script_refusal}
 use Rattle.cli_ask.specs.Scripting.{AskedAll}
 use Rattle.cli_ask.specs.declared.checking.Refused as checking
 use Rattle.cli_ask.specs.declared.exchange.AskFault.TheVariants as fault
+use Rattle.cli_ask.specs.declared.call.Call.{Call}
 use Rattle.cli_ask.specs.declared.call.Kind.{Kind}
 use Rattle.cli_ask.specs.declared.exchange.Reply.{Reply}
 use Rattle.cli_ask.specs.declared.outcome.Outcome.{Outcome}
@@ -76,39 +77,38 @@ Replied k (Err fault.Memory) outcome = outcome ≡ Memory
 Replied k (Err fault.NoAnswer) outcome = outcome ≡ refusal 85
 Replied k (Err fault.BadAnswer) outcome = outcome ≡ refusal 86
 
--- the request that the arguments spell with this text; it waits for the positions of `--at`
-abbrev pub call_for : List Row → (text : List ℕ) → Option Request
+-- the request that the arguments ask for with this text; it waits for the positions of `--at`
+abbrev pub call_for : List Row → (text : List ℕ) → Result Request checking.Refused
 call_for rows text = call_of rows text (unwrap_or (number_at rows (codes "at")) 0)
+
+-- why no request is made: it is refused; out of memory isn't specified
+abbrev pub IsWhy : Result Request checking.Refused → Outcome → Type 0
+IsWhy call (Answered kind reply) = ⊥
+IsWhy call (Refused r) = call ≡ Err r
+IsWhy call Memory = Unit {0}
+IsWhy call Unread = ⊥
+
+-- the request, or why none is made
+abbrev pub IsCall : Result Call Outcome → Result Request checking.Refused → Type 0
+IsCall (Ok call) wanted = wanted ≡ Ok (call_value call)
+IsCall (Err outcome) wanted = IsWhy wanted outcome
 
 -- for how many seconds it is waited, by `--wait`
 abbrev pub seconds_of : List Row → ℕ
 seconds_of rows = unwrap_or (number_at rows (codes "wait")) 0
 
--- The request that the arguments spell is made, and gives this.
+-- The request that the arguments ask for is made, and gives this.
 pub record IsMade
     (given now : List Event → Type 0) (rows : List Row) (text : List ℕ) (outcome : Outcome) : Type 0 where
   pub call : Request
   pub answer : Answer
-  pub spelled : call_for rows text ≡ Some call
-  pub good : refusal_of call.kind rows text ≡ None
+  pub wanted : call_for rows text ≡ Ok call
   pub asked : AskedAt given now call (seconds_of rows) answer
   pub replied : Replied call.kind answer outcome
 
--- what a request that isn't made is refused with: 40 where the arguments spell none
-abbrev pub IsRefusedWith : Option Request → List Row → (text : List ℕ) → checking.Refused → Type 0
-IsRefusedWith None rows text r = r ≡ by_code 40
-IsRefusedWith (Some call) rows text r = refusal_of call.kind rows text ≡ Some r
-
--- why nothing is asked of these arguments and this text
-abbrev pub IsWhy : List Row → (text : List ℕ) → Outcome → Type 0
-IsWhy rows text (Answered kind reply) = ⊥
-IsWhy rows text (Refused r) = IsRefusedWith (call_for rows text) rows text r
-IsWhy rows text Memory = Unit {0}
-IsWhy rows text Unread = ⊥
-
 abbrev pub AsksWith : (given now : List Event → Type 0) → List Row → (text : List ℕ) → Outcome → Type 0
 AsksWith given now rows text outcome =
-    IsMade given now rows text outcome ⊎ (Adds given now [] × IsWhy rows text outcome)
+    IsMade given now rows text outcome ⊎ (Adds given now [] × IsWhy (call_for rows text) outcome)
 
 -- nothing is asked: `--from` is there without a script, or there is no text
 abbrev pub AsksNothing : (given now : List Event → Type 0) → List Row → Outcome → Type 0
@@ -116,7 +116,7 @@ AsksNothing given now rows outcome = Adds given now []
     × (((is_some (number_at rows (codes "from")) ≡ true) × (outcome ≡ refusal 40))
     ⊎ HasNoText (first_of (codes "file") rows) outcome)
 
--- What a run asks, and what that gives: the request that the arguments and the text spell, or nothing.
+-- What a run asks, and what that gives: the request that the arguments and the text ask for, or nothing.
 abbrev pub Asks : (given now : List Event → Type 0) → List Row → (is_text : Text → List ℕ → Type 0) → Outcome → Type 0
 Asks given now rows is_text outcome = AsksNothing given now rows outcome
     ⊎ ((text : List ℕ) × (IsNamed (first_of (codes "file") rows) is_text text × AsksWith given now rows text outcome))

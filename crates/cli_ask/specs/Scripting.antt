@@ -5,19 +5,27 @@ use Rattle.std.specs.Io.KnownBytes.{Appends}
 use Rattle.cli_io.specs.declared.status.Status.{Status}
 use Rattle.cli_io.specs.declared.status.Status.TheVariants as status
 use Rattle.cli_io.specs.Written.{line, AppendsFront, RanOut}
+use Rattle.pf_entry.specs.Entry.{Command}
+use Rattle.pf_arguments.specs.Asked.{is_too_long}
+use Rattle.pf_scripts.specs.Lines.{refused_line}
 use Rattle.cli_ask.specs.Answers.{begins, outcome_behind}
 use Rattle.cli_ask.specs.Asking.{Answered, Event, Adds, IsAskedAt}
-use Rattle.cli_ask.specs.Calls.{Request, change_call}
-use Rattle.cli_ask.specs.Scripts.{ScriptChange, Item, Bad, Found}
+use Rattle.cli_ask.specs.Calls.{Request, entry_call}
+use Rattle.cli_ask.specs.Scripts.{ScriptChange, Item, Bad, Found, command_in}
+use Rattle.cli_ask.specs.declared.call.Kind.TheVariants as kind
 use Rattle.cli_ask.specs.declared.exchange.AskFault.{AskFault}
 use Rattle.cli_ask.specs.declared.exchange.AskFault.TheVariants as fault
 use Rattle.cli_ask.specs.declared.scripting.Went.{Went}
 use Rattle.cli_ask.specs.declared.scripting.Went.TheVariants.{Made, Stopped}
 
--- what is sent for the arguments of a line, `pfctl` first, and the text behind it
-abbrev pub call_for : (words : List (List ℕ)) → (text : List ℕ) → Option Request
-call_for [] text = None
-call_for (pfctl ∷ args) text = change_call args text
+-- the request of a command, or the number of the refusal; a command that no entry has room for is 41
+abbrev pub sent_for : Result Command ℕ → Result Request ℕ
+sent_for (Ok command) = if is_too_long command then Err 41 else Ok (entry_call command kind.Change)
+sent_for (Err code) = Err code
+
+-- what is sent for a change, or the number of the refusal of its arguments
+abbrev pub call_for : ScriptChange → Result Request ℕ
+call_for c = sent_for (command_in c)
 
 -- how a change went, and what is printed of it
 pub record Printed : Type 0 where
@@ -46,17 +54,17 @@ went_by (Err f) = Err f
 abbrev pub GoesAs : (wanted got : Result Printed AskFault) → Type 0
 GoesAs wanted got = (got ≡ wanted) ⊎ (got ≡ Err fault.Memory)
 
--- a change that can't be sent
-abbrev pub unsent : Printed
-unsent = record { is_made = false; bytes = codes "refused 40\n" }
+-- a change whose arguments are refused
+abbrev pub unsent : (code : ℕ) → Printed
+unsent code = record { is_made = false; bytes = refused_line code 0 }
 
--- The change is asked, and goes by the answer; one that can't be sent is refused.
-abbrev pub IsMade : Option Request → (seconds : ℕ) → List Event → Result Printed AskFault → Type 0
-IsMade None seconds es went = (es ≡ []) × GoesAs (Ok unsent) went
-IsMade (Some call) seconds es went = ((es ≡ []) × (went ≡ Err fault.Memory))
+-- The change is asked, and goes by the answer; one whose arguments are refused isn't asked.
+abbrev pub IsMade : Result Request ℕ → (seconds : ℕ) → List Event → Result Printed AskFault → Type 0
+IsMade (Err code) seconds es went = (es ≡ []) × GoesAs (Ok (unsent code)) went
+IsMade (Ok call) seconds es went = ((es ≡ []) × (went ≡ Err fault.Memory))
     ⊎ ((answer : Answered) × (IsAskedAt call seconds es answer × GoesAs (went_by answer) went))
 
-abbrev pub Makes : (given now : List Event → Type 0) → Option Request → (seconds : ℕ) → Result Printed AskFault →
+abbrev pub Makes : (given now : List Event → Type 0) → Result Request ℕ → (seconds : ℕ) → Result Printed AskFault →
     Type 0
 Makes given now call seconds went = (es : List Event) × (Adds given now es × IsMade call seconds es went)
 
@@ -103,7 +111,7 @@ Shows (Err fault.BadAnswer) at ended old new =
 pub record AsksOne (c : ScriptChange) (seconds : ℕ) (es : List Event) (ended : Option Status)
     (old new : Option (List ℕ)) : Type 0 where
   pub went : Result Printed AskFault
-  pub made : IsMade (call_for c.words c.text) seconds es went
+  pub made : IsMade (call_for c) seconds es went
   pub shown : Shows went c.line ended old new
 
 -- ---- a script

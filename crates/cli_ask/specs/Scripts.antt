@@ -76,13 +76,17 @@ items_in script = items_from 1 None (lines script)
 abbrev pub behind_words : (at : ℕ) → Refused → Refused
 behind_words at r = record { code = r.code; line = min (at + r.line) (2 ^ 64 - 1) }
 
+-- the command of a change, or the number of the refusal of its arguments
+abbrev pub command_in : ScriptChange → Result Command ℕ
+command_in c = change_in c.words c.text
+
 abbrev pub change_refusal : (at : ℕ) → Result Command ℕ → Option Refused
 change_refusal at (Ok command) = option_map (behind_words at) (command_refusal command)
 change_refusal at (Err code) = Some (record { code = code; line = at })
 
--- what a change is refused for wherever it is asked
+-- what a change is refused for before a node is asked
 abbrev pub fault_of : ScriptChange → Option Refused
-fault_of c = change_refusal c.line (change_in c.words c.text)
+fault_of c = change_refusal c.line (command_in c)
 
 abbrev pub first_of : Option Refused → Option Refused → Option Refused
 first_of None later = later

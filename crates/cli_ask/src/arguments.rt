@@ -1,90 +1,28 @@
 //! What is sent at a control socket for an operator's arguments.
 
-ghost use Rattle.std.specs.Prelude.{◌≡◌, ◌++◌, IfOk, OnOk, false, map, option_map, string_bytes};
+ghost use Rattle.std.specs.Prelude.{◌≡◌, IfOk, false, map, option_map, string_bytes};
 ghost use Rattle.std.specs.List.{list_any};
 ghost use Rattle.clap.specs.Words.{found_of, rows_of};
+ghost use Rattle.pf_entry.specs.Owned.{command_value};
+ghost use Rattle.pf_arguments.specs.Answers.{action_value, IsShort};
+ghost use Rattle.pf_arguments.specs.Asked.{is_too_long};
 ghost use Rattle.cli_ask.specs.Sending.{has_control};
-ghost use Rattle.cli_ask.specs.Calls.{call_value, given, text_args, change_args, shown_path, list_call, lines_call};
-ghost use Rattle.cli_ask.specs.Calls.{table_call};
-ghost use Rattle.cli_ask.specs.Calls.{listing, read, sync, plain_call, valued_call, subcommand_call};
-ghost use Rattle.cli_ask.specs.Calls.{own_call, has_control_in, options_have_control, has_table_option};
-ghost use Rattle.cli_ask.specs.Calls.{has_ruleset_option, has_option, own_unless, call_with, call_of};
+ghost use Rattle.cli_ask.specs.Calls.{call_value, list_call, lines_call, entry_call, change_call, action_call};
+ghost use Rattle.cli_ask.specs.Calls.{pfctl_call, read, sync, plain_call, valued_call, subcommand_call, own_call};
+ghost use Rattle.cli_ask.specs.Calls.{has_control_in, options_have_control, has_table_option, has_ruleset_option};
+ghost use Rattle.cli_ask.specs.Calls.{has_option, call_with, call_of};
+ghost use Rattle.cli_ask.specs.Outcomes.{IsCall};
 
 use crate::call::{Call, Kind};
+use crate::checking::refused_command;
+use crate::outcome::{Outcome, refused};
 use crate::sending::{has_control, have_control, lines_of};
 use crate::target::{path_with, target_in};
 use clap::ArgMatches;
 use cli_io::{has_flag, value_in, values_in};
+use pf_arguments::{Action, USAGE, from_matches};
+use pf_entry::{Command, EncodeFault, Path, Profile};
 use std::alloc::{AllocError, Global};
-
-/// Adds an option and its value, if it has one.
-fn push_given<'m>(
-    args: &mut Vec<&'m str>,
-    option: &'m str,
-    value: Option<&'m str>,
-) -> Result<(), AllocError>
-    ensures { OnOk result (map (λ a. a.now) args.new.items
-        ≡ map (λ a. a.now) args.old.items ++ given option.now (option_map (λ v. v.now) value.entry)) }
-{
-    match value {
-        Some(value) => {
-            args.push(option)?;
-            args.push(value)?;
-            Ok(())
-        }
-        None => Ok(()),
-    }
-}
-
-/// Adds `-f -` for a file whose text is sent, if there is one.
-fn push_text(args: &mut Vec<&str>, file: Option<&str>) -> Result<(), AllocError>
-    ensures { OnOk result (map (λ a. a.now) args.new.items
-        ≡ map (λ a. a.now) args.old.items ++ text_args (option_map (λ f. f.now) file.entry)) }
-{
-    match file {
-        Some(_) => {
-            args.push("-f")?;
-            args.push("-")?;
-            Ok(())
-        }
-        None => Ok(()),
-    }
-}
-
-/// pfctl's arguments of a change.
-fn change_args<'m>(
-    alloc: Global,
-    matches: &'m ArgMatches<'_>,
-    rest: &'m [&'m str],
-) -> Result<Vec<&'m str>, AllocError>
-    ensures { IfOk result (λ args. map (λ a. a.now) args.items
-        ≡ change_args (rows_of (found_of matches.now)) (map (λ r. r.now) rest.now)) }
-{
-    let mut args = Vec::new(alloc);
-    push_given(&mut args, "-a", value_in(matches, "path"))?;
-    push_given(&mut args, "-F", value_in(matches, "flush"))?;
-    push_given(&mut args, "-t", value_in(matches, "table"))?;
-    push_given(&mut args, "-T", value_in(matches, "change"))?;
-    args.extend_from_slice(rest)?;
-    push_text(&mut args, value_in(matches, "file"))?;
-    Ok(args)
-}
-
-/// The path that `-s` reads.
-fn shown_path(show: &str) -> Option<&'static str>
-    ensures { option_map (λ p. p.now) result ≡ shown_path show.now }
-{
-    if show == "rules" {
-        return Some("/v1/rules");
-    }
-    if show == "Tables" {
-        return Some("/v1/tables");
-    }
-    if show == "Anchors" {
-        return Some("/v1/anchors");
-    }
-    None
-}
 
 /// What reads a path.
 fn list_call(
@@ -117,56 +55,94 @@ fn lines_call(
     Call::post(alloc, target.as_str(), body, kind)
 }
 
-/// What `-T` reads: the table, or whether addresses are in it.
-fn table_call(
-    alloc: Global,
-    matches: &ArgMatches<'_>,
-    rest: &[&str],
-    at: u32,
-    change: &str,
-) -> Result<Option<Call>, AllocError>
-    requires { list_any has_control (map (λ w. w.now) rest.now) ≡ false }
-    ensures { IfOk result (λ c. option_map call_value c
-        ≡ table_call (rows_of (found_of matches.now)) (map (λ r. r.now) rest.now) at change.now) }
+/// A command that an entry has room for.
+fn entry_call(alloc: Global, command: &Command, kind: Kind) -> Result<Call, AllocError>
+    requires { is_too_long (command_value command.now) ≡ false }
+    ensures { IfOk result (λ c. call_value c ≡ entry_call (command_value command.now) kind) }
 {
-    if change == "show" {
-        return Ok(Some(list_call(alloc, "/v1/table", matches, at)?));
-    }
-    if change == "test" {
-        return Ok(Some(lines_call(alloc, "/v1/table-test", matches, rest, at, Kind::TableTest)?));
-    }
-    Ok(None)
-}
-
-/// What a listing sends; none where the arguments ask for no listing.
-fn listing(
-    alloc: Global,
-    matches: &ArgMatches<'_>,
-    rest: &[&str],
-    at: u32,
-) -> Result<Option<Call>, AllocError>
-    requires { list_any has_control (map (λ w. w.now) rest.now) ≡ false }
-    ensures { IfOk result (λ c. option_map call_value c
-        ≡ listing (rows_of (found_of matches.now)) (map (λ r. r.now) rest.now) at) }
-{
-    if let Some(show) = value_in(matches, "show") {
-        return match shown_path(show) {
-            Some(path) => Ok(Some(list_call(alloc, path, matches, at)?)),
-            None => Ok(None),
-        };
-    }
-    match value_in(matches, "change") {
-        Some(change) => table_call(alloc, matches, rest, at, change),
-        None => Ok(None),
+    match Call::entry(alloc, command, kind) {
+        Ok(call) => Ok(call),
+        Err(EncodeFault::Memory) => Err(AllocError),
+        Err(EncodeFault::TooLong) => unreachable!(),
     }
 }
 
-/// A command that changes nothing, since its text is refused wherever it is loaded.
+/// The request of a change. A ruleset that the grammar refuses is refused, unless `is_unchecked`.
+fn change_call(alloc: Global, command: &Command, is_unchecked: bool) -> Result<Call, Outcome>
+    requires { is_too_long (command_value command.now) ≡ false }
+    ensures { IsCall result (change_call is_unchecked (command_value command.now)) }
+{
+    if !is_unchecked {
+        if let Some(refused) = refused_command(alloc, command)? {
+            return Err(Outcome::Refused(refused));
+        }
+    }
+    Ok(entry_call(alloc, command, Kind::Change)?)
+}
+
+/// The request of an action, whose addresses are the rest of the arguments.
+fn action_call(
+    alloc: Global,
+    action: &Action,
+    matches: &ArgMatches<'_>,
+    rest: &[&str],
+    at: u32,
+) -> Result<Call, Outcome>
+    requires short { IsShort action.now }
+    requires plain { list_any has_control (map (λ r. r.now) rest.now) ≡ false }
+    ensures { IsCall result
+        (action_call (rows_of (found_of matches.now)) (map (λ r. r.now) rest.now) at (action_value action.now)) }
+{
+    match action {
+        Action::Change(command) => change_call(alloc, command, has_flag(matches, "unchecked")),
+        Action::CheckOnly(_) => Err(refused(USAGE)),
+        Action::ShowRules(_) => Ok(list_call(alloc, "/v1/rules", matches, at)?),
+        Action::ShowTables(_) => Ok(list_call(alloc, "/v1/tables", matches, at)?),
+        Action::ShowAnchors => Ok(list_call(alloc, "/v1/anchors", matches, at)?),
+        Action::TableShow(_, _) => Ok(list_call(alloc, "/v1/table", matches, at)?),
+        Action::TableTest(_, _, _) => Ok(lines_call(
+            alloc,
+            "/v1/table-test",
+            matches,
+            rest,
+            at,
+            Kind::TableTest,
+        )?),
+    }
+}
+
+/// The request that pfctl's options ask for, with the text that `-f` names.
+#[tactic(auto, using(crate::proofs::Actions::fault_call))]
+fn pfctl_call(
+    alloc: Global,
+    matches: &ArgMatches<'_>,
+    rest: &[&str],
+    text: &[u8],
+    at: u32,
+) -> Result<Call, Outcome>
+    requires { list_any has_control (map (λ r. r.now) rest.now) ≡ false }
+    ensures { IsCall result
+        (pfctl_call (rows_of (found_of matches.now)) (map (λ r. r.now) rest.now) text.now at) }
+{
+    match from_matches(alloc, matches, text) {
+        Ok(action) => action_call(alloc, &action, matches, rest, at),
+        Err(fault) => match fault.code() {
+            Some(code) => Err(refused(code)),
+            None => Err(Outcome::Memory),
+        },
+    }
+}
+
+/// A load that changes nothing, since its text is refused wherever it is loaded.
 fn sync(alloc: Global) -> Result<Call, AllocError>
     ensures { IfOk result (λ c. call_value c ≡ sync) }
 {
-    let body = Vec::from_slice(alloc, b"-f -\nsync\n")?;
-    Call::post(alloc, "/v1/changes", body, Kind::Sync)
+    let command = Command::Load {
+        path: Path::main(alloc),
+        profile: Profile::Two,
+        text: Vec::from_slice(alloc, b"sync\n")?,
+    };
+    entry_call(alloc, &command, Kind::Sync)
 }
 
 /// What reads a target.
@@ -309,58 +285,40 @@ pub(crate) fn has_option(matches: &ArgMatches<'_>) -> bool
     has_table_option(matches) || has_ruleset_option(matches)
 }
 
-/// A subcommand of the node itself, where the arguments have no option of pfctl's.
-fn own_unless(
-    alloc: Global,
-    has_option: bool,
-    matches: &ArgMatches<'_>,
-    rest: &[&str],
-    at: u32,
-) -> Result<Option<Call>, AllocError>
-    requires { list_any has_control (map (λ w. w.now) rest.now) ≡ false }
-    ensures { IfOk result (λ c. option_map call_value c
-        ≡ own_unless has_option (rows_of (found_of matches.now)) (map (λ r. r.now) rest.now) at) }
-{
-    if has_option {
-        return Ok(None);
-    }
-    own_call(alloc, matches, rest, at)
-}
-
-/// What is sent for arguments of which `rest` belong to no option, none where one has a control character.
+/// The request of arguments of which `rest` belong to no option.
 fn call_with(
     alloc: Global,
     matches: &ArgMatches<'_>,
     rest: &[&str],
     text: &[u8],
     at: u32,
-) -> Result<Option<Call>, AllocError>
-    ensures { IfOk result (λ c. option_map call_value c
-        ≡ call_with (rows_of (found_of matches.now)) (map (λ r. r.now) rest.now) text.now at) }
+) -> Result<Call, Outcome>
+    ensures { IsCall result
+        (call_with (rows_of (found_of matches.now)) (map (λ r. r.now) rest.now) text.now at) }
 {
     if have_control(rest) || options_have_control(matches) {
-        return Ok(None);
+        return Err(refused(USAGE));
     }
-    if let Some(call) = listing(alloc, matches, rest, at)? {
-        return Ok(Some(call));
+    if has_option(matches) {
+        return pfctl_call(alloc, matches, rest, text, at);
     }
-    if let Some(call) = own_unless(alloc, has_option(matches), matches, rest, at)? {
-        return Ok(Some(call));
+    match own_call(alloc, matches, rest, at)? {
+        Some(call) => Ok(call),
+        None => Err(refused(USAGE)),
     }
-    let args = change_args(alloc, matches, rest)?;
-    Call::change(alloc, args.as_slice(), text)
 }
 
-/// What is sent for the arguments, with the text that `-f` names: a listing, a subcommand of the node itself where the
-/// arguments have no option of pfctl's, else a change. None where an argument has a control character, or one of a
-/// change can't be sent as one argument: that is refused with 40.
+/// The request that the arguments ask for, with the text that `-f` names: what pfctl's options ask for, or without
+/// these a subcommand of the node itself. It is refused with 40 where an argument has a control character, as pfctl's
+/// arguments are (40, 24, 1 to 3, 41), and with what the grammar refuses of a ruleset (10 to 19), unless `--unchecked`
+/// is given.
 pub(crate) fn call_in(
     alloc: Global,
     matches: &ArgMatches<'_>,
     text: &[u8],
     at: u32,
-) -> Result<Option<Call>, AllocError>
-    ensures { IfOk result (λ c. option_map call_value c ≡ call_of (rows_of (found_of matches.now)) text.now at) }
+) -> Result<Call, Outcome>
+    ensures { IsCall result (call_of (rows_of (found_of matches.now)) text.now at) }
 {
     let rest = values_in(matches, "address");
     call_with(alloc, matches, rest, text, at)

@@ -1,9 +1,12 @@
 //! What is sent at a control socket.
 
-ghost use Rattle.std.specs.Prelude.{◌≡◌, IfOk, map, option_map, string_bytes};
-ghost use Rattle.cli_ask.specs.Calls.{call_value, change_call, get, post};
+ghost use Rattle.std.specs.Prelude.{◌≡◌, IfOk, IsErrOf, OnOk, false, string_bytes, true};
+ghost use Rattle.pf_entry.specs.Owned.{command_value};
+ghost use Rattle.pf_entry.specs.declared.fault.EncodeFault.TheVariants.{TooLong};
+ghost use Rattle.pf_arguments.specs.Asked.{is_too_long};
+ghost use Rattle.cli_ask.specs.Calls.{call_value, entry_call, get, post};
 
-use crate::sending::change_body;
+use pf_entry::{Command, EncodeFault, encode_asked};
 use std::alloc::{AllocError, Global};
 
 /// What a request is for.
@@ -79,17 +82,13 @@ impl Call {
         })
     }
 
-    /// A change, of pfctl's arguments and the text of `-f`; none where an argument can't be sent as one.
-    pub(crate) fn change(
-        alloc: Global,
-        args: &[&str],
-        text: &[u8],
-    ) -> Result<Option<Call>, AllocError>
-        ensures { IfOk result (λ c. option_map call_value c ≡ change_call (map (λ a. a.now) args.now) text.now) }
+    /// A command, as the bytes of its entry. `TooLong` where no entry of it has a spelling.
+    pub(crate) fn entry(alloc: Global, command: &Command, kind: Kind) -> Result<Call, EncodeFault>
+        ensures call { IfOk result (λ c. call_value c ≡ entry_call (command_value command.now) kind) }
+        ensures short { OnOk result (is_too_long (command_value command.now) ≡ false) }
+        ensures long { IsErrOf result TooLong → is_too_long (command_value command.now) ≡ true }
     {
-        let Some(body) = change_body(alloc, args, text)? else {
-            return Ok(None);
-        };
-        Ok(Some(Call::post(alloc, "/v1/changes", body, Kind::Change)?))
+        let bytes = encode_asked(alloc, 0, 0, command)?;
+        Ok(Call::post(alloc, "/v1/entry", bytes, kind)?)
     }
 }

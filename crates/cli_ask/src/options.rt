@@ -27,7 +27,7 @@ const WAIT: &str = "Seconds to wait for the outcome, 0 to 3600";
 const AT: &str = "Waits until the node has applied this many positions, 0 to 1000000";
 
 const UNCHECKED: &str =
-    "Sends a change unchecked; by default it is checked before the node is asked";
+    "Sends a ruleset unchecked; by default it is checked before the node is asked";
 
 const SCRIPT: &str =
     "A file (- the input) of changes in the form of ctl's, each sent once the outcome of the one before is known";

@@ -26,6 +26,16 @@ pub(crate) enum Outcome {
     Unread,
 }
 
+impl From<AllocError> for Outcome {
+    ghost use Rattle.cli_ask.specs.declared.outcome.Outcome.TheVariants.{Memory};
+
+    ghost from_gives = { λ _ e. e ≡ Memory };
+
+    fn from(_error: AllocError) -> Outcome {
+        Outcome::Memory
+    }
+}
+
 /// A refusal without a line.
 pub(crate) fn refused(code: u8) -> Outcome
     ensures { result ≡ refusal code }
@@ -34,7 +44,7 @@ pub(crate) fn refused(code: u8) -> Outcome
 }
 
 /// The line of a refusal.
-fn refusal_line(alloc: Global, refused: Refused) -> Result<String, AllocError>
+pub(crate) fn refusal_line(alloc: Global, refused: Refused) -> Result<String, AllocError>
     ensures { IfOk result (λ line. string_bytes line ≡ refused_line refused.code refused.line) }
 {
     let mut line = String::new(alloc);

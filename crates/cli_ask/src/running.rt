@@ -14,7 +14,7 @@ ghost use Rattle.cli_ask.specs.Running.{Ran};
 use crate::arguments::{call_in, has_option};
 use crate::asking::{Pauses, ask_at};
 use crate::call::Kind;
-use crate::checking::{Refused, refusal_of};
+use crate::checking::Refused;
 use crate::commands::is_command;
 use crate::control::{Control, Direct};
 use crate::exchange::{AskFault, Reply};
@@ -28,6 +28,7 @@ use cli_io::{
     InputFault, Sources, Status, UNREADABLE, given_in, has_flag, misused, number_in, out_of_memory,
     source_named, value_in, values_in,
 };
+use pf_arguments::USAGE;
 use std::alloc::{AllocError, Global};
 use std::convert::AsStr;
 use std::io::{Read, Write};
@@ -84,7 +85,7 @@ fn replied<E: Write>(kind: Kind, answer: Result<Reply, AskFault>, errors: &mut E
     }
 }
 
-/// Makes the request that the arguments spell with this text.
+/// Makes the request that the arguments ask for with this text.
 fn ask_with<RT: Pauses + Clock, C: Control, E: Write>(
     rt: &RT,
     alloc: Global,
@@ -98,15 +99,9 @@ fn ask_with<RT: Pauses + Clock, C: Control, E: Write>(
 {
     let at = number_in(matches, "at").unwrap_or(0);
     let call = match call_in(alloc, matches, text, at) {
-        Ok(Some(call)) => call,
-        Ok(None) => return refused(40),
-        Err(_) => return Outcome::Memory,
+        Ok(call) => call,
+        Err(outcome) => return outcome,
     };
-    match refusal_of(alloc, matches, call.kind, text) {
-        Ok(None) => {}
-        Ok(Some(refused)) => return Outcome::Refused(refused),
-        Err(_) => return Outcome::Memory,
-    }
     let seconds = number_in(matches, "wait").unwrap_or(0);
     let answer = ask_at(rt, alloc, control, &call, seconds);
     replied(call.kind, answer, errors)
@@ -125,7 +120,7 @@ fn outcome_of<RT: Pauses + Clock + Sources, C: Control, R: Read, E: Write>(
         (IsText (RT.has rt.now) (R.remaining reader.old)) result }
 {
     if number_in(matches, "from").is_some() {
-        return refused(40);
+        return refused(USAGE);
     }
     match text_for(rt, alloc, value_in(matches, "file"), reader) {
         Ok(text) => ask_with(rt, alloc, matches, control, text.as_slice(), errors),
@@ -194,7 +189,7 @@ fn script_in<T: Sources, R: Read>(
         (IsText (T.has sources.now) (R.remaining reader.old)) outcome) }
 {
     if has_others(matches) {
-        return Err(refused(40));
+        return Err(refused(USAGE));
     }
     let script = match text_for(sources, alloc, Some(file), reader) {
         Ok(script) => script,
@@ -236,7 +231,7 @@ fn run_script<RT: Pauses + Clock + Sources, C: Control, R: Read, W: Write, E: Wr
     }
 }
 
-/// Asks at a control socket what the arguments spell, and writes what that gives.
+/// Asks at a control socket what the arguments ask for, and writes what that gives.
 fn run_at<RT: Pauses + Clock + Sources, C: Control, R: Read, W: Write, E: Write>(
     rt: &RT,
     alloc: Global,
@@ -270,11 +265,12 @@ fn run_at<RT: Pauses + Clock + Sources, C: Control, R: Read, W: Write, E: Write>
 }
 
 /// What the subcommand `ask` with `--control` asks for, the program's name first: a request at a node's control socket,
-/// whose answer is written; with `--script` each change of a script, one after the other. Arguments of a change that
-/// are refused wherever they are asked (40, 24, 1 to 3, 41), and a ruleset that the grammar refuses, are refused before
-/// the node is asked, unless `--unchecked` is among them. An argument with a control character is refused (40) in any
-/// case. 85 where nobody answers at the socket, 86 where the answer is cut short or none. `peer` is directed to the
-/// path of `--control`, and is asked nothing else.
+/// whose answer is written; with `--script` each change of a script, one after the other. A change is sent as the bytes
+/// of its entry. Before a node is asked, arguments are refused that ask for nothing (40, 24, 1 to 3, 41), as is an
+/// argument with a control character (40), and, unless `--unchecked` is given, a ruleset that the grammar refuses (10
+/// to 19). The changes of a script are refused so before the first of them is sent; with `--unchecked` each is refused
+/// for its arguments when its turn comes. 85 where nobody answers at the socket, 86 where the answer is cut short or
+/// none. `peer` is directed to the path of `--control`, and is asked nothing else.
 ///
 /// The status is 1 where a change was refused or its outcome isn't known in time, where not all addresses of `-T test`
 /// match, and of every refusal. Messages on `errors` are how many positions are left once few are, and, where that
@@ -311,7 +307,7 @@ pub fn run_control_ask<
         return Status::Usage;
     };
     let Some(path) = value_in(inner, "control") else {
-        return write_outcome(alloc, refused(40), writer);
+        return write_outcome(alloc, refused(USAGE), writer);
     };
     peer.direct(path);
     run_at(rt, alloc, inner, peer, reader, writer, errors, is_terminal)

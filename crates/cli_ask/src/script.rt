@@ -1,13 +1,17 @@
 //! The changes of a script in the form of `ctl`'s.
 
 ghost use Rattle.std.specs.Prelude.{◌≡◌, ◌<◌, ◌≤◌, Some, None, IfOk, IfErr, IfSome, OnOk, length, map, option_map};
+ghost use Rattle.pf_entry.specs.Owned.{command_value};
+ghost use Rattle.pf_scripts.specs.WordsRead.{IsAskedAs};
 ghost use Rattle.cli_ask.specs.Calls.{call_value};
 ghost use Rattle.cli_ask.specs.Scripting.{call_for};
 ghost use Rattle.cli_ask.specs.Scripts.{items_left, items_in, change_value, found, begun_at, is_pfctl, IsBadAt};
-ghost use Rattle.cli_ask.specs.Scripts.{fault_of, script_refusal};
+ghost use Rattle.cli_ask.specs.Scripts.{command_in, fault_of, script_refusal};
 
-use crate::call::Call;
+use crate::call::{Call, Kind};
 use crate::checking::{Refused, refused_command};
+use pf_arguments::USAGE;
+use pf_entry::Command;
 use pf_scripts::{ChangeFault, cut_line, push_bytes, read_change, takes_text, words_in};
 use std::alloc::{AllocError, Global};
 
@@ -120,12 +124,19 @@ pub(crate) fn next_change<'a>(
 }
 
 impl Change<'_> {
-    /// What it is refused for wherever it is asked, with the line of the script: 40, 24, 1 to 3, 41, and what the
+    /// The command that it asks for.
+    fn command(&self, alloc: Global) -> Result<Command, ChangeFault>
+        ensures { IsAskedAs result command_value (command_in (change_value self.now)) }
+    {
+        read_change(alloc, self.words.as_slice(), self.text.as_slice())
+    }
+
+    /// What it is refused for before a node is asked, with the line of the script: 40, 24, 1 to 3, 41, and what the
     /// grammar refuses of a ruleset.
     pub(crate) fn fault(&self, alloc: Global) -> Result<Option<Refused>, AllocError>
         ensures { IfOk result (λ r. r ≡ fault_of (change_value self.now)) }
     {
-        match read_change(alloc, self.words.as_slice(), self.text.as_slice()) {
+        match self.command(alloc) {
             Ok(command) => match refused_command(alloc, &command) {
                 Ok(None) => Ok(None),
                 Ok(Some(found)) => Ok(Some(Refused {
@@ -142,14 +153,19 @@ impl Change<'_> {
         }
     }
 
-    /// What is sent for it; none where an argument has a control character.
-    pub(crate) fn call(&self, alloc: Global) -> Result<Option<Call>, AllocError>
-        ensures { IfOk result (λ c. option_map call_value c
-            ≡ call_for (map (λ w. w.now) self.now.words.items) self.now.text.items) }
+    /// What is sent for it, whatever the grammar says of its ruleset.
+    pub(crate) fn call(&self, alloc: Global) -> Result<Call, ChangeFault>
+        ensures { IsAskedAs result call_value (call_for (change_value self.now)) }
     {
-        match self.words.as_slice() {
-            [_, args @ ..] => Call::change(alloc, args, self.text.as_slice()),
-            [] => Ok(None),
+        match self.command(alloc) {
+            Ok(command) => match Call::entry(alloc, &command, Kind::Change) {
+                Ok(call) => Ok(call),
+                Err(fault) => match fault.code() {
+                    Some(code) => Err(ChangeFault::Refused(code)),
+                    None => Err(ChangeFault::Memory),
+                },
+            },
+            Err(fault) => Err(fault),
         }
     }
 }
@@ -175,7 +191,7 @@ pub(crate) fn refused_script(
                     return Ok(Some(refused));
                 }
             },
-            Err(ScriptFault::Line(line)) => return Ok(Some(Refused { code: 40, line })),
+            Err(ScriptFault::Line(line)) => return Ok(Some(Refused { code: USAGE, line })),
             Err(ScriptFault::Memory) => return Err(AllocError),
         }
     }

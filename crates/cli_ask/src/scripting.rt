@@ -1,18 +1,21 @@
 //! A script's changes are asked at a control socket, one after the other.
 
-ghost use Rattle.std.specs.Prelude.{◌≡◌, IfOk, map};
+ghost use Rattle.std.specs.Prelude.{◌≡◌, IfOk};
 ghost use Rattle.cli_ask.specs.Answers.{outcome_behind};
 ghost use Rattle.cli_ask.specs.Scripts.{change_value, items_in};
-ghost use Rattle.cli_ask.specs.Scripting.{call_for, printed, went_value, went_by_outcome, Makes};
+ghost use Rattle.cli_ask.specs.Scripting.{call_for, printed, unsent, went_value, went_by_outcome, Makes};
 ghost use Rattle.cli_ask.specs.Scripting.{end_text, Ended, AskedOne, AskedAll};
 
 use crate::answers::outcome_behind;
 use crate::asking::{Pauses, ask_at};
+use crate::checking::Refused;
 use crate::control::Control;
 use crate::exchange::{AskFault, Reply};
+use crate::outcome::refusal_line;
 use crate::reporting::{report_left, report_line};
 use crate::script::{Change, Left, ScriptFault, next_change};
 use cli_io::{Status, out_of_memory, write_bytes};
+use pf_scripts::ChangeFault;
 use std::alloc::{AllocError, Global};
 use std::io::Write;
 use std::time::Clock;
@@ -53,7 +56,15 @@ fn went_by(alloc: Global, reply: Reply) -> Result<Went, AllocError>
     Ok(Went::Stopped(reply.body))
 }
 
-/// Asks one change, and waits for what comes of it.
+/// What is printed of a change whose arguments are refused.
+fn unsent(alloc: Global, code: u8) -> Result<Went, AllocError>
+    ensures { IfOk result (λ went. printed went ≡ unsent code) }
+{
+    let line = refusal_line(alloc, Refused { code, line: 0 })?;
+    Ok(Went::Stopped(line.into_bytes()))
+}
+
+/// Asks one change, and waits for what comes of it. With `--unchecked` its arguments may be refused here.
 fn make<RT: Pauses + Clock, C: Control, E: Write>(
     rt: &RT,
     alloc: Global,
@@ -63,10 +74,12 @@ fn make<RT: Pauses + Clock, C: Control, E: Write>(
     errors: &mut E,
 ) -> Result<Went, AskFault>
     ensures { Makes (C.exchanged control.old) (C.exchanged control.new)
-        (call_for (map (λ w. w.now) change.now.words.items) change.now.text.items) seconds (went_value result) }
+        (call_for (change_value change.now)) seconds (went_value result) }
 {
-    let Some(call) = change.call(alloc)? else {
-        return Ok(Went::Stopped(Vec::from_slice(alloc, b"refused 40\n")?));
+    let call = match change.call(alloc) {
+        Ok(call) => call,
+        Err(ChangeFault::Refused(code)) => return Ok(unsent(alloc, code)?),
+        Err(ChangeFault::Memory) => return Err(AskFault::Memory),
     };
     match ask_at(rt, alloc, control, &call, seconds) {
         Ok(reply) => {

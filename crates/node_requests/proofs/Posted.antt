@@ -8,7 +8,8 @@ use Rattle.std.proofs.Common.{true≢false}
 use Rattle.std.proofs.lemmas.Slice.Eq.{bytes_eq-Decides}
 use Rattle.clap.specs.Words.{Text, Row, first_of}
 use Rattle.pf_addr.specs.declared.fault.AddrFault.TheVariants.{BadNumber, BadShape, BadLength}
-use Rattle.pf_entry.specs.Entry.{Command}
+use Rattle.pf_entry.specs.Entry.{Command, Entry}
+use Rattle.pf_entry.specs.Reading.{reading}
 use Rattle.pf_arguments.specs.Asked.{Asked as Answer, ActionValue, Change, CheckOnly, ShowRules, ShowTables, ShowAnchors, TableShow, TableTest, asked, given_in}
 use Rattle.pf_arguments.specs.declared.fault.CommandFault.TheVariants.{Memory, Usage, BadPath, BadAddress, TooLong}
 use Rattle.pf_scripts.specs.Ctl.{numbered, asked_at as action_at, is_standard, rows_in}
@@ -20,11 +21,11 @@ use Rattle.node_requests.specs.Queries.{parameters, are_parameters}
 use Rattle.node_requests.specs.Targets.{plain_target, method_of}
 use Rattle.node_requests.specs.declared.routing.TheConstants.{PACKETS_MAX}
 use Rattle.node_requests.specs.Routing.{RoutedValue, Asked, Refused, Unread, Changes, Reads, Stops, is_newline}
-use Rattle.node_requests.specs.Routing.{changes_if, change_of, change_asked, showing, on_table, looked_up, lists, lists_if, test_of, target_asked}
+use Rattle.node_requests.specs.Routing.{changes_if, change_of, change_asked, change_by, entry_asked, showing, on_table, looked_up, lists, lists_if, test_of, target_asked}
 use Rattle.node_requests.specs.Routing.{asked_by, request_number}
 use Rattle.node_requests.specs.Routing.{reads, Verdicts, RequestStatus, asked_at, status_for, behind, routed_behind, routed, lines_in}
 use Rattle.node_requests.specs.Answers.{status_of}
-use Rattle.node_requests.specs.Posting.{PostsChange, PostsStop, refused_with, is_of_clients}
+use Rattle.node_requests.specs.Posting.{PostsArguments, PostsEntry, PostsChange, PostsStop, refused_with, is_of_clients}
 
 -- ---- what is refused
 
@@ -110,6 +111,7 @@ request_statuses (Some r) method query =
 abbrev is_changes : Option Target → Bool
 is_changes None = false
 is_changes (Some to.Changes) = true
+is_changes (Some to.Entry) = false
 is_changes (Some to.Requests) = false
 is_changes (Some to.Rules) = false
 is_changes (Some to.Tables) = false
@@ -128,6 +130,7 @@ is_changes (Some to.Stop) = false
 abbrev is_stop : Option Target → Bool
 is_stop None = false
 is_stop (Some to.Changes) = false
+is_stop (Some to.Entry) = false
 is_stop (Some to.Requests) = false
 is_stop (Some to.Rules) = false
 is_stop (Some to.Tables) = false
@@ -143,6 +146,25 @@ is_stop (Some to.Ready) = false
 is_stop (Some to.Metrics) = false
 is_stop (Some to.Stop) = true
 
+abbrev is_entry : Option Target → Bool
+is_entry None = false
+is_entry (Some to.Changes) = false
+is_entry (Some to.Entry) = true
+is_entry (Some to.Requests) = false
+is_entry (Some to.Rules) = false
+is_entry (Some to.Tables) = false
+is_entry (Some to.Anchors) = false
+is_entry (Some to.Table) = false
+is_entry (Some to.TableTest) = false
+is_entry (Some to.Test) = false
+is_entry (Some to.Log) = false
+is_entry (Some to.Entries) = false
+is_entry (Some to.Status) = false
+is_entry (Some to.Health) = false
+is_entry (Some to.Ready) = false
+is_entry (Some to.Metrics) = false
+is_entry (Some to.Stop) = false
+
 -- the first that passes its test
 abbrev picked : List (Bool × Target) → Option Target
 picked [] = None
@@ -152,6 +174,7 @@ picked (x ∷ xs) = if x.0 then Some x.1 else picked xs
 abbrev tests_of : (path : List ℕ) → List (Bool × Target)
 tests_of path =
     (bytes_eq path (codes "/v1/changes"), to.Changes)
+    ∷ (bytes_eq path (codes "/v1/entry"), to.Entry)
     ∷ (bytes_eq path (codes "/v1/rules"), to.Rules)
     ∷ (bytes_eq path (codes "/v1/tables"), to.Tables)
     ∷ (bytes_eq path (codes "/v1/anchors"), to.Anchors)
@@ -185,6 +208,9 @@ found p ((false, t) ∷ xs) n h = or_right (p (Some t) && false) _ (found p xs n
 at_changes : (path : List ℕ) → is_changes (plain_target path) ≡ true → path ≡ codes "/v1/changes"
 at_changes path h = (bytes_eq-Decides path (codes "/v1/changes")).0 (or_none _ (found is_changes (tests_of path) refl h))
 
+at_entry : (path : List ℕ) → is_entry (plain_target path) ≡ true → path ≡ codes "/v1/entry"
+at_entry path h = (bytes_eq-Decides path (codes "/v1/entry")).0 (or_none _ (found is_entry (tests_of path) refl h))
+
 at_stop : (path : List ℕ) → is_stop (plain_target path) ≡ true → path ≡ codes "/v1/stop"
 at_stop path h = (bytes_eq-Decides path (codes "/v1/stop")).0 (or_none _ (found is_stop (tests_of path) refl h))
 
@@ -193,13 +219,18 @@ at_stop path h = (bytes_eq-Decides path (codes "/v1/stop")).0 (or_none _ (found 
 abbrev Post : (at : List ℕ) → (m p q : List ℕ) → Type 0
 Post at m p q = (m ≡ codes "POST") × (p ≡ at) × (parameters q ≡ [])
 
--- nothing is changed, or it is a change, or an end
+-- nothing is changed, or it is a change, as arguments or as an entry, or an end
 abbrev Outcome : (m p q b : List ℕ) → RoutedValue → Type 0
-Outcome m p q b v = (still v ≡ true) ⊎ ((Post (codes "/v1/changes") m p q × (v ≡ change_asked b)) ⊎ (Post (codes "/v1/stop") m p q × (v ≡ Asked Stops)))
+Outcome m p q b v = (still v ≡ true) ⊎ ((Post (codes "/v1/changes") m p q × (v ≡ change_asked b))
+    ⊎ ((Post (codes "/v1/entry") m p q × (v ≡ entry_asked b)) ⊎ (Post (codes "/v1/stop") m p q × (v ≡ Asked Stops))))
 
 none_for_changes : (ps : List (Text × Text)) → are_parameters to.Changes ps ≡ true → ps ≡ []
 none_for_changes [] e = refl
 none_for_changes (p ∷ ps) e = cc
+
+none_for_entry : (ps : List (Text × Text)) → are_parameters to.Entry ps ≡ true → ps ≡ []
+none_for_entry [] e = refl
+none_for_entry (p ∷ ps) e = cc
 
 none_for_stop : (ps : List (Text × Text)) → are_parameters to.Stop ps ≡ true → ps ≡ []
 none_for_stop [] e = refl
@@ -215,11 +246,21 @@ changes m p q b j at =
       | false ↦ λ is. inl refl
     ]) refl
 
+entries : (m p q b : List ℕ) (j : Bool) → p ≡ codes "/v1/entry" → Outcome m p q b (asked_by m (Some to.Entry) q b j)
+entries m p q b j at =
+    (elim (bytes_eq m (codes "POST")) as (λ x. bytes_eq m (codes "POST") ≡ x → Outcome m p q b (if x then target_asked to.Entry q b j else Refused 405)) [
+      | true ↦ λ is. (elim (are_parameters to.Entry (parameters q)) as (λ y. are_parameters to.Entry (parameters q) ≡ y → Outcome m p q b (if y then entry_asked b else Refused 400)) [
+        | true ↦ λ bare. inr (inr (inl (((bytes_eq-Decides m (codes "POST")).0 is, at, none_for_entry (parameters q) bare), refl)))
+        | false ↦ λ bare. inl refl
+      ]) refl
+      | false ↦ λ is. inl refl
+    ]) refl
+
 stops : (m p q b : List ℕ) (j : Bool) → p ≡ codes "/v1/stop" → Outcome m p q b (asked_by m (Some to.Stop) q b j)
 stops m p q b j at =
     (elim (bytes_eq m (codes "POST")) as (λ x. bytes_eq m (codes "POST") ≡ x → Outcome m p q b (if x then target_asked to.Stop q b j else Refused 405)) [
       | true ↦ λ is. (elim (are_parameters to.Stop (parameters q)) as (λ y. are_parameters to.Stop (parameters q) ≡ y → Outcome m p q b (if y then Asked Stops else Refused 400)) [
-        | true ↦ λ bare. inr (inr (((bytes_eq-Decides m (codes "POST")).0 is, at, none_for_stop (parameters q) bare), refl))
+        | true ↦ λ bare. inr (inr (inr (((bytes_eq-Decides m (codes "POST")).0 is, at, none_for_stop (parameters q) bare), refl)))
         | false ↦ λ bare. inl refl
       ]) refl
       | false ↦ λ is. inl refl
@@ -228,6 +269,7 @@ stops m p q b j at =
 at_target : (m p q b : List ℕ) (j : Bool) (t : Option Target) → plain_target p ≡ t → Outcome m p q b (asked_by m t q b j)
 at_target m p q b j None e = inl refl
 at_target m p q b j (Some to.Changes) e = changes m p q b j (at_changes p (ap is_changes e))
+at_target m p q b j (Some to.Entry) e = entries m p q b j (at_entry p (ap is_entry e))
 at_target m p q b j (Some to.Requests) e = inl (plain m q b j to.Requests refl)
 at_target m p q b j (Some to.Rules) e = inl (plain m q b j to.Rules (listings (parameters q) (asked (showing (parameters q) (codes "rules")) [])))
 at_target m p q b j (Some to.Tables) e = inl (plain m q b j to.Tables (listings (parameters q) (asked (showing (parameters q) (codes "Tables")) [])))
@@ -272,7 +314,7 @@ some_change (Ok c) command e = let same : Some c ≡ Some command = e in cc
 some_change (Err code) command e = let none : None ≡ Some command = e in cc
 
 change_from : (m p q b : List ℕ) (o : Option (List Text)) (command : Command) → words_in (before_first is_newline b) ≡ o →
-    Post (codes "/v1/changes") m p q → asked_in (change_of o (after_first is_newline b)) ≡ Some command → PostsChange m p q b command
+    Post (codes "/v1/changes") m p q → asked_in (change_of o (after_first is_newline b)) ≡ Some command → PostsArguments m p q b command
 change_from m p q b None command is post e = let none : None ≡ Some command = e in cc
 change_from m p q b (Some ws) command is post e = record {
   posted = post.0;
@@ -283,6 +325,18 @@ change_from m p q b (Some ws) command is post e = record {
   asks = some_change (change_in (codes "pfctl" ∷ ws) (after_first is_newline b)) command e;
 }
 
+entry_from : (m p q b : List ℕ) (o : Option Entry) (command : Command) → reading b ≡ o → Post (codes "/v1/entry") m p q →
+    asked_in (change_by o) ≡ Some command → PostsEntry m p q b command
+entry_from m p q b None command is post e = let none : None ≡ Some command = e in cc
+entry_from m p q b (Some x) command is post e = record {
+  posted = post.0;
+  there = post.1;
+  bare = post.2;
+  entry = x;
+  read = is;
+  asks = let same : Some x.command ≡ Some command = e in cc;
+}
+
 no_stop_if : (r : Result Command ℕ) → is_end (changes_if r) ≡ false
 no_stop_if (Ok command) = refl
 no_stop_if (Err code) = refl
@@ -290,6 +344,10 @@ no_stop_if (Err code) = refl
 no_stop : (o : Option (List Text)) (text : List ℕ) → is_end (change_of o text) ≡ false
 no_stop None text = refl
 no_stop (Some ws) text = no_stop_if (change_in (codes "pfctl" ∷ ws) text)
+
+no_stop_by : (o : Option Entry) → is_end (change_by o) ≡ false
+no_stop_by None = refl
+no_stop_by (Some x) = refl
 
 -- what is asked, or a refusal with a status of clients
 abbrev is_served : RoutedValue → Bool
@@ -305,6 +363,10 @@ change_served : (o : Option (List Text)) (text : List ℕ) → is_served (change
 change_served None text = refl
 change_served (Some ws) text =
     changes_served (change_in (codes "pfctl" ∷ ws) text) (change_fair (codes "pfctl" ∷ ws) text)
+
+entry_served : (o : Option Entry) → is_served (change_by o) ≡ true
+entry_served None = refl
+entry_served (Some x) = refl
 
 still_served : (v : RoutedValue) → still v ≡ true → is_served v ≡ true
 still_served (Asked r) h = refl
@@ -325,15 +387,21 @@ change_of_case : (m p q b : List ℕ) (v : RoutedValue) (command : Command) → 
     PostsChange m p q b command
 change_of_case m p q b v command (inl h) e = absurd (true≢false (sym h ∙ ap still e))
 change_of_case m p q b v command (inr (inl (post, is))) e =
-    change_from m p q b (words_in (before_first is_newline b)) command refl post (ap asked_in (sym is ∙ e))
-change_of_case m p q b v command (inr (inr (post, is))) e = absurd (true≢false (ap is_end (sym is ∙ e)))
+    inl (change_from m p q b (words_in (before_first is_newline b)) command refl post (ap asked_in (sym is ∙ e)))
+change_of_case m p q b v command (inr (inr (inl (post, is)))) e =
+    inr (entry_from m p q b (reading b) command refl post (ap asked_in (sym is ∙ e)))
+change_of_case m p q b v command (inr (inr (inr (post, is)))) e = absurd (true≢false (ap is_end (sym is ∙ e)))
 
 posted_change : (m p q b : List ℕ) (j : Bool) (command : Command) → PostsChange m p q b command →
     routed m p q b j ≡ Asked (Changes command)
-posted_change m p q b j command h =
+posted_change m p q b j command (inl h) =
     ap (λ (x : List ℕ). routed x p q b j) h.posted ∙ ap (λ (x : List ℕ). routed (codes "POST") x q b j) h.there
     ∙ ap (λ (ps : List (Text × Text)). if are_parameters to.Changes ps then change_asked b else Refused 400) h.bare
     ∙ ap (λ (o : Option (List Text)). change_of o (after_first is_newline b)) h.line ∙ ap changes_if h.asks
+posted_change m p q b j command (inr h) =
+    ap (λ (x : List ℕ). routed x p q b j) h.posted ∙ ap (λ (x : List ℕ). routed (codes "POST") x q b j) h.there
+    ∙ ap (λ (ps : List (Text × Text)). if are_parameters to.Entry ps then entry_asked b else Refused 400) h.bare
+    ∙ ap change_by h.read ∙ ap (λ (c : Command). Asked (Changes c)) h.asks
 
 pub changes_posted : (m p q b : List ℕ) (j : Bool) (command : Command) →
     routed m p q b j ≡ Asked (Changes command) ↔ PostsChange m p q b command
@@ -344,7 +412,9 @@ stop_of_case : (m p q b : List ℕ) (v : RoutedValue) → Outcome m p q b v → 
 stop_of_case m p q b v (inl h) e = absurd (true≢false (sym h ∙ ap still e))
 stop_of_case m p q b v (inr (inl (post, is))) e =
     absurd (true≢false (sym (ap is_end (sym is ∙ e)) ∙ no_stop (words_in (before_first is_newline b)) (after_first is_newline b)))
-stop_of_case m p q b v (inr (inr (post, is))) e = record { posted = post.0; there = post.1; bare = post.2 }
+stop_of_case m p q b v (inr (inr (inl (post, is)))) e =
+    absurd (true≢false (sym (ap is_end (sym is ∙ e)) ∙ no_stop_by (reading b)))
+stop_of_case m p q b v (inr (inr (inr (post, is)))) e = record { posted = post.0; there = post.1; bare = post.2 }
 
 posted_stop : (m p q b : List ℕ) (j : Bool) → PostsStop m p q → routed m p q b j ≡ Asked Stops
 posted_stop m p q b j h =
@@ -358,7 +428,8 @@ outcome_served : (m p q b : List ℕ) (v : RoutedValue) → Outcome m p q b v �
 outcome_served m p q b v (inl h) = still_served v h
 outcome_served m p q b v (inr (inl (post, is))) =
     ap is_served is ∙ change_served (words_in (before_first is_newline b)) (after_first is_newline b)
-outcome_served m p q b v (inr (inr (post, is))) = ap is_served is
+outcome_served m p q b v (inr (inr (inl (post, is)))) = ap is_served is ∙ entry_served (reading b)
+outcome_served m p q b v (inr (inr (inr (post, is)))) = ap is_served is
 
 pub refusals_clients : (m p q b : List ℕ) (j : Bool) (s : ℕ) → refused_with (routed m p q b j) ≡ Some s → is_of_clients s ≡ true
 refusals_clients m p q b j s =

@@ -5,8 +5,9 @@ use Rattle.std.specs.List.{before_first, after_first, position_or_len}
 use Rattle.std.specs.Str.{is_utf8}
 use Rattle.std.specs.Str.Lines.{lines}
 use Rattle.clap.specs.Words.{Text}
-use Rattle.pf_entry.specs.Entry.{Command}
+use Rattle.pf_entry.specs.Entry.{Command, Entry}
 use Rattle.pf_entry.specs.Owned.{command_value}
+use Rattle.pf_entry.specs.Reading.{reading}
 use Rattle.pf_arguments.specs.Asked.{Asked as Answer, ActionValue, ShowAnchors, GivenArguments, asked}
 use Rattle.pf_arguments.specs.Answers.{action_value}
 use Rattle.pf_arguments.specs.declared.fault.CommandFault.TheVariants.{Usage}
@@ -68,6 +69,14 @@ change_of (Some words) text = changes_if (change_in (codes "pfctl" ∷ words) te
 
 abbrev pub change_asked : List ℕ → RoutedValue
 change_asked body = change_of (words_in (before_first is_newline body)) (after_first is_newline body)
+
+-- the change that an entry has, or 42 where the bytes are no entry's; the entry's origin and number don't count
+abbrev pub change_by : Option Entry → RoutedValue
+change_by None = Unread 42
+change_by (Some e) = Asked (Changes e.command)
+
+abbrev pub entry_asked : List ℕ → RoutedValue
+entry_asked body = change_by (reading body)
 
 -- the lines of a body, if it is UTF-8; a line ends with a newline, or with a carriage return and a newline
 abbrev pub lines_in : List ℕ → Option (List Text)
@@ -140,6 +149,7 @@ entries_asked given = reads given (Entries (position_of (codes "from") given) (p
 -- what a path asks for, of its parameters and the body; of the paths of requests see below
 abbrev pub asked_at : Target → List (Text × Text) → (body : List ℕ) → (json : Bool) → RoutedValue
 asked_at to.Changes given body json = change_asked body
+asked_at to.Entry given body json = entry_asked body
 asked_at to.Rules given body json = lists given (asked (showing given (codes "rules")) [])
 asked_at to.Tables given body json = lists given (asked (showing given (codes "Tables")) [])
 asked_at to.Anchors given body json = reads given (Lists ShowAnchors)

@@ -2,7 +2,7 @@
 use Rattle.std.specs.Prelude.{ℕ, Bool, List, [], ◌∷◌, Option, Some, None, codes, bytes_eq, if◌then◌else◌}
 use Rattle.std.specs.List.{list_any}
 use Rattle.node_requests.specs.declared.target.Target.{Target}
-use Rattle.node_requests.specs.declared.target.Target.TheVariants.{Changes, Requests, Rules, Tables, Anchors, Table}
+use Rattle.node_requests.specs.declared.target.Target.TheVariants.{Changes, Entry, Requests, Rules, Tables, Anchors, Table}
 use Rattle.node_requests.specs.declared.target.Target.TheVariants.{TableTest, Test, Log, Entries, Status, Health, Ready}
 use Rattle.node_requests.specs.declared.target.Target.TheVariants.{Metrics, Stop}
 
@@ -10,6 +10,7 @@ use Rattle.node_requests.specs.declared.target.Target.TheVariants.{Metrics, Stop
 abbrev pub plain_target : List ℕ → Option Target
 plain_target path =
     if bytes_eq path (codes "/v1/changes") then Some Changes
+    else if bytes_eq path (codes "/v1/entry") then Some Entry
     else if bytes_eq path (codes "/v1/rules") then Some Rules
     else if bytes_eq path (codes "/v1/tables") then Some Tables
     else if bytes_eq path (codes "/v1/anchors") then Some Anchors
@@ -28,6 +29,7 @@ plain_target path =
 -- the one method of a path
 abbrev pub method_of : Target → List ℕ
 method_of Changes = codes "POST"
+method_of Entry = codes "POST"
 method_of TableTest = codes "POST"
 method_of Test = codes "POST"
 method_of Stop = codes "POST"
@@ -46,6 +48,7 @@ method_of Metrics = codes "GET"
 -- the parameters that may be behind a path
 abbrev pub names_of : Target → List (List ℕ)
 names_of Changes = []
+names_of Entry = []
 names_of TableTest = codes "a" ∷ codes "t" ∷ codes "at" ∷ []
 names_of Test = codes "at" ∷ []
 names_of Stop = []

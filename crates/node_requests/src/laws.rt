@@ -16,8 +16,9 @@ pub fn hits_are_met()
     ensures { (c : Configuration) (k : PacketValue) → length (hits 9 c k []) ≤ most_met 9 c [] }
 {}
 
-/// A change is asked for by `POST /v1/changes` without parameters, and by nothing else: it is the one that the body's
-/// first line asks for as pfctl's arguments, with what follows that line as their text.
+/// A change is asked for by `POST /v1/changes` or `POST /v1/entry` without parameters, and by nothing else: it is the
+/// one that the body's first line asks for as pfctl's arguments, with what follows that line as their text; or the
+/// command of the entry whose bytes the body is.
 pub fn changes_are_posted()
     ensures { (method path query body : List ℕ) (json : Bool) (command : Command) →
         routed method path query body json ≡ Asked (Changes command) ↔ PostsChange method path query body command }

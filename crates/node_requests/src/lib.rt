@@ -32,8 +32,9 @@
 //!   shown 2 seconds ago**: a sound node lacks the last positions while votes are on their way.
 //! - **A carriage return before a newline is no part of an address or a packet**: bodies over HTTP may have such lines.
 //!   In a change it is refused, as in pf.conf(5).
-//! - **The arguments of a change are read once**, where they come in. What isn't understood is refused there; what is
-//!   understood is a command from then on. A listing has none: its parameters give an action.
+//! - **A change comes as an entry** (`pfx ask`), or as arguments (curl), which are read once, where they come in. What
+//!   isn't understood is refused there; what is understood is a command from then on. A listing has none: its parameters
+//!   give an action.
 //! - **`sync` is a load that no configuration accepts**: it is learned and applied, and changes nothing.
 //! - **A request is sought in the log whenever a client asks for it**, from the front down. One that waits has a number
 //!   above all that this node's requests had a stretch before, so the search ends there (pf_node).

@@ -8,7 +8,7 @@ ghost use Rattle.pf_arguments.specs.Answers.{Answers};
 ghost use Rattle.pf_arguments.specs.Asked.{Asked};
 ghost use Rattle.node_requests.specs.inner.Parameters.{pairs_of};
 ghost use Rattle.node_requests.specs.Routing.{is_newline, change_asked, lines_in, reads, routed_value, lists};
-ghost use Rattle.node_requests.specs.Routing.{looked_up};
+ghost use Rattle.node_requests.specs.Routing.{looked_up, entry_asked};
 ghost use Rattle.node_requests.specs.Routing.{test_asked, log_asked, entries_asked, asked_at, target_asked};
 ghost use Rattle.node_requests.specs.Routing.{plain_asked, request_number, status_asked, behind, routed, read_value};
 
@@ -16,7 +16,7 @@ use crate::listing::{rules, table, table_test, tables};
 use crate::query::{Parameter, are_parameters, number_in, parameters, position_of};
 use crate::request::{Read, Request, Routed};
 use crate::target::Target;
-use pf_arguments::{Action, CommandFault};
+use pf_arguments::{Action, CommandFault, USAGE, decode};
 use pf_scripts::{ChangeFault, read_change, words_in};
 use std::alloc::{AllocError, Global};
 
@@ -83,7 +83,7 @@ fn change_in<'a>(alloc: Global, body: &[u8]) -> Result<Routed<'a>, AllocError>
 {
     let (line, text) = cut_at_newline(body);
     let Some(rest) = words_in(alloc, line)? else {
-        return Ok(Routed::Unread(40));
+        return Ok(Routed::Unread(USAGE));
     };
     let mut words = Vec::new(alloc);
     words.push("pfctl")?;
@@ -92,6 +92,19 @@ fn change_in<'a>(alloc: Global, body: &[u8]) -> Result<Routed<'a>, AllocError>
         Ok(command) => Ok(Routed::Asked(Request::Change(command))),
         Err(ChangeFault::Refused(code)) => Ok(Routed::Unread(code)),
         Err(ChangeFault::Memory) => Err(AllocError),
+    }
+}
+
+/// A change as an entry's bytes; the entry's origin and number don't count.
+fn entry_in<'a>(alloc: Global, body: &[u8]) -> Result<Routed<'a>, AllocError>
+    ensures { IfOk result (λ r. routed_value r ≡ entry_asked body.now) }
+{
+    match decode(body) {
+        Ok(view) => {
+            let entry = view.to_entry(alloc)?;
+            Ok(Routed::Asked(Request::Change(entry.command)))
+        }
+        Err(fault) => Ok(Routed::Unread(fault.code())),
     }
 }
 
@@ -137,10 +150,10 @@ fn test_in<'a>(alloc: Global, given: &[Parameter], body: &'a [u8]) -> Result<Rou
     ensures { IfOk result (λ r. routed_value r ≡ test_asked (pairs_of given.now) body.now) }
 {
     let Some(packets) = lines_in(alloc, body)? else {
-        return Ok(Routed::Unread(40));
+        return Ok(Routed::Unread(USAGE));
     };
     if packets.is_empty() || packets.len() > PACKETS_MAX {
-        return Ok(Routed::Unread(40));
+        return Ok(Routed::Unread(USAGE));
     }
     Ok(reads(given, Read::Test { packets }))
 }
@@ -174,6 +187,7 @@ fn asked_at<'a>(
 {
     match target {
         Target::Changes => change_in(alloc, body),
+        Target::Entry => entry_in(alloc, body),
         Target::Rules => lists(given, rules(alloc, given)),
         Target::Tables => lists(given, tables(alloc, given)),
         Target::Anchors => Ok(reads(given, Read::List(Action::ShowAnchors))),
@@ -187,7 +201,7 @@ fn asked_at<'a>(
         Target::Ready => Ok(reads(given, Read::Ready)),
         Target::Metrics => Ok(reads(given, Read::Metrics)),
         Target::Stop => Ok(Routed::Asked(Request::Stop)),
-        Target::Requests => Ok(Routed::Unread(40)),
+        Target::Requests => Ok(Routed::Unread(USAGE)),
     }
 }
 

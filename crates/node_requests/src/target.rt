@@ -7,6 +7,7 @@ ghost use Rattle.node_requests.specs.Targets.{method_of, plain_target, takes};
 #[derive(Clone, Copy, PartialEq, Eq)]
 pub(crate) enum Target {
     Changes,
+    Entry,
     Requests,
     Rules,
     Tables,
@@ -30,6 +31,7 @@ impl Target {
     {
         match path {
             "/v1/changes" => Some(Target::Changes),
+            "/v1/entry" => Some(Target::Entry),
             "/v1/rules" => Some(Target::Rules),
             "/v1/tables" => Some(Target::Tables),
             "/v1/anchors" => Some(Target::Anchors),
@@ -52,7 +54,8 @@ impl Target {
         ensures { result.now ≡ method_of self }
     {
         match self {
-            Target::Changes | Target::TableTest | Target::Test | Target::Stop => "POST",
+            Target::Changes | Target::Entry | Target::TableTest | Target::Test | Target::Stop =>
+                "POST",
             Target::Requests
             | Target::Rules
             | Target::Tables
@@ -77,9 +80,12 @@ impl Target {
             Target::Anchors | Target::Test | Target::Requests | Target::Status => name == "at",
             Target::Log => name == "from" || name == "at",
             Target::Entries => name == "from" || name == "count" || name == "at",
-            Target::Changes | Target::Health | Target::Ready | Target::Metrics | Target::Stop => {
-                false
-            }
+            Target::Changes
+            | Target::Entry
+            | Target::Health
+            | Target::Ready
+            | Target::Metrics
+            | Target::Stop => false,
         }
     }
 }

@@ -2,7 +2,8 @@
 //! stored input has these, the stored output what is to be written.
 //!
 //! A row of the input is a line `== METHOD PATH?QUERY`, which `json` may follow for a client that wants JSON, and
-//! the text up to the newline before the next such line is its body. What is before the first one is passed over.
+//! the text up to the newline before the next such line is its body, where `hex` follows the target in hexadecimal
+//! digits. What is before the first one is passed over.
 //! Of each row the output has the same line, a line `-- CODE`, and the answer's body. Between two rows the node's clock
 //! ticks, and what it sends to itself is received.
 //!

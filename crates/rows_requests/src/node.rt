@@ -85,6 +85,17 @@ fn counters(alloc: Global) -> io::Result<Counters> {
     })
 }
 
+/// A row's body: its text, or the bytes that it has in hexadecimal digits.
+fn body_of(alloc: Global, body: &str, is_hex: bool) -> io::Result<Vec<u8>> {
+    if !is_hex {
+        return Ok(Vec::from_slice(alloc, body.as_bytes())?);
+    }
+    match hex::decode(alloc, body.trim_end()) {
+        Ok(bytes) => Ok(bytes),
+        Err(_) => Err(io::Error::from(io::ErrorKind::InvalidData)),
+    }
+}
+
 /// What is answered to a row.
 pub(crate) fn answered<R: Records>(
     alloc: Global,
@@ -96,12 +107,13 @@ pub(crate) fn answered<R: Records>(
     let (target, accept) = rest.split_once(' ').unwrap_or((rest, ""));
     let (path, query) = target.split_once('?').unwrap_or((target, ""));
     let counted = counters(alloc)?;
+    let body = body_of(alloc, body, accept == "hex")?;
     match request_in(
         alloc,
         method,
         path,
         query,
-        body.as_bytes(),
+        body.as_slice(),
         accept == "json",
     )? {
         Routed::Asked(request) => Ok(handler.answer(&request, &counted)?),

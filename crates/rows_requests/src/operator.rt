@@ -59,6 +59,15 @@ pub(crate) fn text_of(bytes: &[u8]) -> &str {
     std::str::from_utf8(bytes).unwrap_or("not UTF-8")
 }
 
+/// The first line of what is sent, without the bytes that end it.
+fn first_line(bytes: &[u8]) -> &str {
+    let end = bytes
+        .iter()
+        .position(|b| *b == b'\r')
+        .unwrap_or(bytes.len());
+    text_of(bytes.get(..end).unwrap_or(bytes))
+}
+
 /// Prints the lines of an answer's head, but for the date and the length, which differ from time to time.
 fn print_head(rt: &HostRuntime, answer: &[u8]) -> io::Result<()> {
     for line in text_of(answer).lines() {
@@ -161,7 +170,7 @@ impl<'a> Operator<'a> {
 
     /// Prints a request's first line and the head of its answer, and how the node ended where that is by itself.
     fn print(&self, request: &[u8], served: &Served) -> io::Result<()> {
-        println!(self.rt; "> {}", text_of(request).lines().next().unwrap_or(""))?;
+        println!(self.rt; "> {}", first_line(request))?;
         print_head(self.rt, served.answer.as_slice())?;
         print_end(self.rt, &served.ended)
     }
