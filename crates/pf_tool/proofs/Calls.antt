@@ -11,11 +11,12 @@ use Rattle.clap.specs.declared.error.Error.{Error}
 use Rattle.clap.specs.declared.error.kind.ErrorKind.TheVariants.{OutOfMemory}
 use Rattle.cli_io.specs.declared.status.Status.{Status}
 use Rattle.cli_io.specs.declared.status.Status.TheVariants as status
-use Rattle.std.specs.Io.KnownBytes.{Appends}
 use Rattle.cli_io.specs.Written.{IsMisused, AppendsFront, line}
 use Rattle.pf_tool.specs.Options.{pfx_app, CallValue, called, unless_faulty, call_of, names_other}
 use Rattle.cli_io.specs.declared.paragraph.Explanation.{Explanation}
-use Rattle.pf_tool.specs.Tool.{Ran}
+use Rattle.std.proofs.KnownBytes.{Appends-nil}
+use Rattle.pf_tool.specs.declared.reporting.Level.{Level}
+use Rattle.pf_tool.specs.Tool.{Ran, Reported}
 
 -- a pair of two values of one thing
 abbrev paired : {T : Type 0} → (T → Text) → (T → List Row) → T → Text × List Row
@@ -84,24 +85,37 @@ pub other_over : (has : Text → Text → Type 0) (table : List Explanation) (ar
 unfolding call_of
 other_over has table arguments input old new o = rw o refl
 
--- out of memory
-pub memory_over : (has : Text → Text → Type 0) (table : List Explanation) (s : Status) (call : Option CallValue) (input old new : Option (List ℕ)) →
-    (s ≡ status.Failed) ⊎ ((s ≡ status.Memory) × Appends old new (line (codes "memory"))) → (s ≡ status.Failed → MemoryFront old new) → Ran has table s call input old new
-memory_over has table s None input old new h f = elim h [
-  | inl e ↦ subst (λ r. Ran has table r None input old new) (sym e) tt
-  | inr both ↦ subst (λ r. Ran has table r None input old new) (sym both.0) both.1
-]
-memory_over has table s (Some call) input old new h f = elim h [
-  | inl e ↦ subst (λ r. Ran has table r (Some call) input old new) (sym e) (inl (f e))
-  | inr both ↦ subst (λ r. Ran has table r (Some call) input old new) (sym both.0) both.1
-]
-
 -- what is printed for arguments that ask for nothing
 pub misnamed_over : (has : Text → Text → Type 0) (table : List Explanation) (s : Status) (input old new : Option (List ℕ)) → (s ≡ status.Usage) ⊎ (s ≡ status.Failed) → Ran has table s None input old new
 misnamed_over has table s input old new h = elim h [
   | inl e ↦ subst (λ r. Ran has table r None input old new) (sym e) refl
   | inr e ↦ subst (λ r. Ran has table r None input old new) (sym e) tt
 ]
+
+-- ---- what wrote nothing on standard error
+
+-- arguments that aren't understood
+pub misused_unreported : (has : Text → Text → Type 0) (table : List Explanation) (level : Level) (s : Status) (call : Option CallValue) (input old new errors w w' : Option (List ℕ)) → IsMisused s w w'
+    → Reported has table level s call input old new errors errors
+misused_unreported has table level status.Done call input old new errors w w' h = absurd h
+misused_unreported has table level status.Refused call input old new errors w w' h = absurd h
+misused_unreported has table level status.Usage call input old new errors w w' h = Appends-nil errors
+misused_unreported has table level status.Memory call input old new errors w w' h = Appends-nil errors
+misused_unreported has table level status.Failed call input old new errors w w' h = Appends-nil errors
+
+-- arguments that ask for nothing
+pub misnamed_unreported : (has : Text → Text → Type 0) (table : List Explanation) (level : Level) (s : Status) (call : Option CallValue) (input old new errors : Option (List ℕ))
+    → (s ≡ status.Usage) ⊎ (s ≡ status.Failed) → Reported has table level s call input old new errors errors
+misnamed_unreported has table level s call input old new errors h = elim h [
+  | inl e ↦ subst (λ r. Reported has table level r call input old new errors errors) (sym e) (Appends-nil errors)
+  | inr e ↦ subst (λ r. Reported has table level r call input old new errors errors) (sym e) (Appends-nil errors)
+]
+
+-- what was reported of a call is so of the arguments that ask for it
+pub reported_as : (has : Text → Text → Type 0) (table : List Explanation) (level level' : Level) (s : Status) (call call' : Option CallValue) (input old new errors errors' : Option (List ℕ))
+    → level ≡ level' → call ≡ call' → Reported has table level s call input old new errors errors' → Reported has table level' s call' input old new errors errors'
+reported_as has table level level' s call call' input old new errors errors' e f h =
+    subst (λ l. Reported has table l s call' input old new errors errors') e (subst (λ c. Reported has table level s c input old new errors errors') f h)
 
 -- ---- what clap says of a command that is the program's
 

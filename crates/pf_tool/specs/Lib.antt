@@ -1,3 +1,4 @@
 pub mod Options
+pub mod Messages
 pub mod Tool
 pub mod inner

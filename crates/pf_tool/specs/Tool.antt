@@ -1,7 +1,7 @@
 -- What the program writes.
-use Rattle.std.specs.Prelude.{◌≡◌, ◌⊎◌, ℕ, Bool, true, false, List, [], ◌∷◌, ◌++◌, Option, Some, None}
+use Rattle.std.specs.Prelude.{◌≡◌, ◌⊎◌, ℕ, ◌+◌, Bool, true, false, List, [], ◌∷◌, ◌++◌, Option, Some, None}
 use Rattle.std.specs.Prelude.{Result, Ok, Err}
-use Rattle.std.specs.Prelude.{IfSome, codes, decimal, map, if◌then◌else◌}
+use Rattle.std.specs.Prelude.{IfSome, bytes_eq, codes, decimal, map, option_map, if◌then◌else◌}
 use Rattle.std.specs.List.{flat_map, list_any}
 use Rattle.std.specs.Io.KnownBytes.{Appends}
 use Rattle.clap.specs.Words.{Text}
@@ -17,15 +17,20 @@ use Rattle.pf_config.specs.declared.fault.ConfigFault.{ConfigFault}
 use Rattle.pf_config.specs.Map.{Configuration}
 use Rattle.pf_config.specs.Changes.{load_ruleset}
 use Rattle.pf_config.specs.Codes.{fault_code}
-use Rattle.pf_eval.specs.Seen.{verdict_for}
-use Rattle.pf_scripts.specs.Lines.{lines, words_if}
+use Rattle.pf_eval.specs.Packets.{PacketValue}
+use Rattle.pf_eval.specs.PacketTexts.{packet_of}
+use Rattle.pf_eval.specs.Seen.{verdict_text}
+use Rattle.pf_eval.specs.Verdicts.{Judgement, judgement}
+use Rattle.pf_scripts.specs.Lines.{lines, words_if, words_in}
 use Rattle.pf_scripts.specs.Ctl.{printed}
 use Rattle.pf_lab.specs.Scripts as lab
 use Rattle.cli_io.specs.declared.paragraph.Explanation.{Explanation}
-use Rattle.cli_io.specs.Explained.{paragraph, paragraphs}
+use Rattle.cli_io.specs.Explained.{paragraph, paragraphs, named}
 use Rattle.cli_io.specs.Sources.{IsAt}
 use Rattle.pf_tool.specs.declared.output.Ending.{Ending}
 use Rattle.pf_tool.specs.declared.output.Ending.TheVariants.{Done, Refused}
+use Rattle.pf_tool.specs.declared.reporting.Level.{Level}
+use Rattle.pf_tool.specs.Messages.{Message, Refuses, Decides, message_lines}
 use Rattle.pf_tool.specs.Options.{CallValue, Test, Check, Ctl, Lab, Explain, CheckFiles, TestFiles}
 use Rattle.cli_io.specs.declared.status.Status.{Status}
 use Rattle.cli_io.specs.declared.status.Status.TheVariants as status
@@ -33,86 +38,146 @@ use Rattle.cli_io.specs.Written.{line, AppendsFront}
 
 -- ---- what is written
 
--- the bytes, and how the run ends
+-- the bytes of standard output, the messages for standard error, and how the run ends
 pub record Written : Type 0 where
   pub text : List ℕ
+  pub messages : List Message
   pub ending : Ending
 
--- a string before what is written
-abbrev pub behind : List ℕ → Written → Written
-behind text written = record { text = text ++ written.text; ending = written.ending }
+-- nothing is refused, and there is no message
+abbrev pub answered : List ℕ → Written
+answered text = record { text = text; messages = []; ending = Done }
 
--- a line that is no packet
-abbrev pub refused_packet : Written
-refused_packet = record { text = line (codes "refused 30"); ending = Refused }
+-- a string and a message before what is written
+abbrev pub behind : List ℕ → Message → Written → Written
+behind text message later =
+    record { text = text ++ later.text; messages = message ∷ later.messages; ending = later.ending }
 
--- the verdict line before what follows; a line that is no packet ends it
-abbrev pub put_verdict : Option (List ℕ) → Written → Written
-put_verdict None later = refused_packet
-put_verdict (Some verdict) later = behind (line verdict) later
+-- refused CODE line LINE, or refused CODE
+abbrev pub refused_text : Option ℕ → (code : ℕ) → List ℕ
+refused_text None code = line (codes "refused " ++ decimal code)
+refused_text (Some at) code = line (codes "refused " ++ decimal code ++ codes " line " ++ decimal at)
 
--- a line for each packet text in turn
-abbrev pub verdict_lines : Configuration → List Text → Written
-verdict_lines c [] = record { text = []; ending = Done }
-verdict_lines c (packet ∷ packets) = put_verdict (verdict_for c packet) (verdict_lines c packets)
+-- a source is refused with this number, at its line where the refusal names one
+abbrev pub refused : (source : Text) → (line : Option ℕ) → (code : ℕ) → Written
+refused source at code =
+    record { text = refused_text at code; messages = Refuses source at code ∷ []; ending = Refused }
 
--- refused CODE line LINE
-abbrev pub refusal_line : Refusal → List ℕ
-refusal_line r = line (codes "refused " ++ decimal (cause_code r.cause) ++ codes " line " ++ decimal r.line)
+-- the text of a ruleset is refused
+abbrev pub refused_ruleset : (source : Text) → Refusal → Written
+refused_ruleset source r = refused source (Some r.line) (cause_code r.cause)
+
+-- the packet with this number is none
+abbrev pub refused_packet : (n : ℕ) → Written
+refused_packet n = refused (codes "packet " ++ decimal n) None 30
+
+-- the verdict line of the packet with this number before what follows; what is no packet ends it
+abbrev pub put_verdict : Configuration → (n : ℕ) → Option Judgement → Written → Written
+put_verdict c n None later = refused_packet n
+put_verdict c n (Some verdict) later = behind (line (verdict_text verdict)) (Decides n c verdict) later
+
+-- a line for each packet text in turn, numbered from this number on
+abbrev pub verdict_lines : Configuration → (n : ℕ) → List Text → Written
+verdict_lines c n [] = answered []
+verdict_lines c n (packet ∷ packets) = put_verdict c n
+    (option_map (λ (k : PacketValue). judgement c k) (packet_of packet)) (verdict_lines c (n + 1) packets)
 
 -- a load that is refused
-abbrev pub refused_load : Option ℕ → Written
-refused_load None = record { text = []; ending = Refused }
-refused_load (Some code) = record { text = line (codes "refused " ++ decimal code); ending = Refused }
+abbrev pub refused_load : (source : Text) → Option ℕ → Written
+refused_load source None = record { text = []; messages = []; ending = Refused }
+refused_load source (Some code) = refused source None code
 
 -- the verdicts at a configuration, or the refusal of the load that made none
-abbrev pub tested_over : List Text → Result Configuration ConfigFault → Written
-tested_over packets (Err fault) = refused_load (fault_code fault)
-tested_over packets (Ok c) = verdict_lines c packets
+abbrev pub tested_over : (source : Text) → List Text → Result Configuration ConfigFault → Written
+tested_over source packets (Err fault) = refused_load source (fault_code fault)
+tested_over source packets (Ok c) = verdict_lines c 1 packets
 
 -- nothing is loaded
 abbrev pub nothing_loaded : Configuration
 nothing_loaded = record { skip = []; anchors = [] }
 
 -- the text's ruleset is loaded as the main one
-abbrev pub tested : List Text → Result RulesetValue Refusal → Written
-tested packets (Err refusal) = record { text = refusal_line refusal; ending = Refused }
-tested packets (Ok rules) = tested_over packets (load_ruleset nothing_loaded [] rules)
+abbrev pub tested : (source : Text) → List Text → Result RulesetValue Refusal → Written
+tested source packets (Err refusal) = refused_ruleset source refusal
+tested source packets (Ok rules) = tested_over source packets (load_ruleset nothing_loaded [] rules)
 
--- test PACKET.. over this input
-unfoldable pub test_output : List Text → List ℕ → Written
-test_output packets input = tested packets (reading Main Two input)
+-- test PACKET.. over the text of this source
+unfoldable pub test_output : (source : Text) → List Text → List ℕ → Written
+test_output source packets text = tested source packets (reading Main Two text)
 
 -- the rules as they are understood, or the refusal of their text
-abbrev pub checked : Result RulesetValue Refusal → Written
-checked (Err refusal) = record { text = refusal_line refusal; ending = Refused }
-checked (Ok rules) = record { text = shown rules; ending = Done }
+abbrev pub checked : (source : Text) → Result RulesetValue Refusal → Written
+checked source (Err refusal) = refused_ruleset source refusal
+checked source (Ok rules) = answered (shown rules)
 
--- check over this input
-unfoldable pub check_output : Place → List ℕ → Written
-check_output place input = checked (reading place Two input)
+-- check over the text of this source
+unfoldable pub check_output : (source : Text) → Place → List ℕ → Written
+check_output source place text = checked source (reading place Two text)
+
+-- ---- scripts
+
+-- the refusal that a printed line is: it begins with `refused` and, behind blanks, the number
+-- Example: of `refused 12 line 3` the table's row for 12.
+abbrev pub refusal_in : List Explanation → Option (List Text) → Option Explanation
+refusal_in table None = None
+refusal_in table (Some []) = None
+refusal_in table (Some (word ∷ [])) = None
+refusal_in table (Some (word ∷ digits ∷ words)) = if bytes_eq word (codes "refused") then named table digits else None
+
+-- a refusal at a printed line, before the messages of the lines behind it
+abbrev pub put_refusal : (n : ℕ) → Option Explanation → List Message → List Message
+put_refusal n None later = later
+put_refusal n (Some row) later = Refuses (codes "stdout") (Some n) row.code ∷ later
+
+-- the refusals among printed lines, numbered from this number on
+abbrev pub refusals_in : List Explanation → (n : ℕ) → List (List ℕ) → List Message
+refusals_in table n [] = []
+refusals_in table n (content ∷ contents) =
+    put_refusal n (refusal_in table (words_in content)) (refusals_in table (n + 1) contents)
+
+-- what a script prints; a refusal doesn't end it
+unfoldable pub scripted : List Explanation → List ℕ → Written
+scripted table text = record {
+  text = text;
+  messages = refusals_in table 1 (map (λ l. l.content) (lines text));
+  ending = Done;
+}
 
 -- ---- rulesets in files
 
--- a file that can't be read
-abbrev pub unread : Written
-unread = refused_load (Some 90)
+-- a ruleset or packets: the name that messages have for it, and its text, none where it can't be read
+pub record SourceValue : Type 0 where
+  pub name : Text
+  pub text : Option (List ℕ)
+
+-- the input
+abbrev pub of_input : List ℕ → SourceValue
+of_input input = record { name = codes "stdin"; text = Some input }
+
+-- a source that can't be read
+abbrev pub unread : (source : Text) → Written
+unread source = refused source None 90
 
 -- check of a ruleset, none of a file that can't be read
-abbrev pub checked_text : Place → Option (List ℕ) → Written
-checked_text place None = unread
-checked_text place (Some text) = check_output place text
+abbrev pub checked_by : (source : Text) → Place → Option (List ℕ) → Written
+checked_by source place None = unread source
+checked_by source place (Some text) = check_output source place text
+
+-- the same of a source
+abbrev pub checked_source : Place → SourceValue → Written
+checked_source place s = checked_by s.name place s.text
 
 -- the ending is that of a refusal
 abbrev pub is_refused : Ending → Bool
 is_refused Done = false
 is_refused Refused = true
 
--- each text in turn; the run is refused where one of them is
-unfoldable pub checked_texts : Place → List (Option (List ℕ)) → Written
-checked_texts place texts = record {
-  text = flat_map (λ t. (checked_text place t).text) texts;
-  ending = if list_any (λ t. is_refused (checked_text place t).ending) texts then Refused else Done;
+-- each ruleset in turn; the run is refused where one of them is
+unfoldable pub checked_sources : Place → List SourceValue → Written
+checked_sources place sources = record {
+  text = flat_map (λ s. (checked_source place s).text) sources;
+  messages = flat_map (λ s. (checked_source place s).messages) sources;
+  ending = if list_any (λ s. is_refused (checked_source place s).ending) sources then Refused else Done;
 }
 
 -- the packets of a file, one a line; none where a line isn't UTF-8
@@ -120,74 +185,82 @@ unfoldable pub packet_texts : List ℕ → Option (List Text)
 packet_texts bytes = words_if (map (λ l. l.content) (lines bytes))
 
 -- the packets of arguments before those of lines
-abbrev pub tested_lines : List Text → List ℕ → Option (List Text) → Written
-tested_lines packets text None = unread
-tested_lines packets text (Some more) = test_output (packets ++ more) text
+abbrev pub tested_lines : (rules lines : Text) → List Text → List ℕ → Option (List Text) → Written
+tested_lines rules lines packets text None = unread lines
+tested_lines rules lines packets text (Some more) = test_output rules (packets ++ more) text
 
--- test under rules, of packets given as arguments and in lines; none of a file that can't be read
-abbrev pub tested_texts : List Text → Option (List ℕ) → Option (List ℕ) → Written
-tested_texts packets None bytes = unread
-tested_texts packets (Some text) None = unread
-tested_texts packets (Some text) (Some bytes) = tested_lines packets text (packet_texts bytes)
+-- test under rules, of packets given as arguments and in lines, with the names of both sources; none of a file that
+-- can't be read
+abbrev pub tested_texts : (rules lines : Text) → List Text → (text bytes : Option (List ℕ)) → Written
+tested_texts rules lines packets None bytes = unread rules
+tested_texts rules lines packets (Some text) None = unread lines
+tested_texts rules lines packets (Some text) (Some bytes) = tested_lines rules lines packets text (packet_texts bytes)
 
--- with -q nothing is written
+-- the same of two sources
+abbrev pub tested_sources : List Text → (rules lines : SourceValue) → Written
+tested_sources packets rules more = tested_texts rules.name more.name packets rules.text more.text
+
+-- with -q nothing is written but messages
 abbrev pub quieted : Bool → Written → Written
-quieted true w = record { text = []; ending = w.ending }
+quieted true w = record w { text = [] }
 quieted false w = w
 
--- these are the contents of the files at these paths, in order; none of a file that can't be read
-abbrev pub AreAt : (has : (path text : Text) → Type 0) → (files : List Text) → List (Option (List ℕ)) → Type 0
+-- the contents of the file at this path; none of one that can't be read
+abbrev pub IsSource : (has : (path text : Text) → Type 0) → (file : Text) → SourceValue → Type 0
+IsSource has file s = (s.name ≡ file) × IsAt has (Some file) s.text
+
+-- these are the contents of the files at these paths, in order
+abbrev pub AreAt : (has : (path text : Text) → Type 0) → (files : List Text) → List SourceValue → Type 0
 AreAt has [] [] = Unit {0}
-AreAt has [] (text ∷ texts) = ⊥
+AreAt has [] (s ∷ sources) = ⊥
 AreAt has (file ∷ files) [] = ⊥
-AreAt has (file ∷ files) (text ∷ texts) = IsAt has (Some file) text × AreAt has files texts
+AreAt has (file ∷ files) (s ∷ sources) = IsSource has file s × AreAt has files sources
 
 -- the rulesets of files; without files that of the input
-abbrev pub AreTexts : (has : (path text : Text) → Type 0) → (files : List Text) → List (Option (List ℕ)) → List ℕ →
-    Type 0
-AreTexts has [] texts input = texts ≡ Some input ∷ []
-AreTexts has (file ∷ files) texts input = AreAt has (file ∷ files) texts
+abbrev pub AreTexts : (has : (path text : Text) → Type 0) → (files : List Text) → List SourceValue → List ℕ → Type 0
+AreTexts has [] sources input = sources ≡ of_input input ∷ []
+AreTexts has (file ∷ files) sources input = AreAt has (file ∷ files) sources
 
 -- check of files, or of the input
 abbrev pub AreChecked : (has : (path text : Text) → Type 0) → Place → Bool → (files : List Text) → List ℕ → Written →
     Type 0
-AreChecked has place quiet files input w = (texts : List (Option (List ℕ))) × AreTexts has files texts input
-    × (w ≡ quieted quiet (checked_texts place texts))
+AreChecked has place quiet files input w = (sources : List SourceValue) × AreTexts has files sources input
+    × (w ≡ quieted quiet (checked_sources place sources))
 
 -- the rules of a file; without a file those of the input
-abbrev pub AreRules : (has : (path text : Text) → Type 0) → (file : Option Text) → Option (List ℕ) → List ℕ → Type 0
-AreRules has (Some file) rules input = IsAt has (Some file) rules
-AreRules has None rules input = rules ≡ Some input
+abbrev pub AreRules : (has : (path text : Text) → Type 0) → (file : Option Text) → SourceValue → List ℕ → Type 0
+AreRules has (Some file) rules input = IsSource has file rules
+AreRules has None rules input = rules ≡ of_input input
 
 -- the packets of the input, none where arguments are packets
-abbrev pub AreInputLines : (packets : List Text) → Option (List ℕ) → List ℕ → Type 0
-AreInputLines [] bytes input = bytes ≡ Some input
-AreInputLines (packet ∷ packets) bytes input = bytes ≡ Some []
+abbrev pub AreInputLines : (packets : List Text) → SourceValue → List ℕ → Type 0
+AreInputLines [] more input = more ≡ of_input input
+AreInputLines (packet ∷ packets) more input = more ≡ of_input []
 
 -- the packets of a file; without a file those of the input
 abbrev pub AreLines : (has : (path text : Text) → Type 0) → (file : Option Text) → (packets : List Text) →
-    Option (List ℕ) → List ℕ → Type 0
-AreLines has (Some file) packets bytes input = IsAt has (Some file) bytes
-AreLines has None packets bytes input = AreInputLines packets bytes input
+    SourceValue → List ℕ → Type 0
+AreLines has (Some file) packets more input = IsSource has file more
+AreLines has None packets more input = AreInputLines packets more input
 
 -- test under these rules, of packets given as arguments and after them in lines
-abbrev pub IsTested : (has : (path text : Text) → Type 0) → (more : Option Text) → Bool → List Text →
-    Option (List ℕ) → List ℕ → Written → Type 0
-IsTested has more quiet packets rules input w = (bytes : Option (List ℕ)) × AreLines has more packets bytes input
-    × (w ≡ quieted quiet (tested_texts packets rules bytes))
+abbrev pub IsTested : (has : (path text : Text) → Type 0) → (more : Option Text) → Bool → List Text → SourceValue →
+    List ℕ → Written → Type 0
+IsTested has more quiet packets rules input w = (found : SourceValue) × AreLines has more packets found input
+    × (w ≡ quieted quiet (tested_sources packets rules found))
 
 -- test under the rules of a file, or of the input
 abbrev pub AreTested : (has : (path text : Text) → Type 0) → (file more : Option Text) → Bool → List Text → List ℕ →
     Written → Type 0
 AreTested has file more quiet packets input w =
-    (rules : Option (List ℕ)) × AreRules has file rules input × IsTested has more quiet packets rules input w
+    (rules : SourceValue) × AreRules has file rules input × IsTested has more quiet packets rules input w
 
 -- ---- refusals
 
 -- a refusal's paragraph, or all of a table
 abbrev pub explained : List Explanation → Option Explanation → Written
-explained table None = record { text = paragraphs table; ending = Done }
-explained table (Some r) = record { text = paragraph r; ending = Done }
+explained table None = answered (paragraphs table)
+explained table (Some r) = answered (paragraph r)
 
 -- ---- a run
 
@@ -198,10 +271,10 @@ status_of Refused = status.Refused
 
 -- what is asked for, over what files have and over this input, with this table of refusals
 abbrev pub IsAnswer : (has : (path text : Text) → Type 0) → List Explanation → CallValue → List ℕ → Written → Type 0
-IsAnswer has table (Test packets) input w = w ≡ test_output packets input
-IsAnswer has table (Check place) input w = w ≡ check_output place input
-IsAnswer has table Ctl input w = w ≡ record { text = printed input; ending = Done }
-IsAnswer has table Lab input w = w ≡ record { text = lab.printed input; ending = Done }
+IsAnswer has table (Test packets) input w = w ≡ test_output (codes "stdin") packets input
+IsAnswer has table (Check place) input w = w ≡ check_output (codes "stdin") place input
+IsAnswer has table Ctl input w = w ≡ scripted table (printed input)
+IsAnswer has table Lab input w = w ≡ answered (lab.printed input)
 IsAnswer has table (Explain refusal) input w = w ≡ explained table refusal
 IsAnswer has table (CheckFiles place quiet files) input w = AreChecked has place quiet files input w
 IsAnswer has table (TestFiles file more quiet packets) input w = AreTested has file more quiet packets input w
@@ -226,3 +299,20 @@ Ran has table status.Failed (Some call) input old new = WroteFront has table cal
 Ran has table ending (Some call) input old new =
     IfSome input (λ bytes. (w : Written) × IsAnswer has table call bytes w × Writes old new ending w)
 Ran has table ending None input old new = ending ≡ status.Usage
+
+-- what was answered, and its messages of this level behind what standard error had, or a front of them
+abbrev pub ReportsFront : (has : (path text : Text) → Type 0) → List Explanation → Level → Status → CallValue →
+    (input old new errors errors_new : Option (List ℕ)) → Type 0
+ReportsFront has table level ending call input old new errors errors_new = IfSome input (λ bytes. (w : Written) ×
+    IsAnswer has table call bytes w × Writes old new ending w
+    × AppendsFront errors errors_new (message_lines level table w.messages))
+
+-- What a run that ended so has written on standard error: the messages of what it answered, as far as they could be
+-- written. Where it answered nothing it wrote no message.
+abbrev pub Reported : (has : (path text : Text) → Type 0) → List Explanation → Level → Status → Option CallValue →
+    (input old new errors errors_new : Option (List ℕ)) → Type 0
+Reported has table level status.Done (Some call) input old new errors errors_new =
+    ReportsFront has table level status.Done call input old new errors errors_new
+Reported has table level status.Refused (Some call) input old new errors errors_new =
+    ReportsFront has table level status.Refused call input old new errors errors_new
+Reported has table level ending call input old new errors errors_new = Appends errors errors_new []

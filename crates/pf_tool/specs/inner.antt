@@ -1,5 +1,4 @@
 -- What only code and proofs use: no contract of a public function needs it.
 pub mod Calls
-pub mod Deciding
 pub mod Output
 pub mod Sources

@@ -5,6 +5,7 @@ ghost use Rattle.std.specs.Option.{option_copied};
 ghost use Rattle.clap.specs.Words.{found_of, rows_of, first_of, subcommand_rows_of};
 ghost use Rattle.pf_tool.specs.Options.{place_for, is_given, check_call, test_call, packets_call, explain_as};
 ghost use Rattle.pf_tool.specs.Options.{called_by, called, is_other, names_other};
+ghost use Rattle.pf_tool.specs.Messages.{is_verbose};
 ghost use Rattle.pf_tool.specs.inner.Calls.{asked};
 
 use clap::ArgMatches;
@@ -195,7 +196,9 @@ pub(crate) fn call_in<'m, 'a>(
 }
 
 /// Whether `-v` was given.
-pub(crate) fn is_verbose(matches: &ArgMatches<'_>) -> bool {
+pub(crate) fn is_verbose(matches: &ArgMatches<'_>) -> bool
+    ensures { result ≡ is_verbose (subcommand_rows_of matches.now) }
+{
     match matches.subcommand() {
         Some((_, inner)) => is_given(value_in(inner, "verbose")),
         None => false,

@@ -8,8 +8,8 @@
 //!
 //! Within: `options` has the arguments as `clap` reads them, `call` what they ask for, `checking`, `testing`, `scripts`
 //! and `explaining` what each subcommand writes, `source` and `packets` rulesets and packets in files, `answering` what
-//! a call writes over the input and files, `remarks` and `deciding` the messages on standard error, `output` what a run
-//! writes, `running` one run from the arguments to the status.
+//! a call writes over the input and files, `reporting` and `deciding` the messages on standard error, `output` what a
+//! run writes, `running` one run from the arguments to the status.
 //!
 //! # Why
 //!
@@ -32,11 +32,12 @@
 //!   whole before anything is written; `-` doesn't name standard input, `/dev/stdin` does.
 //! - **`check FILE..` goes on behind a refused file**, as compilers do, and shows by the status that one was; so a
 //!   script sees all that is wrong. The message on standard error names the file.
-//! - **The messages on standard error are made from what is printed**: a line `refused CODE` gives its message. So they
-//!   can't contradict the line, and need no second pass through the parser; which rule decides is evaluated again, by
-//!   the same `verdict`. They are written after the output; that they can't be written changes nothing.
+//! - **A message is made where its line is**: of one refusal both `refused CODE` and its message, of one verdict both
+//!   its line and the rule that decides. So they can't contradict each other, and nothing is evaluated twice. Messages
+//!   are written after the output; that they can't be written changes nothing.
 //! - **A script's refusals are named by the line of what is printed** (`stdout:2:`): pf_scripts hands out what a
-//!   script prints, and not at which of its lines.
+//!   script prints, and not at which of its lines. So these messages alone are read from printed lines, and no rule is
+//!   reported of a script's `test`.
 //! - **Numbers with names** (60 to 62, 30, 90) are in cli_io. Lower crates keep their enums with a `code` of
 //!   their own: they are below it, and each number is in each of them once.
 //! - **More input than 16,777,216 bytes is a fault of its own** (`TooLong`), so that a clause can say what it
@@ -81,7 +82,7 @@ mod explaining;
 mod options;
 mod output;
 mod packets;
-mod remarks;
+mod reporting;
 mod running;
 mod scripts;
 mod source;

@@ -1,10 +1,11 @@
 //! What a run writes.
 
-ghost use Rattle.std.specs.Prelude.{◌≡◌, IfOk};
-ghost use Rattle.pf_tool.specs.Tool.{unread, quieted, is_refused};
-ghost use Rattle.pf_tool.specs.inner.Output.{written};
+ghost use Rattle.std.specs.Prelude.{◌≡◌, [], None, IfOk, string_bytes};
+ghost use Rattle.pf_tool.specs.Tool.{refused, refused_text, unread, is_refused};
+ghost use Rattle.pf_tool.specs.declared.output.Ending.TheVariants as ending;
+ghost use Rattle.pf_tool.specs.inner.Output.{written, rendered, quieted_bytes};
 
-use crate::testing::refused_load;
+use crate::reporting::Reporter;
 use cli_io::UNREADABLE;
 use std::alloc::{AllocError, Global};
 
@@ -19,6 +20,8 @@ pub(crate) enum Ending {
 #[derive(Drop)]
 pub(crate) struct Output {
     pub(crate) text: String,
+    /// The lines for standard error.
+    pub(crate) messages: String,
     pub(crate) ending: Ending,
 }
 
@@ -34,20 +37,73 @@ impl Output {
     }
 }
 
-/// What is written of a file that can't be read.
-pub(crate) fn unread(alloc: Global) -> Result<Output, AllocError>
-    ensures { IfOk result (λ o. written o ≡ unread) }
+/// What is written where nothing is refused.
+pub(crate) fn answered(alloc: Global, text: String) -> Output
+    ensures { written result ≡ record { text = string_bytes text; messages = []; ending = ending.Done } }
 {
-    refused_load(alloc, UNREADABLE)
+    Output {
+        text,
+        messages: String::new(alloc),
+        ending: Ending::Done,
+    }
 }
 
-/// With `-q` nothing is written, and the run ends alike.
+/// The line of a refusal.
+fn refused_text(alloc: Global, line: Option<u64>, code: u8) -> Result<String, AllocError>
+    ensures { IfOk result (λ text. string_bytes text ≡ refused_text line code) }
+{
+    let mut text = String::new(alloc);
+    text.push_str("refused ")?;
+    text.push_str(code.to_string(alloc)?.as_str())?;
+    match line {
+        Some(line) => {
+            text.push_str(" line ")?;
+            text.push_str(line.to_string(alloc)?.as_str())?;
+        }
+        None => {}
+    }
+    text.push('\n')?;
+    Ok(text)
+}
+
+/// A source is refused with this number, at its line where the refusal names one.
+pub(crate) fn refused(
+    alloc: Global,
+    reporter: &Reporter<'_>,
+    source: &str,
+    line: Option<u64>,
+    code: u8,
+) -> Result<Output, AllocError>
+    ensures { IfOk result (λ o. written o ≡ rendered reporter.now (refused source.now line code)) }
+{
+    let text = refused_text(alloc, line, code)?;
+    let messages = reporter.refusal(alloc, source, line, code)?;
+    Ok(Output {
+        text,
+        messages,
+        ending: Ending::Refused,
+    })
+}
+
+/// What is written of a source that can't be read.
+pub(crate) fn unread(
+    alloc: Global,
+    reporter: &Reporter<'_>,
+    source: &str,
+) -> Result<Output, AllocError>
+    ensures { IfOk result (λ o. written o ≡ rendered reporter.now (unread source.now)) }
+{
+    refused(alloc, reporter, source, None, UNREADABLE)
+}
+
+/// With `-q` nothing is written but messages, and the run ends alike.
 pub(crate) fn quieted(alloc: Global, quiet: bool, output: Output) -> Output
-    ensures { written result ≡ quieted quiet (written output) }
+    ensures { written result ≡ quieted_bytes quiet (written output) }
 {
     if quiet {
         return Output {
             text: String::new(alloc),
+            messages: output.messages,
             ending: output.ending,
         };
     }

@@ -7,8 +7,8 @@ ghost use Rattle.pf_tool.specs.Tool.{packet_texts};
 use pf_scripts::{cut_line, texts};
 use std::alloc::{AllocError, Global};
 
-/// The lines of a file without their newlines.
-fn contents<'a>(alloc: Global, bytes: &'a [u8]) -> Result<Vec<&'a [u8]>, AllocError>
+/// The lines of some bytes, without their newlines.
+pub(crate) fn contents<'a>(alloc: Global, bytes: &'a [u8]) -> Result<Vec<&'a [u8]>, AllocError>
     ensures { IfOk result (λ v. map (λ c. c.now) v.items ≡ map (λ l. l.content) (lines bytes.now)) }
 {
     let mut found = Vec::new(alloc);

@@ -2,15 +2,17 @@
 
 ghost use Rattle.std.specs.Prelude.{◌≡◌, ◌⊎◌, [], true, map, Some};
 ghost use Rattle.std.specs.Io.KnownBytes.{Appends};
-ghost use Rattle.pf_tool.specs.Options.{call_of, names_other};
-ghost use Rattle.pf_tool.specs.Tool.{Ran};
+ghost use Rattle.clap.specs.Words.{subcommand_of};
+ghost use Rattle.pf_tool.specs.Messages.{is_verbose, level_of};
+ghost use Rattle.pf_tool.specs.Options.{call_of, names_other, pfx_app};
+ghost use Rattle.pf_tool.specs.Tool.{Ran, Reported};
 ghost use Rattle.pf_tool.specs.inner.Calls.{asked};
 
 use crate::answering::{RunFault, output_for};
 use crate::call::{Call, call_in, is_verbose, misnamed, names_other};
 use crate::options::command;
 use crate::output::Ending;
-use crate::remarks::{Level, Remarks};
+use crate::reporting::{Level, Reporter, level_of, report};
 use cli_io::{Explanation, Sources, Status, misused, out_of_memory, write_bytes};
 use std::alloc::Global;
 use std::convert::AsStr;
@@ -28,19 +30,21 @@ fn answer<T: Sources, R: Read, W: Write, E: Write>(
     writer: &mut W,
     errors: &mut E,
 ) -> Status
-    ensures { Ran (T.has sources.now) table.now result (Some (asked call.entry)) (R.remaining reader.old)
+    ensures ran { Ran (T.has sources.now) table.now result (Some (asked call.entry)) (R.remaining reader.old)
         (W.contents writer.old) (W.contents writer.new) }
+    ensures reported { Reported (T.has sources.now) table.now level result (Some (asked call.entry))
+        (R.remaining reader.old) (W.contents writer.old) (W.contents writer.new) (E.contents errors.old)
+        (E.contents errors.new) }
 {
-    let mut remarks = Remarks::new(alloc, table, level);
-    let output = match output_for(sources, alloc, table, call, reader, &mut remarks) {
+    let reporter = Reporter { table, level };
+    let output = match output_for(sources, alloc, &reporter, call, reader) {
         Ok(output) => output,
         Err(RunFault::Memory) => return out_of_memory(writer),
         Err(RunFault::Failed) => return Status::Failed,
     };
     match write_bytes(writer, output.text.as_bytes()) {
         Ok(()) => {
-            // that the messages can't be written changes nothing
-            let _code_and_line = errors.write_all(remarks.as_str().as_bytes());
+            report(output.messages.as_str(), errors);
             match output.ending {
                 Ending::Done => Status::Done,
                 Ending::Refused => Status::Refused,
@@ -48,17 +52,6 @@ fn answer<T: Sources, R: Read, W: Write, E: Write>(
         }
         Err(_) => Status::Failed,
     }
-}
-
-/// Which messages are written: all with `-v`, refusals where standard error is a terminal.
-fn level_of(is_verbose: bool, is_terminal: bool) -> Level {
-    if is_verbose {
-        return Level::Rules;
-    }
-    if is_terminal {
-        return Level::Refusals;
-    }
-    Level::Silent
 }
 
 /// Writes what is wrong with arguments that `clap` accepts and that ask for nothing.
@@ -78,10 +71,11 @@ fn misnamed_words<W: Write>(text: &str, writer: &mut W) -> Status
 /// gives `refused CAUSE line L` instead, and a line that is no packet `refused 30`, which ends the run. `check` writes
 /// the ruleset that the text gives, in its expanded form, or its refusal; with `--anchor` the text is one for an
 /// anchor. Both read files where their arguments name some; one that can't be read gives `refused 90`. All that is
-/// written goes to the writer at once; an input, and a file, is 16,777,216 bytes at most. The messages, a line for each
-/// refusal and, with `-v`, the rules that decide, change nothing of what is written, nor of the status. `explain`
-/// writes the table's paragraph of a number, or all of them, and reads nothing. With the subcommand of another crate
-/// nothing is written.
+/// written goes to the writer at once; an input, and a file, is 16,777,216 bytes at most. Behind it the messages go to
+/// standard error: with `-v` a line for each refusal and for the rule that decides each packet, else, on a terminal, a
+/// line for each refusal. They change nothing of what is written, nor of the status, and one that can't be written ends
+/// them. `explain` writes the table's paragraph of a number, or all of them, and reads nothing. With the subcommand of
+/// another crate nothing is written.
 pub fn run<T: AllocGlobal + Sources, S: AsStr, R: Read, W: Write, E: Write>(
     rt: &T,
     table: &[Explanation],
@@ -93,6 +87,10 @@ pub fn run<T: AllocGlobal + Sources, S: AsStr, R: Read, W: Write, E: Write>(
 ) -> Status
     ensures ran { Ran (T.has rt.now) table.now result (call_of table.now (map S.text arguments.now))
         (R.remaining reader.old) (W.contents writer.old) (W.contents writer.new) }
+    ensures reported { Reported (T.has rt.now) table.now
+        (level_of (is_verbose (subcommand_of pfx_app (map S.text arguments.now))) is_terminal) result
+        (call_of table.now (map S.text arguments.now)) (R.remaining reader.old) (W.contents writer.old)
+        (W.contents writer.new) (E.contents errors.old) (E.contents errors.new) }
     ensures other { names_other (map S.text arguments.now) ≡ true →
         (result ≡ Status.Usage) × Appends (W.contents writer.old) (W.contents writer.new) [] }
 {

@@ -3,13 +3,13 @@
 ghost use Rattle.std.specs.Prelude.{◌≡◌, Some, IfOk, map, option_map};
 ghost use Rattle.std.specs.Option.{option_copied};
 ghost use Rattle.cli_io.specs.Sources.{IsAt};
-ghost use Rattle.pf_tool.specs.Tool.{AreAt};
-ghost use Rattle.pf_tool.specs.inner.Sources.{text_in};
+ghost use Rattle.pf_tool.specs.Tool.{IsSource, AreAt, of_input};
+ghost use Rattle.pf_tool.specs.inner.Sources.{source_in};
 
 use cli_io::{InputFault, Sources};
 use std::alloc::{AllocError, Global};
 
-/// A ruleset, and how people call it: a file's name.
+/// A ruleset or packets, and the name that messages have for it: a file's path, or `stdin`.
 #[derive(Drop)]
 pub(crate) struct Source<'a> {
     pub(crate) name: &'a str,
@@ -18,9 +18,19 @@ pub(crate) struct Source<'a> {
 }
 
 impl Source<'_> {
+    /// The input.
+    pub(crate) fn of_input(input: Vec<u8>) -> Source<'static>
+        ensures { source_in result ≡ of_input input.items }
+    {
+        Source {
+            name: "stdin",
+            text: Some(input),
+        }
+    }
+
     /// The text, none where it can't be read.
     pub(crate) fn bytes(&self) -> Option<&[u8]>
-        ensures { option_copied result ≡ text_in self.now }
+        ensures { option_copied result ≡ (source_in self.now).text }
     {
         match &self.text {
             Some(text) => Some(text.as_slice()),
@@ -46,7 +56,7 @@ pub(crate) fn source_at<'a, T: Sources>(
     alloc: Global,
     path: &'a str,
 ) -> Result<Source<'a>, AllocError>
-    ensures { IfOk result (λ s. IsAt (T.has sources.now) (Some path.now) (text_in s)) }
+    ensures { IfOk result (λ s. IsSource (T.has sources.now) path.now (source_in s)) }
 {
     let text = read(sources, alloc, path)?;
     Ok(Source { name: path, text })
@@ -58,7 +68,7 @@ pub(crate) fn sources_at<'a, T: Sources>(
     alloc: Global,
     paths: &[&'a str],
 ) -> Result<Vec<Source<'a>>, AllocError>
-    ensures { IfOk result (λ v. AreAt (T.has sources.now) (map (λ p. p.now) paths.now) (map text_in v.items)) }
+    ensures { IfOk result (λ v. AreAt (T.has sources.now) (map (λ p. p.now) paths.now) (map source_in v.items)) }
 {
     let mut all = Vec::new(alloc);
     for path in paths {

@@ -1,7 +1,39 @@
 -- The value of an output of the code.
-use Rattle.std.specs.Prelude.{string_bytes}
+use Rattle.std.specs.Prelude.{◌≡◌, ℕ, Bool, true, false, List, [], ◌++◌, string_bytes}
+use Rattle.pf_tool.specs.declared.output.Ending.{Ending}
 use Rattle.pf_tool.specs.declared.output.Output.{Output}
+use Rattle.pf_tool.specs.declared.reporting.Reporter.{Reporter}
+use Rattle.pf_tool.specs.Messages.{Message, message_lines}
 use Rattle.pf_tool.specs.Tool.{Written}
 
-abbrev pub written : Output → Written
-written o = record { text = string_bytes o.text; ending = o.ending }
+-- the bytes for standard output, and those for standard error
+pub record Rendered : Type 0 where
+  pub text : List ℕ
+  pub messages : List ℕ
+  pub ending : Ending
+
+-- what an output has
+abbrev pub written : Output → Rendered
+written o = record { text = string_bytes o.text; messages = string_bytes o.messages; ending = o.ending }
+
+-- messages as a reporter writes them
+abbrev pub reported : Reporter → List Message → List ℕ
+reported r messages = message_lines r.level r.table.now messages
+
+-- what is written as a reporter writes it
+abbrev pub rendered : Reporter → Written → Rendered
+rendered r w = record { text = w.text; messages = reported r w.messages; ending = w.ending }
+
+-- bytes before those of what follows
+abbrev pub after : (text messages : List ℕ) → Rendered → Rendered
+after text messages later =
+    record { text = text ++ later.text; messages = messages ++ later.messages; ending = later.ending }
+
+-- with -q nothing is written but messages
+abbrev pub quieted_bytes : Bool → Rendered → Rendered
+quieted_bytes true r = record r { text = [] }
+quieted_bytes false r = r
+
+-- this is written, and its messages as the reporter writes them
+abbrev pub Renders : Reporter → Output → (is_written : Written → Type 0) → Type 0
+Renders r o is_written = (w : Written) × is_written w × (written o ≡ rendered r w)

@@ -1,7 +1,8 @@
--- What a source of the code holds.
-use Rattle.std.specs.Prelude.{ℕ, List, Option, option_map}
+-- What a source of the code stands for.
+use Rattle.std.specs.Prelude.{option_map}
 use Rattle.pf_tool.specs.declared.source.Source.{Source}
+use Rattle.pf_tool.specs.Tool.{SourceValue}
 
--- its text, none where it can't be read
-abbrev pub text_in : Source → Option (List ℕ)
-text_in s = option_map (λ v. v.items) s.text
+-- its name and its text
+abbrev pub source_in : Source → SourceValue
+source_in s = record { name = s.name.now; text = option_map (λ v. v.items) s.text }

@@ -1,7 +1,8 @@
-use Rattle.std.proofs.Common.{◌≡◌, drop, map, string_bytes}
-use Rattle.pf_tool.specs.Tool.{behind, verdict_lines}
+use Rattle.std.proofs.Common.{◌≡◌, ◌+◌, drop, map, string_bytes}
+use Rattle.pf_tool.specs.Tool.{verdict_lines}
+use Rattle.pf_tool.specs.inner.Output.{after, rendered}
 use Rattle.pf_tool.proofs.testing.verdict_lines.Given as goal
 
 -- the lines so far, and those of the packets that are left
-abbrev pub invariant-loop-packet : goal.invariant-loop-packet
-invariant-loop-packet l = behind (string_bytes l.text) (verdict_lines l.config (map (λ p. p.now) (drop l.packet-index l.packets))) ≡ verdict_lines l.config (map (λ p. p.now) l.packets)
+abbrev pub invariant-loop-i : goal.invariant-loop-i
+invariant-loop-i l = after (string_bytes l.text) (string_bytes l.messages) (rendered l.reporter (verdict_lines l.config (l.i + 1) (map (λ p. p.now) (drop l.i l.packets)))) ≡ rendered l.reporter (verdict_lines l.config 1 (map (λ p. p.now) l.packets))
