@@ -5,12 +5,13 @@ use crate::sockets::{has, has_none, hears};
 use px_transport::{LoopbackWire, MemoryWire, Wire};
 use std::panic::Expect;
 
-/// Whether what member 2 sends to itself comes back before what comes from below.
+/// Whether what member 2 sends to itself comes back before what comes from below, and is waited for only until then.
 fn comes_back<W: Wire>(wire: &mut W) -> bool {
     let is_sent = wire.send(2, b"one") && wire.send(2, b"two") && wire.send(1, b"to another");
+    let is_due = wire.due(60_000) == 0;
     wire.wait(60_000);
-    let is_back = has(wire, b"one") && hears(wire, 20, b"two");
-    is_sent && is_back && hears(wire, 20, b"from below") && has_none(wire)
+    let is_back = has(wire, b"one") && hears(wire, 20, b"two") && wire.due(60_000) == 60_000;
+    is_sent && is_due && is_back && hears(wire, 20, b"from below") && has_none(wire)
 }
 
 /// Whether it sends itself one more than is kept.
