@@ -14,7 +14,7 @@ const ASK_STAYS: &str = "The command isn't accepted, and the node goes on.";
 const STORE_STAYS: &str = "The node isn't started, and the store stays as it was.";
 
 /// Each refusal once, by number. `scripts/refusals` compares it with the list in pfx(8).
-pub const REFUSALS: [Explanation; 45] = [
+pub const REFUSALS: [Explanation; 44] = [
     Explanation {
         code: 1,
         name: "no number in an address",
@@ -177,14 +177,6 @@ pub const REFUSALS: [Explanation; 45] = [
         after: COMMAND_STAYS,
         remedy: "Divide the change: a ruleset into anchors, addresses into several\n         \
             commands.",
-    },
-    Explanation {
-        code: 42,
-        name: "no entry",
-        meaning: "a change, sent to a control socket as an entry, whose bytes are no\n         \
-            entry's",
-        after: ASK_STAYS,
-        remedy: "Send what pfx ask sends, or the change as text (pfx-node(8)).",
     },
     Explanation {
         code: WAITING_FULL,
