@@ -30,7 +30,7 @@
 -- `vec_len` to `length`: `omega (arith, v.ok.0)`; in a `requires` a by-value parameter with a reference is `token`, in an
 -- `ensures` `token.entry`.
 --
--- `lists_as_spelled`, `Parser::begin`, `fault`, `finish` and `Text::new` were not planted (laws, handed-out borrows, or
+-- `lists_as_spelled`, `Parser::begin`, `fault`, `finish` and `Text::new` weren't tried (laws, handed-out borrows, or
 -- bodies that only give up): the tests stand for the latter four.
 pub mod Lexing
 pub mod Joining

@@ -49,7 +49,7 @@
 -- - A catch-all clause is stuck on a variable. `MayCome` in `Runs` lists each message for that reason.
 -- - A new kind of message needs a line in `SentOk`, `sent_later`, `MayCome` and `step_ok`; a new change one in `commit`,
 --   `ChangeOk`, `grows`, `slots_after`, `learned_after`, `noted_after` and the case lemmas of `Moves`.
--- - Functions without a body can't be planted (`rt plant` calls them untested), and no edit of their code turns their
+-- - Functions without a body have no mutants (`rt plant` calls them untested), and no edit of their code turns their
 --   meaning.
 -- - A law is used by citing its proof: `Runs.always_agree`, `always_once`, `always_kept`, `States.same_state_now`. For
 --   commands that are compared as bytes the premise is `Reading.bytes_equality`.

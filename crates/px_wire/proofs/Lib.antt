@@ -44,7 +44,7 @@
 -- | `a_name_below_an_unnamed_block` | `is_name` |
 -- | `bytes_after_the_entry` | `entry_in` |
 --
--- `encode_sent` and the laws have no body of their own to turn, and weren't planted.
+-- `encode_sent` and the laws have no body of their own to turn, and weren't tried.
 pub mod Lengths
 pub mod Joined
 pub mod Slices
