@@ -111,18 +111,18 @@ of_ending o n h file new =
 
 -- ---- what a start would be refused for
 
-first : (file new : Bool) (o p : Outcome) → IsStoreless file new o → IsStoreless file new p → IsStoreless file new (first_of o p)
-first file new (Front n a) p h k = h
-first file new (Stopped n a) p h k = h
-first file new (Asked n k) p h l = h
-first file new (Key k) p h l = h
-first file new (Refused c) p h k = h
-first file new (RefusedLine c l) p h k = h
-first file new NoAnswer p h k = h
-first file new Sound p h k = k
-first file new Made p h k = h
-first file new Memory p h k = h
-first file new Unread p h k = h
+pub first : (P : Outcome → Type 0) (o p : Outcome) → P o → P p → P (first_of o p)
+first P (Front n a) p h k = h
+first P (Stopped n a) p h k = h
+first P (Asked n k) p h l = h
+first P (Key k) p h l = h
+first P (Refused c) p h k = h
+first P (RefusedLine c l) p h k = h
+first P NoAnswer p h k = h
+first P Sound p h k = k
+first P Made p h k = h
+first P Memory p h k = h
+first P Unread p h k = h
 
 of_place : (o : Outcome) → (o ≡ Sound) ⊎ (o ≡ Refused 40) → (file new : Bool) → IsStoreless file new o
 of_place o (inl e) = as_is o Sound e sound
@@ -183,10 +183,11 @@ pub of_check : (file new : Bool) (place key other store starts addresses control
     (addresses ≡ Sound) ⊎ (addresses ≡ Refused 82) → (control ≡ Sound) ⊎ ((control ≡ Memory) ⊎ (control ≡ Refused 84)) →
     IsStoreless file new (checked place (first_of key other) store starts addresses control)
 of_check file new place key other store starts addresses control p k q s t a c =
-    first file new place _ (of_place place p file new)
-    (first file new (first_of key other) _ (first file new key other (of_key key k file new) (of_key other q file new))
-    (first file new store _ s (first file new starts _ (of_starts starts t file new)
-    (first file new addresses control (of_addresses addresses a file new) (of_control control c file new)))))
+    let P : Outcome → Type 0 = IsStoreless file new in
+    first P place _ (of_place place p file new)
+    (first P (first_of key other) _ (first P key other (of_key key k file new) (of_key other q file new))
+    (first P store _ s (first P starts _ (of_starts starts t file new)
+    (first P addresses control (of_addresses addresses a file new) (of_control control c file new)))))
 
 pub none_of : {X : Type 0} (m : Option X) (b : Bool) → IsSome m ↔ IsTrue b → b ≡ false → m ≡ None
 none_of None b h e = refl

@@ -52,3 +52,8 @@ pub ran_so : (ran checked : NodeArguments → Outcome → Type 0) (es : List Nod
     (outcome : Outcome) → All (GaveSo ran checked) es → ran w outcome →
     All (GaveSo ran checked) (es ++ Ran w outcome ∷ [])
 ran_so ran checked es w outcome h r = All-push (GaveSo ran checked) es (Ran w outcome) h r
+
+pub checked_so : (ran checked : NodeArguments → Outcome → Type 0) (es : List NodeEvent) (w : NodeArguments)
+    (outcome : Outcome) → All (GaveSo ran checked) es → checked w outcome →
+    All (GaveSo ran checked) (es ++ Checked w outcome ∷ [])
+checked_so ran checked es w outcome h r = All-push (GaveSo ran checked) es (Checked w outcome) h r

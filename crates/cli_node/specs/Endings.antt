@@ -1,5 +1,5 @@
 -- What a run is shown as, by how it went.
-use Rattle.std.specs.Prelude.{◌≡◌, ◌⊎◌, ◌==◌, if◌then◌else◌, ℕ, Bool, false, nat_lt, List, [], Option, Some, None}
+use Rattle.std.specs.Prelude.{◌≡◌, ◌⊎◌, ◌==◌, ◌&&◌, ◌||◌, not, if◌then◌else◌, ℕ, Bool, false, nat_lt, List, [], Option, Some, None}
 use Rattle.px_records.specs.declared.records.Records.{Ghosts}
 use Rattle.px_wire.specs.declared.membership.Membership.{Membership}
 use Rattle.px_replica.specs.declared.fault.NodeFault.{NodeFault}
@@ -20,6 +20,12 @@ use Rattle.cli_node.specs.declared.outcome.Outcome.TheVariants.{Memory, Sound}
 abbrev pub is_refused : ℕ → Outcome → Bool
 is_refused code (Refused other) = other == code
 is_refused code outcome = false
+
+-- a refusal of what a start doesn't name: of keys or the starts of their packets (83, 95) where it names no key, of a
+-- control socket (84) where it names none
+abbrev pub is_beyond : (is_keyed has_control : Bool) → Outcome → Bool
+is_beyond keyed controlled o =
+    ((is_refused 83 o || is_refused 95 o) && not keyed) || (is_refused 84 o && not controlled)
 
 -- what a refusal with this number is shown as; none: out of memory
 abbrev pub numbered : Option ℕ → Outcome

@@ -10,7 +10,7 @@ use Rattle.px_wire.specs.declared.membership.Membership.{Membership}
 use Rattle.node_loop.specs.Runs.{EndsWireless, Runs, OnFront}
 use Rattle.node_loop.specs.Timing.{MakesTurns, TimerEvent}
 use Rattle.node_loop.specs.declared.ended.Ended.{Ended}
-use Rattle.node_udp.specs.Addresses.{AreFound}
+use Rattle.node_udp.specs.Addresses.{AreAddresses}
 use Rattle.node_udp.specs.Members.{route_of}
 use Rattle.node_udp.specs.Sockets.{SocketEvent}
 use Rattle.node_udp.specs.declared.address.Address.{Address}
@@ -52,7 +52,7 @@ abbrev pub RunsHere : {R : Type 0} → Ghosts R → Membership → Option Sealin
     (members : List (List ℕ)) → (given : R) → Outcome → (back : R) → (made : Ended → Type 0) → Type 0
 RunsHere G m sealing hears members given outcome back made =
     (how : Ended) × (outcome ≡ ended_outcome Memory how) × made how
-    × (G.is_honest back → (peers : List Address) × AreFound members peers × (events : List SocketEvent)
+    × (G.is_honest back → (peers : List Address) × AreAddresses members peers × (events : List SocketEvent)
     × RunsWith G m sealing hears (route_of peers m.me) given back events)
 
 -- where it ended at its front, that number of turns was made, as its timer saw

@@ -7,7 +7,7 @@ ghost use Rattle.clap.specs.Words.{found_of, rows_of};
 ghost use Rattle.pf_entry.specs.Owned.{command_value};
 ghost use Rattle.pf_arguments.specs.Asked.{asked, given_in, Change};
 ghost use Rattle.px_transport.specs.Wires.{IsQuiet, WireEvent};
-ghost use Rattle.node_udp.specs.Addresses.{AreFound};
+ghost use Rattle.node_udp.specs.Addresses.{AreAddresses};
 ghost use Rattle.node_udp.specs.Members.{me_of, peers_of, wait_of};
 ghost use Rattle.cli_node.specs.declared.outcome.Outcome.TheVariants.{Memory, Refused};
 ghost use Rattle.cli_node.specs.Places.{has_8_bits, has_place, waits_of};
@@ -176,7 +176,7 @@ impl Client for HostRuntime {
     // no contract states what the system's sockets give, nor when there is none
     ghost went = { λ _ _. ⊤ };
 
-    ghost reaches = { λ _ to w. (me_of w ≡ CLIENT) × AreFound (to ∷ []) (peers_of w) × (wait_of w ≡ 200000000) };
+    ghost reaches = { λ _ to w. (me_of w ≡ CLIENT) × AreAddresses (to ∷ []) (peers_of w) × (wait_of w ≡ 200000000) };
 
     ghost is_unreached = { λ _ _. ⊤ };
 

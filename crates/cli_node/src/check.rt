@@ -2,7 +2,7 @@
 //! try that is removed.
 
 ghost use Rattle.std.specs.Prelude.{◌≡◌, ◌⊎◌, ℕ, Bool, List, Option, Err, None, Some, false, length, map, option_map};
-ghost use Rattle.std.specs.Prelude.{IfSome, OnErr};
+ghost use Rattle.std.specs.Prelude.{◌||◌, IfSome, OnErr, is_some};
 ghost use Rattle.sqlite.specs.Held.{state};
 ghost use Rattle.sqlite.specs.State.{HasCleanDisk};
 ghost use Rattle.px_store.specs.Adopting.{Began, LeavesOld};
@@ -10,7 +10,7 @@ ghost use Rattle.px_store.specs.Judging.{reopen_refusal};
 ghost use Rattle.px_store.specs.declared.formats.Format.{Format};
 ghost use Rattle.cli_node.specs.declared.outcome.Outcome.{Outcome};
 ghost use Rattle.cli_node.specs.declared.outcome.Outcome.TheVariants.{Memory, Refused, Sound};
-ghost use Rattle.cli_node.specs.Endings.{checked, first_of};
+ghost use Rattle.cli_node.specs.Endings.{checked, first_of, is_beyond};
 ghost use Rattle.cli_node.specs.Places.{has_place};
 ghost use Rattle.cli_node.specs.Secrets.{IsNamed};
 ghost use Rattle.px_wire.specs.declared.membership.Membership.{Membership};
@@ -79,6 +79,7 @@ fn judged<RT: Eprint, S: Alter>(
     conn: &mut Connection<S>,
 ) -> Outcome
     ensures store { (file new : Bool) → IsStoreless file new result }
+    ensures beyond { is_beyond false false result ≡ false }
     ensures sound { HasCleanDisk (state S.Store conn.new) → result ≡ Sound → (f : Format) →
         Began f (state S.Store conn.old) → reopen_refusal f (identity_at m) (state S.Store conn.old).now.trees ≡ None }
     ensures known { result ≡ Sound → (f : Format) × Began f (state S.Store conn.old) }
@@ -115,6 +116,7 @@ fn looked_at<RT: Files + Eprint, I: Inspection>(
     m: Membership,
 ) -> Outcome
     ensures store { (file new : Bool) → IsStoreless file new result }
+    ensures beyond { is_beyond false false result ≡ false }
     ensures sound { result ≡ Sound → I.is_unseen inspection.old arguments.entry.store.now
         ⊎ IsSoundAt ⟦<FileStore<File> as Store>⟧ (I.holds inspection.old arguments.entry.store.now) (identity_at m) }
     ensures over { I.is_over inspection.old → I.is_over inspection.new }
@@ -162,6 +164,7 @@ fn of_found<RT: Files + Eprint, I: Inspection>(
     found: Found,
 ) -> Outcome
     ensures store { IsStoreless arguments.entry.is_from_file arguments.entry.is_new result }
+    ensures beyond { is_beyond false false result ≡ false }
     ensures sound { result ≡ Sound → (owner : Membership) → m ≡ Some owner →
         IsFit ⟦<FileStore<File> as Store>⟧ (I.is_unseen inspection.old arguments.entry.store.now)
         (I.holds inspection.old arguments.entry.store.now) arguments.entry.is_from_file arguments.entry.is_new found
@@ -192,6 +195,7 @@ fn of_store<RT: Files + Eprint, I: Inspection>(
     found: Option<Found>,
 ) -> Outcome
     ensures store { IsStoreless arguments.entry.is_from_file arguments.entry.is_new result }
+    ensures beyond { is_beyond false false result ≡ false }
     ensures sound { result ≡ Sound → (owner : Membership) → m ≡ Some owner → (f : Found) × ((found ≡ Some f) ×
         IsFit ⟦<FileStore<File> as Store>⟧ (I.is_unseen inspection.old arguments.entry.store.now)
         (I.holds inspection.old arguments.entry.store.now) arguments.entry.is_from_file arguments.entry.is_new f
@@ -220,7 +224,8 @@ fn starts_of(
     m: Option<Membership>,
     found: Option<Found>,
 ) -> Outcome
-    ensures { (result ≡ Sound) ⊎ ((result ≡ Memory) ⊎ (result ≡ Refused 95)) }
+    ensures why { (result ≡ Sound) ⊎ ((result ≡ Memory) ⊎ (result ≡ Refused 95)) }
+    ensures beyond { is_beyond (is_some arguments.entry.key) false result ≡ false }
 {
     match found {
         Some(found) => {
@@ -258,6 +263,7 @@ fn of_key<F: NodeFiles>(
     path: Option<&str>,
 ) -> Outcome
     ensures why { (result ≡ Sound) ⊎ ((result ≡ Memory) ⊎ (result ≡ Refused 83)) }
+    ensures beyond { is_beyond (is_some path.entry) false result ≡ false }
     ensures sound { result ≡ Sound → (key : Option (List ℕ)) × IsNamed
         (F.makes files.now arguments.entry.cluster (map (λ t. t.now) arguments.entry.members.now))
         (option_map (λ t. t.now) path.entry) key }
@@ -300,6 +306,8 @@ pub fn check_node<F: NodeFiles, D: Databases, I: Inspection>(
 ) -> Outcome
     ensures place { has_place arguments.entry.me (length arguments.entry.members.now) ≡ false → result ≡ Refused 40 }
     ensures store { IsStoreless arguments.entry.is_from_file arguments.entry.is_new result }
+    ensures beyond { is_beyond (is_some arguments.entry.key || is_some arguments.entry.other_key)
+        (is_some arguments.entry.control) result ≡ false }
     ensures key { result ≡ Sound → (key : Option (List ℕ)) × IsNamed
         (F.makes files.now arguments.entry.cluster (map (λ t. t.now) arguments.entry.members.now))
         (option_map (λ t. t.now) arguments.entry.key) key }

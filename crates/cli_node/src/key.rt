@@ -2,10 +2,11 @@
 
 ghost use Rattle.std.specs.List.{All};
 ghost use Rattle.std.specs.Prelude.{◌≡◌, ◌⊎◌, ◌==◌, ◌/◌, ◌∷◌, ℕ, List, [], Ok, Err, OnErr, IfOk, IfErr, option_map};
-ghost use Rattle.std.specs.Prelude.{OnOk, map, is_some};
+ghost use Rattle.std.specs.Prelude.{OnOk, map, is_some, false};
 ghost use Rattle.cli_files.specs.KeyTexts.{key_text};
 ghost use Rattle.node_udp.specs.Addresses.{address_of};
 ghost use Rattle.cli_node.specs.declared.outcome.Outcome.TheVariants.{Memory, Refused};
+ghost use Rattle.cli_node.specs.Endings.{is_beyond};
 ghost use Rattle.cli_node.specs.Doing.{Adds, FileEvent, Written, Unwritten};
 ghost use Rattle.cli_node.specs.Keeping.{IsKeptKey, IsNewKey, IsWritten, IsWrittenIn};
 ghost use Rattle.cli_node.specs.Places.{is_loopback, is_loopback_ip};
@@ -117,6 +118,7 @@ pub(crate) fn keys_for<F: NodeFiles>(
     arguments: NodeArguments<'_, '_, '_>,
 ) -> Result<Option<Keys>, Outcome>
     ensures refused { OnErr result ((result ≡ Err Memory) ⊎ (result ≡ Err (Refused 83))) }
+    ensures beyond { IfErr result (λ o. is_beyond (is_some arguments.entry.key) false o ≡ false) }
     ensures keyed { IfOk result (λ ks. is_some ks ≡ is_some arguments.entry.key) }
     ensures named { IfOk result (AreNamed
         (F.makes files.now arguments.entry.cluster (map (λ t. t.now) arguments.entry.members.now))

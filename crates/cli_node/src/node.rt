@@ -5,14 +5,14 @@ ghost use Rattle.std.specs.Prelude.{ℕ, Bool, [], None, Ok, IfOk, map, option_m
 ghost use Rattle.std.specs.Prelude.{◌||◌, ◌++◌, codes, string_bytes};
 ghost use Rattle.clap.specs.Words.{found_of, rows_of};
 ghost use Rattle.px_transport.specs.Wiring.{inner_of, keys_of, sealer_of};
-ghost use Rattle.node_udp.specs.Addresses.{AreFound, shown_address};
+ghost use Rattle.node_udp.specs.Addresses.{AreAddresses, shown_address};
 ghost use Rattle.node_udp.specs.Members.{hears_of, me_of, peers_of};
 ghost use Rattle.pf_scripts.specs.Lines.{spaced};
 ghost use Rattle.cli_node.specs.declared.outcome.Outcome.TheVariants.{Memory, Refused};
 ghost use Rattle.cli_node.specs.MemberRuns.{EndsAs, EndsNew, EndsNode, EndsWith, IsAlone, IsUnrun};
 ghost use Rattle.cli_node.specs.MemberRuns.{MadeTurns, RunsHere};
 ghost use Rattle.cli_node.specs.MemberRuns.{hears_asks, keys_with, sealer_with};
-ghost use Rattle.cli_node.specs.Endings.{ComesTo, ComesOpen, ComesOpenOr, IsWireless};
+ghost use Rattle.cli_node.specs.Endings.{ComesTo, ComesOpen, ComesOpenOr, IsWireless, is_beyond};
 ghost use Rattle.cli_node.specs.Given.{AreFigures, IsPlaced, is_set, number_for, text_for};
 ghost use Rattle.cli_node.specs.Secrets.{AreNamed};
 ghost use Rattle.cli_node.specs.Settled.{AreArguments, is_complete, is_whole};
@@ -207,7 +207,7 @@ pub(crate) fn bind(
     ensures refused { OnErr result ((result ≡ Err Memory) ⊎ (result ≡ Err (Refused 82))) }
     ensures new { IfOk result (λ w. ⟦<UdpWire<UdpSocket, HostRuntime> as Wire>⟧.traffic w []) }
     ensures me { IfOk result (λ w. me_of w ≡ arguments.entry.me) }
-    ensures peers { IfOk result (λ w. AreFound (map (λ t. t.now) arguments.entry.members.now) (peers_of w)) }
+    ensures peers { IfOk result (λ w. AreAddresses (map (λ t. t.now) arguments.entry.members.now) (peers_of w)) }
     ensures hears { IfOk result (λ w. hears_of w ≡ hears_asks arguments.entry.key arguments.entry.control) }
 {
     match UdpWire::bind(rt, alloc, arguments.members, arguments.me, WAIT_MS) {
@@ -291,7 +291,7 @@ fn run_at<R: Records, T: Timer>(
     requires is { m.me ≡ arguments.me }
     requires failed { R.failed records ≡ 0 }
     requires refused { OnErr wire ((wire ≡ Err Memory) ⊎ (wire ≡ Err (Refused 82))) }
-    requires peers { IfOk wire (λ w. AreFound (map (λ t. t.now) arguments.members.now) (peers_of w)) }
+    requires peers { IfOk wire (λ w. AreAddresses (map (λ t. t.now) arguments.members.now) (peers_of w)) }
     requires own { IfOk wire (λ w. me_of w ≡ arguments.me) }
     requires new { IfOk wire (λ w. ⟦<UdpWire<UdpSocket, HostRuntime> as Wire>⟧.traffic w []) }
     ensures hosted { ComesOpen R.Records m records result.0 result.1 }
@@ -487,6 +487,7 @@ fn run_on<D: Databases, T: Timer>(
         (IsClosedIn ⟦<FileStore<File> as Store>⟧ (D.closed dbs.now))
         (MadeTurns arguments.entry.turns (T.timer_events timer.old) (T.timer_events timer.new)) result }
     ensures why { result ≢ Refused 80 }
+    ensures beyond { is_beyond false (is_some arguments.entry.control) result ≡ false }
     ensures store { (file new : Bool) → IsStoreless file new result }
 {
     log_start(rt, arguments);
@@ -522,6 +523,7 @@ fn run_sealed<F: NodeFiles, D: Databases, T: Timer>(
         (IsClosedIn ⟦<FileStore<File> as Store>⟧ (D.closed dbs.now))
         (MadeTurns arguments.entry.turns (T.timer_events timer.old) (T.timer_events timer.new)) result }
     ensures ending { result ≢ Refused 80 }
+    ensures beyond { is_beyond (is_some arguments.entry.key) (is_some arguments.entry.control) result ≡ false }
     ensures store { (file new : Bool) → IsStoreless file new result }
 {
     match sealing_for(rt, files, alloc, arguments, m, keys, found) {
@@ -558,6 +560,7 @@ fn run_new<F: NodeFiles, D: Databases, T: Timer>(
         (IsClosedIn ⟦<FileStore<File> as Store>⟧ (D.closed dbs.now))
         (MadeTurns arguments.entry.turns (T.timer_events timer.old) (T.timer_events timer.new)) result }
     ensures ending { result ≢ Refused 80 }
+    ensures beyond { is_beyond (is_some arguments.entry.key) (is_some arguments.entry.control) result ≡ false }
     ensures store { IsStoreless arguments.entry.is_from_file arguments.entry.is_new result }
     ensures none { result ≡ Refused NO_STORE → IsNone found }
 {
@@ -597,6 +600,7 @@ pub fn run_node<F: NodeFiles, D: Databases, T: Timer>(
         (IsClosedIn ⟦<FileStore<File> as Store>⟧ (D.closed dbs.now))
         (MadeTurns arguments.entry.turns (T.timer_events timer.old) (T.timer_events timer.new)) result }
     ensures ending { result ≢ Refused 80 }
+    ensures beyond { is_beyond (is_some arguments.entry.key) (is_some arguments.entry.control) result ≡ false }
     ensures store { IsStoreless arguments.entry.is_from_file arguments.entry.is_new result }
     ensures none { result ≡ Refused NO_STORE → HasNone (D.is_seen dbs.now) arguments.entry.store.now }
 {

@@ -1,8 +1,9 @@
 //! How a node's packets are sealed: its keys, and this start of it.
 
 ghost use Rattle.std.specs.Prelude.{◌≡◌, ◌⊎◌, ◌||◌, ◌<◌, ◌++◌, Ok, Err, Some, true, codes};
-ghost use Rattle.std.specs.Prelude.{OnErr, IfOk, IfSome, option_map, is_some};
+ghost use Rattle.std.specs.Prelude.{OnErr, IfErr, IfOk, IfSome, option_map, is_some, false};
 ghost use Rattle.cli_node.specs.declared.outcome.Outcome.TheVariants.{Memory, Refused, Sound};
+ghost use Rattle.cli_node.specs.Endings.{is_beyond};
 ghost use Rattle.cli_node.specs.Stores.{is_made};
 
 use crate::faults::log_unusable;
@@ -105,6 +106,7 @@ pub(crate) fn sealing_for<F: NodeFiles>(
 ) -> Result<Option<Sealing>, Outcome>
     requires here { m.me < m.members }
     ensures refused { OnErr result ((result ≡ Err Memory) ⊎ (result ≡ Err (Refused 95))) }
+    ensures beyond { IfErr result (λ o. is_beyond (is_some keys) false o ≡ false) }
     ensures keys { IfOk result (λ s. option_map (λ x. x.keys) s ≡ keys) }
     ensures start { IfOk result (λ s. IfSome s (λ x. F.raises files.now
         (arguments.entry.store.now ++ codes "-starts") m.members m.me
@@ -125,7 +127,8 @@ pub(crate) fn of_starts(
     m: Option<Membership>,
     is_new: bool,
 ) -> Outcome
-    ensures { (result ≡ Sound) ⊎ ((result ≡ Memory) ⊎ (result ≡ Refused 95)) }
+    ensures why { (result ≡ Sound) ⊎ ((result ≡ Memory) ⊎ (result ≡ Refused 95)) }
+    ensures beyond { is_beyond (is_some arguments.entry.key) false result ≡ false }
 {
     let Some(m) = m else {
         return Outcome::Sound;

@@ -1,12 +1,13 @@
 //! The subcommand `node` with its file of settings.
 
 ghost use Rattle.std.specs.Prelude.{◌≡◌, ◌≢◌, ◌⊎◌, ◌∷◌, ℕ, List, [], Some, None, Err, false, length, map};
-ghost use Rattle.std.specs.Prelude.{option_map, codes, IfOk, IfErr, OnErr};
+ghost use Rattle.std.specs.Prelude.{◌||◌, option_map, is_some, codes, IfOk, IfErr, OnErr};
 ghost use Rattle.std.specs.List.{All};
 ghost use Rattle.cli_files.specs.Clusters.{IsClusterKey, IsKeyOfFile};
 ghost use Rattle.cli_node.specs.declared.outcome.Outcome.TheVariants.{Memory, Refused};
 ghost use Rattle.cli_node.specs.declared.settings.TheConstants.{UNREADABLE};
 ghost use Rattle.cli_node.specs.Doing.{Adds, GaveSo, NodeEvent, Ran, Checked};
+ghost use Rattle.cli_node.specs.Endings.{is_beyond};
 ghost use Rattle.cli_node.specs.Places.{has_place};
 ghost use Rattle.cli_node.specs.MemberRuns.{Anything, EndsNode, hears_asks};
 ghost use Rattle.cli_node.specs.Secrets.{AreNamed};
@@ -186,9 +187,11 @@ impl Nodes for HostRuntime {
         × IsKeyOfFile ⟦<std::fs::File as Read>⟧.remaining w.cluster (map (λ t. t.now) w.members.now) key)
         (option_map (λ t. t.now) w.key) (option_map (λ t. t.now) w.other_key))
         (λ m. Anything) (hears_asks w.key w.control) (map (λ t. t.now) w.members.now) (λ m. Anything) Anything
-        Anything outcome × (outcome ≢ Refused 80) × IsStoreless w.is_from_file w.is_new outcome)
+        Anything outcome × (outcome ≢ Refused 80) × IsStoreless w.is_from_file w.is_new outcome ×
+        (is_beyond (is_some w.key) (is_some w.control) outcome ≡ false))
         (λ w outcome. (has_place w.me (length w.members.now) ≡ false → outcome ≡ Refused 40) ×
-        IsStoreless w.is_from_file w.is_new outcome)) };
+        IsStoreless w.is_from_file w.is_new outcome ×
+        (is_beyond (is_some w.key || is_some w.other_key) (is_some w.control) outcome ≡ false))) };
 
     fn run(&mut self, alloc: Global, arguments: NodeArguments<'_, '_, '_>) -> Outcome {
         let mut timer = TickTimer::new(arguments.me);

@@ -1,7 +1,8 @@
 //! The sockets of a node, tried before its store is made, and with `--check`: each is opened and closed.
 
-ghost use Rattle.std.specs.Prelude.{◌≡◌, ◌⊎◌, IfErr};
+ghost use Rattle.std.specs.Prelude.{◌≡◌, ◌⊎◌, IfErr, false, is_some};
 ghost use Rattle.cli_node.specs.declared.outcome.Outcome.TheVariants.{Memory, Refused, Sound};
+ghost use Rattle.cli_node.specs.Endings.{is_beyond};
 
 use crate::faults::log_why;
 use crate::node::{NodeArguments, bind, figures_at};
@@ -62,7 +63,8 @@ fn try_all(
     alloc: Global,
     arguments: NodeArguments<'_, '_, '_>,
 ) -> Result<(), Outcome>
-    ensures { IfErr result (λ o. (o ≡ Memory) ⊎ ((o ≡ Refused 82) ⊎ (o ≡ Refused 84))) }
+    ensures refused { IfErr result (λ o. (o ≡ Memory) ⊎ ((o ≡ Refused 82) ⊎ (o ≡ Refused 84))) }
+    ensures beyond { IfErr result (λ o. is_beyond false (is_some arguments.entry.control) o ≡ false) }
 {
     match try_ports(rt, alloc, arguments) {
         Ok(()) => {}
@@ -87,7 +89,8 @@ pub(crate) fn try_sockets(
     alloc: Global,
     arguments: NodeArguments<'_, '_, '_>,
 ) -> Result<(), Outcome>
-    ensures { IfErr result (λ o. (o ≡ Memory) ⊎ ((o ≡ Refused 82) ⊎ (o ≡ Refused 84))) }
+    ensures refused { IfErr result (λ o. (o ≡ Memory) ⊎ ((o ≡ Refused 82) ⊎ (o ≡ Refused 84))) }
+    ensures beyond { IfErr result (λ o. is_beyond false (is_some arguments.entry.control) o ≡ false) }
 {
     match try_all(rt, alloc, arguments) {
         Ok(()) => Ok(()),
@@ -132,7 +135,8 @@ pub(crate) fn of_control(
     alloc: Global,
     arguments: NodeArguments<'_, '_, '_>,
 ) -> Outcome
-    ensures { (result ≡ Sound) ⊎ ((result ≡ Memory) ⊎ (result ≡ Refused 84)) }
+    ensures why { (result ≡ Sound) ⊎ ((result ≡ Memory) ⊎ (result ≡ Refused 84)) }
+    ensures beyond { is_beyond false (is_some arguments.entry.control) result ≡ false }
 {
     let Some(path) = arguments.control else {
         return Outcome::Sound;

@@ -1,6 +1,6 @@
 //! A node's store: opened where it is, and made where it may be.
 
-ghost use Rattle.std.specs.Prelude.{◌≡◌, ◌≢◌, ◌⊎◌, None, Err, IfOk, IfErr, OnErr, true, false};
+ghost use Rattle.std.specs.Prelude.{◌≡◌, ◌≢◌, ◌⊎◌, None, Err, IfOk, IfErr, OnErr, is_some, true, false};
 ghost use Rattle.sqlite.specs.Held.{state};
 ghost use Rattle.sqlite.specs.State.{HasCleanDisk};
 ghost use Rattle.px_store.specs.Tables.{no_schema};
@@ -9,7 +9,7 @@ ghost use Rattle.px_store.specs.Adopting.{Began, IsBrought, IsMade, IsVerdict, I
 ghost use Rattle.px_store.specs.View.{connection_after, connection_of, IsOpened};
 ghost use Rattle.cli_node.specs.declared.outcome.Outcome.TheVariants.{Memory, Refused};
 ghost use Rattle.cli_node.specs.declared.store.TheConstants.{NO_STORE, FILE_IS_THERE};
-ghost use Rattle.cli_node.specs.Endings.{adopt_outcome};
+ghost use Rattle.cli_node.specs.Endings.{adopt_outcome, is_beyond};
 ghost use Rattle.cli_node.specs.Stores.{identity_at, IsKeptIn, IsOpening, IsRefusal, IsStoreless, IsUnmade};
 ghost use Rattle.cli_node.specs.Stores.{MayRun, is_made, refusal_at};
 ghost use Rattle.cli_node.specs.Stores.{IsFoundAt, IsNone, found_by, has_no_byte};
@@ -215,6 +215,7 @@ fn make_store<D: Databases>(
     found: Found,
 ) -> Result<Connection<FileStore<File>>, Outcome>
     ensures refused { IfErr result IsUnmade }
+    ensures beyond { IfErr result (λ o. is_beyond false (is_some arguments.entry.control) o ≡ false) }
     ensures held { IfOk result (λ c.
         D.holds dbs.now arguments.entry.store.now (state ⟦<FileStore<File> as Store>⟧ c).now
         (state ⟦<FileStore<File> as Store>⟧ c).in_transaction) }
@@ -259,6 +260,7 @@ fn open_store<D: Databases>(
     ensures held { arguments.entry.is_new ≡ true → found ≡ Found.Store → result ≡ Err (Refused FILE_IS_THERE) }
     ensures none { result ≡ Err (Refused NO_STORE) → IsNone found }
     ensures unfailed { OnErr result (result ≢ Err (Refused 80)) }
+    ensures beyond { IfErr result (λ o. is_beyond false (is_some arguments.entry.control) o ≡ false) }
 {
     match opening_of(arguments.is_from_file, arguments.is_new, found) {
         Opening::Opens => open_file(rt, dbs, arguments.store),
@@ -319,6 +321,7 @@ pub(crate) fn record_at<D: Databases>(
     ensures kind { IfErr result IsRefusal }
     ensures none { result ≡ Err (Refused NO_STORE) → IsNone found }
     ensures unfailed { OnErr result (result ≢ Err (Refused 80)) }
+    ensures beyond { IfErr result (λ o. is_beyond false (is_some arguments.entry.control) o ≡ false) }
 {
     let conn = match open_store(rt, dbs, alloc, arguments, found) {
         Ok(conn) => conn,

@@ -1,5 +1,5 @@
 -- The address of a member: an IP address, a colon, and a port.
-use Rattle.std.specs.Prelude.{◌≡◌, ◌⊎◌, ℕ, Bool, false, not, ◌==◌, ◌&&◌, ◌||◌, ◌+◌, List, [], ◌∷◌, length, take, drop}
+use Rattle.std.specs.Prelude.{◌≡◌, ◌⊎◌, ⊤, ℕ, Bool, false, not, ◌==◌, ◌&&◌, ◌||◌, ◌+◌, List, [], ◌∷◌, length, take, drop}
 use Rattle.std.specs.Prelude.{Option, Some, None, Result, Ok, Err, if◌then◌else◌, slice_index, codes, decimal, ◌++◌}
 use Rattle.std.specs.List.{prefix_len, list_all}
 use Rattle.std.specs.Char.{is_ascii_alphabetic, is_ascii_alphanumeric}
@@ -95,16 +95,22 @@ host_port text =
 abbrev pub host_of : List ℕ → List ℕ
 host_of text = take (prefix_len is_no_colon text) text
 
--- the address that the text is, or what the system gives for the name that it is, with its port
-abbrev pub IsFound : List ℕ → Address → Type 0
-IsFound text a = (address_of text ≡ Some a) ⊎ ((address_of text ≡ None) × (host_port text ≡ Some a.port))
+-- the address that the text is, or an IP address by which the host that it names is known, with its port
+abbrev pub IsFound : (is_known : (host : List ℕ) → Addr → Type 0) → List ℕ → Address → Type 0
+IsFound is_known text a =
+    (address_of text ≡ Some a)
+    ⊎ ((address_of text ≡ None) × (host_port text ≡ Some a.port) × is_known (host_of text) a.ip)
 
 -- each of the strings, in order
-abbrev pub AreFound : List (List ℕ) → List Address → Type 0
-AreFound [] [] = Unit {0}
-AreFound [] (a ∷ rest) = ⊥
-AreFound (text ∷ texts) [] = ⊥
-AreFound (text ∷ texts) (a ∷ rest) = IsFound text a × AreFound texts rest
+abbrev pub AreFound : (is_known : (host : List ℕ) → Addr → Type 0) → List (List ℕ) → List Address → Type 0
+AreFound is_known [] [] = Unit {0}
+AreFound is_known [] (a ∷ rest) = ⊥
+AreFound is_known (text ∷ texts) [] = ⊥
+AreFound is_known (text ∷ texts) (a ∷ rest) = IsFound is_known text a × AreFound is_known texts rest
+
+-- the same where nothing says by which IP addresses a host is known, as nothing does of the system
+abbrev pub AreAddresses : List (List ℕ) → List Address → Type 0
+AreAddresses = AreFound (λ host ip. ⊤)
 
 -- the text is no address, and no name of a known host with a port
 abbrev pub IsUnfound : (is_unknown : (host : List ℕ) → Type 0) → (text : List ℕ) → Type 0

@@ -80,8 +80,8 @@ own_of peers me = if me == 255 then Some (client_port peers) else slice_get peer
 
 -- Why there is no wire of a member, or with 255 of a client: one of the strings is no address; the member has none; or
 -- no socket is to be had at its own.
-abbrev pub HasNoSocket : (is_unknown : (host : List ℕ) → Type 0) → (is_refused : Address → Type 0) →
-    (texts : List (List ℕ)) → (me : ℕ) → Type 0
-HasNoSocket is_unknown is_refused texts me =
-    Any (IsUnfound is_unknown) texts
-    ⊎ ((peers : List Address) × AreFound texts peers × IfSome (own_of peers me) is_refused)
+abbrev pub HasNoSocket : (is_known : (host : List ℕ) → Addr → Type 0) → (is_unknown : (host : List ℕ) → Type 0) →
+    (is_refused : Address → Type 0) → (strings : List (List ℕ)) → (me : ℕ) → Type 0
+HasNoSocket is_known is_unknown is_refused strings me =
+    Any (IsUnfound is_unknown) strings
+    ⊎ ((peers : List Address) × AreFound is_known strings peers × IfSome (own_of peers me) is_refused)

@@ -57,7 +57,7 @@ fn host_port(text: &[u8]) -> Option<u16>
 
 /// The address that the text is, or what the system gives for the host's name in it.
 pub(crate) fn find<R: Network>(rt: &R, text: &str) -> Option<Address>
-    ensures found { IfSome result (λ a. IsFound text.now a) }
+    ensures found { IfSome result (IsFound (R.is_known rt.now) text.now) }
     ensures unfound { result ≡ None → IsUnfound (R.is_unknown rt.now) text.now }
 {
     if let Some(address) = parse_address(text) {

@@ -2,6 +2,7 @@
 
 ghost use Rattle.std.specs.Prelude.{◌≡◌, ⊤, ℕ, List, None, IfSome};
 ghost use Rattle.std.specs.declared.net.udp.UdpSocket.{UdpSocket};
+ghost use Rattle.pf_addr.specs.declared.addr.Addr.{Addr};
 ghost use Rattle.node_udp.specs.declared.address.Address.{Address};
 
 use crate::address::{Address, bits_of};
@@ -18,6 +19,9 @@ pub trait Network {
     // no socket is to be had at this address
     ghost is_refused: { Self → Address → Type 0 };
 
+    // a host is known by this name, at this IP address
+    ghost is_known: { Self → (host : List ℕ) → Addr → Type 0 };
+
     // no host is known by this name
     ghost is_unknown: { Self → (host : List ℕ) → Type 0 };
 
@@ -28,7 +32,8 @@ pub trait Network {
 
     /// The IP address of a host, at which something listens on this port.
     fn look_up(&self, host: &str, port: u16) -> Option<Addr>
-        ensures { result ≡ None → is_unknown self.now host.now };
+        ensures known { IfSome result (is_known self.now host.now) }
+        ensures unknown { result ≡ None → is_unknown self.now host.now };
 }
 
 impl<R: Net> Network for R {
@@ -36,6 +41,8 @@ impl<R: Net> Network for R {
     ghost is_bound = { λ _ _ _. ⊤ };
 
     ghost is_refused = { λ _ _. ⊤ };
+
+    ghost is_known = { λ _ _ _. ⊤ };
 
     ghost is_unknown = { λ _ _. ⊤ };
 

@@ -114,7 +114,7 @@ impl<S: Drop, C: Drop> Drop for UdpWire<S, C> {
 
 /// The addresses of the strings.
 fn addresses<R: Network>(rt: &R, alloc: Global, texts: &[&str]) -> Result<Vec<Address>, BindFault>
-    ensures all { IfOk result (λ v. AreFound (map (λ t. t.now) texts.now) v.items) }
+    ensures all { IfOk result (λ v. AreFound (R.is_known rt.now) (map (λ t. t.now) texts.now) v.items) }
     ensures unfound { result ≡ Err NoSocket → Any (IsUnfound (R.is_unknown rt.now)) (map (λ t. t.now) texts.now) }
 {
     let mut peers = Vec::new(alloc);
@@ -181,7 +181,7 @@ impl<R: Network + Clock + Copy> UdpWire<UdpSocket, R> {
         wait_ms: u32,
     ) -> Result<UdpWire<UdpSocket, R>, BindFault>
         requires wait { 0 < wait_ms }
-        ensures peers { IfOk result (λ w. AreFound (map (λ t. t.now) addrs.now) (peers_of w)) }
+        ensures peers { IfOk result (λ w. AreFound (R.is_known rt.now) (map (λ t. t.now) addrs.now) (peers_of w)) }
         ensures me { IfOk result (λ w. me_of w ≡ me) }
         ensures wait { IfOk result (λ w. wait_of w ≡ wait_ms * 1000000) }
         ensures strangers { IfOk result (λ w. strangers_of w ≡ 0) }
@@ -189,7 +189,8 @@ impl<R: Network + Clock + Copy> UdpWire<UdpSocket, R> {
         ensures traffic { IfOk result (λ w. WentOver (⟦<UdpSocket as Socket>⟧.traffic (socket_of w)) w []) }
         ensures own { IfOk result (λ w. IfSome (own_of (peers_of w) me) (λ own. R.is_bound rt.now own (socket_of w))) }
         ensures refused { result ≡ Err NoSocket →
-            HasNoSocket (R.is_unknown rt.now) (R.is_refused rt.now) (map (λ t. t.now) addrs.now) me }
+            HasNoSocket (R.is_known rt.now) (R.is_unknown rt.now) (R.is_refused rt.now) (map (λ t. t.now) addrs.now)
+            me }
     {
         let peers = match addresses(rt, alloc, addrs) {
             Ok(peers) => peers,

@@ -1,8 +1,10 @@
 -- the first of what is refused
-use Rattle.std.proofs.Common.{◌∙◌, ap, sym, subst}
+use Rattle.std.proofs.Common.{◌≡◌, ◌∙◌, ap, false, sym, subst}
+use Rattle.std.specs.Prelude.{◌||◌, is_some}
 use Rattle.cli_node.specs.declared.outcome.Outcome.{Outcome}
-use Rattle.cli_node.specs.Endings.{checked, first_of}
+use Rattle.cli_node.specs.Endings.{checked, first_of, is_beyond}
 use Rattle.cli_node.specs.Stores.{IsStoreless}
+use Rattle.cli_node.proofs.Beyond as beyond
 use Rattle.cli_node.proofs.Endings.{of_check, none_of, place_first, keys_sound, place_sound, store_sound, member_sound, if_some}
 use Rattle.cli_node.proofs.check.check_node.Goals as goal
 
@@ -15,7 +17,7 @@ returns-clause-store g c =
     subst (λ (o : Outcome). IsStoreless c.args.arguments.is_from_file c.args.arguments.is_new o)
     (sym (c.checked.ensures ∙ ap (λ (o : Outcome). checked c.of_place-place.result o c.of_store-store.result c.starts_of-starts.result c.of_addresses-addresses.result c.of_control-control.result) c.first_of.ensures))
     (of_check c.args.arguments.is_from_file c.args.arguments.is_new c.of_place-place.result c.of_key-key.result c.of_key-other.result c.of_store-store.result c.starts_of-starts.result
-    c.of_addresses-addresses.result c.of_control-control.result c.of_place-place.ensures.some c.of_key-key.ensures.why c.of_key-other.ensures.why c.of_store-store.ensures.store c.starts_of-starts.ensures c.of_addresses-addresses.ensures c.of_control-control.ensures)
+    c.of_addresses-addresses.result c.of_control-control.result c.of_place-place.ensures.some c.of_key-key.ensures.why c.of_key-other.ensures.why c.of_store-store.ensures.store c.starts_of-starts.ensures.why c.of_addresses-addresses.ensures c.of_control-control.ensures.why)
 
 pub returns-clause-key : goal.returns-clause-key
 returns-clause-key g c = λ e. c.of_key-key.ensures.sound
@@ -36,3 +38,10 @@ returns-clause-fit g c = λ e.
     let is = if_some c.membership-m.result _ m.0 m.1 c.membership-m.ensures.some in
     let fit = c.of_store-store.ensures.sound store m.0 m.1 in
     (m.0, (fit.0, (is.0, (is.1, (is.2, (if_some c.found_of-found.result _ fit.0 fit.1.0 c.found_of-found.ensures, fit.1.1))))))
+
+pub returns-clause-beyond : goal.returns-clause-beyond
+returns-clause-beyond g c =
+    subst (λ (o : Outcome). is_beyond (is_some c.args.arguments.key || is_some c.args.arguments.other_key) (is_some c.args.arguments.control) o ≡ false)
+    (sym (c.checked.ensures ∙ ap (λ (o : Outcome). checked c.of_place-place.result o c.of_store-store.result c.starts_of-starts.result c.of_addresses-addresses.result c.of_control-control.result) c.first_of.ensures))
+    (beyond.of_check _ _ _ c.of_place-place.result c.of_key-key.result c.of_key-other.result c.of_store-store.result c.starts_of-starts.result
+    c.of_addresses-addresses.result c.of_control-control.result c.of_place-place.ensures.some c.of_key-key.ensures.beyond c.of_key-other.ensures.beyond c.of_store-store.ensures.beyond c.starts_of-starts.ensures.beyond c.of_addresses-addresses.ensures c.of_control-control.ensures.beyond)

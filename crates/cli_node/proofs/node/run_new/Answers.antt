@@ -1,5 +1,8 @@
 -- what the run ended with
-use Rattle.std.proofs.Common.{Err, ap, inl, inr}
+use Rattle.std.proofs.Common.{◌≡◌, Bool, Err, ap, false, inl, inr, subst}
+use Rattle.std.specs.Prelude.{is_some}
+use Rattle.cli_node.specs.Endings.{is_beyond}
+use Rattle.cli_node.proofs.Beyond.{controlled_or_not, keyed_or_not}
 use Rattle.cli_node.proofs.Endings.{refusal_of, unsealed}
 use Rattle.cli_node.proofs.Stores.{not_lost}
 use Rattle.cli_node.proofs.node.run_new.Goals as goal
@@ -32,3 +35,14 @@ returns-in-Ok-record_at-clause-none g c = λ e. absurd (not_lost c.run_on.result
 
 pub returns-in-Err-record_at-clause-none : goal.returns-in-Err-record_at-clause-none
 returns-in-Err-record_at-clause-none g c = λ e. c.in-Err-record_at.ensures.none (ap Err e)
+
+pub returns-in-Ok-record_at-clause-beyond : goal.returns-in-Ok-record_at-clause-beyond
+returns-in-Ok-record_at-clause-beyond g c = keyed_or_not (is_some c.args.arguments.key) (is_some c.args.arguments.control) c.run_on.result c.run_on.ensures.beyond
+
+pub returns-in-Err-record_at-clause-beyond : goal.returns-in-Err-record_at-clause-beyond
+returns-in-Err-record_at-clause-beyond g c = keyed_or_not (is_some c.args.arguments.key) (is_some c.args.arguments.control) c.in-Err-record_at.outcome c.in-Err-record_at.ensures.beyond
+
+pub returns-in-Err-clause-beyond : goal.returns-in-Err-clause-beyond
+returns-in-Err-clause-beyond g c =
+    controlled_or_not (is_some c.args.arguments.key) (is_some c.args.arguments.control) c.in-Err.outcome
+    (subst (λ (k : Bool). is_beyond k false c.in-Err.outcome ≡ false) c.requires.keyed c.in-Err.ensures.beyond)

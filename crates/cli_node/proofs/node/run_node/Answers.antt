@@ -1,5 +1,7 @@
 -- what the run ended with, of its member, its keys and its start
 use Rattle.std.proofs.Common.{◌∙◌, Err, ap, arith, inl, inr, sym}
+use Rattle.std.specs.Prelude.{is_some}
+use Rattle.cli_node.proofs.Beyond.{controlled_or_not, keyed_or_not}
 use Rattle.cli_node.proofs.Endings.{lost_by, refusal_of, new_map, with_map}
 use Rattle.cli_node.proofs.Stores.{not_lost}
 use Rattle.cli_node.proofs.node.run_node.Goals as goal
@@ -64,3 +66,11 @@ pub returns-in-Err-clause-none : goal.returns-in-Err-clause-none
 returns-in-Err-clause-none g c = λ e.
     absurd (lost_by 83 c.keys_for.result c.in-Err.outcome (λ b. omega (arith, b)) c.in-Err.is
     c.keys_for.ensures.refused e)
+
+-- nor is it refused for a key or a control socket that it doesn't name
+
+pub returns-in-Err-clause-beyond : goal.returns-in-Err-clause-beyond
+returns-in-Err-clause-beyond g c = controlled_or_not (is_some c.args.arguments.key) (is_some c.args.arguments.control) c.in-Err.outcome c.in-Err.ensures.beyond
+
+pub returns-in-Err-record_at-clause-beyond : goal.returns-in-Err-record_at-clause-beyond
+returns-in-Err-record_at-clause-beyond g c = keyed_or_not (is_some c.args.arguments.key) (is_some c.args.arguments.control) c.in-Err-record_at.outcome c.in-Err-record_at.ensures.beyond

@@ -1,9 +1,11 @@
 -- what the run gave, or what it failed of
-use Rattle.std.proofs.Common.{◌∙◌, ap, sym, subst}
+use Rattle.std.proofs.Common.{◌∙◌, ap, false, sym, subst}
+use Rattle.std.specs.Prelude.{is_some}
 use Rattle.sqlite.specs.Files.{file_state}
 use Rattle.cli_node.specs.declared.outcome.Outcome.{Outcome}
-use Rattle.cli_node.specs.Endings.{ending_of}
+use Rattle.cli_node.specs.Endings.{ending_of, is_beyond}
 use Rattle.cli_node.specs.Stores.{IsStoreless}
+use Rattle.cli_node.proofs.Beyond as beyond
 use Rattle.cli_node.proofs.Endings.{of_run, of_ending}
 use Rattle.cli_node.proofs.node.run_on.Goals as goal
 
@@ -21,3 +23,10 @@ returns-clause-ran g c = (
   c.run_member_in-outcome.ensures.hosted,
   c.run_member_in-outcome.ensures.ran,
 )
+
+pub returns-clause-beyond : goal.returns-clause-beyond
+returns-clause-beyond g c =
+    ap (is_beyond false (is_some c.args.arguments.control)) c.ending_of-outcome.ensures.is
+    ∙ beyond.of_ending (is_some c.args.arguments.control) c.run_member_in-outcome.result.0 c.failures.result
+    (beyond.of_member _ _ _ _ _ c.args.arguments.control c.run_member_in-outcome.ensures.hosted
+    c.run_member_in-outcome.ensures.turns)

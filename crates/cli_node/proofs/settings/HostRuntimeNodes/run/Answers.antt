@@ -9,4 +9,5 @@ returns c es h = ran_so _ _ es c.args.arguments c.run_node.result h (
   node_any _ _ _ _ _ _ _ _ _ _ c.run_node.ensures.ran,
   c.run_node.ensures.ending,
   c.run_node.ensures.store,
+  c.run_node.ensures.beyond,
 )
