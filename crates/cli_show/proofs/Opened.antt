@@ -5,6 +5,7 @@ use Rattle.px_model.specs.Step.{front}
 use Rattle.px_model.specs.World.{NodeState, started}
 use Rattle.px_model.specs.Spelling.{Bytes}
 use Rattle.px_records.specs.declared.records.Records.{Ghosts}
+use Rattle.px_replica.specs.Calls.{HasBadEntry}
 use Rattle.px_replica.specs.declared.fault.NodeFault.TheVariants as fault
 use Rattle.pf_node.specs.Applied.{after}
 use Rattle.pf_node.specs.Nodes.{records_of, learned_by, state_in, applied_of, kept_of, config_of}
@@ -14,7 +15,7 @@ use Rattle.cli_show.specs.declared.shown.Shown.{Shown}
 use Rattle.cli_show.specs.declared.shown.Wanted.{Wanted}
 
 -- it is given back as it was, and the configuration is the log's up to the first gap
-pub shows_record : {R : Type 0} {G : Ghosts R} (given back : R) (n : Node R G) (w : Wanted) (s : Shown) →
+pub shows_record : {R : Type 0} {G : Ghosts R} (members : ℕ) (given back : R) (n : Node R G) (w : Wanted) (s : Shown) →
     (G.is_honest (records_of n) → G.is_honest given) →
     (G.is_honest (records_of n) → state_in n ≡ started (G.stored given)) →
     (G.is_honest (records_of n) → learned_by n ≡ (G.stored given).learned) →
@@ -22,8 +23,9 @@ pub shows_record : {R : Type 0} {G : Ghosts R} (given back : R) (n : Node R G) (
     after (learned_by n) (applied_of n) ≡ Some (config_of n) →
     back ≡ records_of n →
     Shows (learned_by n) (applied_of n) (kept_of n) (config_of n) w s →
-    G.is_honest back → ShowsRecord G given back w s
-shows_record {R} {G} given back n w s was stands learned applied configured is shows honest =
+    (G.is_honest (records_of n) → HasBadEntry G given members → ⊥) →
+    G.is_honest back → ShowsRecord G members given back w s
+shows_record {R} {G} members given back n w s was stands learned applied configured is shows good honest =
     let own : G.is_honest (records_of n) = subst G.is_honest is honest in
     let log : learned_by n ≡ (G.stored given).learned = learned own in
     let same : G.stored (records_of n) ≡ G.stored given = ap (λ (x : NodeState Bytes). x.stored) (stands own) in
@@ -33,6 +35,7 @@ shows_record {R} {G} given back n w s was stands learned applied configured is s
     let whole = subst (λ (x : Log Bytes). Shows x (applied_of n) (kept_of n) (config_of n) w s) log shows in
     record {
       was = was own;
+      good = good own;
       same = ap G.stored is ∙ same;
       shows = record {
         configuration = config_of n;

@@ -47,16 +47,16 @@ begins_again old new began same = record {
 }
 
 -- what is shown of the record that was taken is shown of the rows that were there
-pub shows_store : {R : Type 0} {G : Ghosts R} {E : Type 0} (given came : State) (adopted back : R) (w : Wanted) (s : Shown)
+pub shows_store : {R : Type 0} {G : Ghosts R} {E : Type 0} (members : ℕ) (given came : State) (adopted back : R) (w : Wanted) (s : Shown)
     (answer : Result Shown E) →
     (HasCleanDisk came → Began Three given → IsSame given came) →
     (G.is_honest adopted → HasCleanDisk came) →
     (G.is_honest adopted → Began Three came → G.stored adopted ≡ record_at Three came.now.trees) →
-    (G.is_honest back → IfOk answer (λ x. ShowsRecord G adopted back w x)) → answer ≡ Ok s →
+    (G.is_honest back → IfOk answer (λ x. ShowsRecord G members adopted back w x)) → answer ≡ Ok s →
     G.is_honest back → Began Three given → ShowsStore G given back w s
-shows_store {R} {G} {E} given came adopted back w s answer stays clean opened shows is honest began =
-    let shown : ShowsRecord G adopted back w s =
-    subst (λ (r : Result Shown E). IfOk r (λ x. ShowsRecord G adopted back w x)) is (shows honest) in
+shows_store {R} {G} {E} members given came adopted back w s answer stays clean opened shows is honest began =
+    let shown : ShowsRecord G members adopted back w s =
+    subst (λ (r : Result Shown E). IfOk r (λ x. ShowsRecord G members adopted back w x)) is (shows honest) in
     let same : IsSame given came = stays (clean shown.was) began in
     let rows : record_in came.now.trees ≡ record_in given.now.trees = ap (λ (d : Database). record_in d.trees) same.now in
     let was : G.stored adopted ≡ record_in given.now.trees = opened shown.was (begins_again given came began same) ∙ rows in

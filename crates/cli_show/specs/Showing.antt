@@ -4,7 +4,7 @@ use Rattle.px_model.specs.Node.{Log}
 use Rattle.px_model.specs.Step.{front}
 use Rattle.px_model.specs.Spelling.{Bytes}
 use Rattle.px_records.specs.declared.records.Records.{Ghosts}
-use Rattle.px_replica.specs.Calls.{OpenRefused}
+use Rattle.px_replica.specs.Calls.{HasBadEntry, OpenRefused}
 use Rattle.px_replica.specs.declared.fault.NodeFault.{NodeFault}
 use Rattle.px_replica.specs.declared.fault.NodeFault.TheVariants as fault
 use Rattle.pf_config.specs.Map.{Configuration}
@@ -41,8 +41,10 @@ pub record ShowsLog (log : Log Bytes) (w : Wanted) (s : Shown) : Type 0 where
   pub shows : Shows log (front log) kept configuration w s
 
 -- The record was honest and is given back as it was, and this is shown of it, if it could be opened and memory served.
-pub record ShowsRecord {R : Type 0} (G : Ghosts R) (given back : R) (w : Wanted) (s : Shown) : Type 0 where
+-- Example: nothing is shown of a record of which a learned entry's row is bad.
+pub record ShowsRecord {R : Type 0} (G : Ghosts R) (members : ℕ) (given back : R) (w : Wanted) (s : Shown) : Type 0 where
   pub was : G.is_honest given
+  pub good : HasBadEntry G given members → ⊥
   pub same : G.stored back ≡ G.stored given
   pub shows : ShowsLog (G.stored given).learned w s
 

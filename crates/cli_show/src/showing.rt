@@ -61,7 +61,7 @@ pub fn show_node<R: Records>(
 ///
 /// `Store` and `BadStore` are as for [`Node::open`], `Memory` when out of memory; but for `Store` the record is then
 /// as it was.
-#[tactic(auto, using(crate::proofs::Opened::shows_record, crate::proofs::Opened::not_shown, crate::proofs::Opened::was_before, crate::proofs::Opened::leaves_less))]
+#[tactic(auto, using(crate::proofs::Opened::not_shown, crate::proofs::Opened::was_before, crate::proofs::Opened::leaves_less))]
 pub fn show_record<R: Records>(
     alloc: Global,
     m: Membership,
@@ -71,7 +71,7 @@ pub fn show_record<R: Records>(
     requires members { R.members records ≡ m.members }
     requires here { m.me < m.members }
     ensures shows { R.is_honest result.1 → IfOk result.0
-        (λ s. ShowsRecord R.Records records result.1 wanted.entry s) }
+        (λ s. ShowsRecord R.Records m.members records result.1 wanted.entry s) }
     ensures refused { IfErr result.0 (λ e. IsRefused R.Records m.members records e result.1) }
     ensures was { R.is_honest result.1 → R.is_honest records }
     ensures stop { R.is_honest result.1 → (left : Record Bytes) → R.may_leave result.1 left →

@@ -11,7 +11,7 @@ use Rattle.cli_show.proofs.store.show_store.Goals as goal
 
 pub returns-in-Ok-shown-clause-shown : goal.returns-in-Ok-shown-clause-shown
 returns-in-Ok-shown-clause-shown g c =
-    shows_store (state g.S.Store c.args.conn) (state g.S.Store c.owner_of.new.conn) c.in-Ok-adopted.records
+    shows_store _ (state g.S.Store c.args.conn) (state g.S.Store c.owner_of.new.conn) c.in-Ok-adopted.records
     c.show_record-shown.result.1 c.args.wanted c.in-Ok-shown.shown c.show_record-shown.result.0 c.in-Ok.ensures.stays
     c.in-Ok-adopted.ensures.clean c.in-Ok-adopted.ensures.rows c.show_record-shown.ensures.shows c.in-Ok-shown.is
 
