@@ -3,7 +3,7 @@ use Rattle.std.proofs.Common.{◌≡◌, ◌∙◌, ◌==◌, ℕ, Bool, true, f
 use Rattle.std.specs.Prelude.{not}
 use Rattle.std.specs.Char.{is_ascii_graphic}
 use Rattle.std.specs.List.{list_all}
-use Rattle.std.proofs.lemmas.Bool.{and_parts, and_from}
+use Rattle.std.proofs.lemmas.Bool.{and_parts, and_from, not-true}
 use Rattle.std.proofs.lemmas.Bool.Decides.{nat_tests}
 use Rattle.std.proofs.lemmas.List.Folds.{list_all-append}
 use Rattle.pf_eval.specs.PacketTexts.{Word, is_blank, words}
@@ -62,16 +62,12 @@ no_newlines (w ∷ v ∷ ws) e =
     and_from (list_all (λ b. not (b == 10)) w) (list_all (λ b. not (b == 10)) (32 ∷ spaced (v ∷ ws)))
     (word_ends w a.0) (no_newlines (v ∷ ws) a.1)
 
-not_true : (b : Bool) → not b ≡ true → b ≡ false
-not_true true e = cc
-not_true false e = refl
-
 first_line : (line text : List ℕ) → list_all (λ b. not (b == 10)) line ≡ true →
     lines (line ++ 10 ∷ text) ≡ record { content = line; has_newline = true } ∷ lines text
 first_line [] text e = refl
 first_line (b ∷ bs) text e =
     let a = and_parts (not (b == 10)) (list_all (λ b. not (b == 10)) bs) e in
-    let n : (b == 10) ≡ false = not_true (b == 10) a.0 in
+    let n : (b == 10) ≡ false = not-true (b == 10) a.0 in
     rw n (ap (at_front b) (first_line bs text a.1))
 
 -- the arguments in the first of some lines

@@ -13,7 +13,7 @@ use Rattle.cli_nft.specs.Machines.{machine_in}
 use Rattle.nft_rules.specs.Rendering.{Machine}
 use Rattle.nft_rules.specs.Seen.{machine_of}
 use Rattle.cli_follow.specs.Exchanges.{Exchange, Adds}
-use Rattle.cli_follow.specs.Files.{Act}
+use Rattle.cli_follow.specs.Files.{Act, are_behind}
 use Rattle.cli_follow.specs.Output.{Wanted, Ends, wanted}
 use Rattle.cli_follow.specs.declared.files.TextFile.{TextFile}
 use Rattle.cli_follow.specs.declared.files.TextFiles.{TextFiles}
@@ -63,7 +63,8 @@ abbrev pub IsListed : (has : (path text : List ℕ) → Type 0) → Option Text 
 IsListed has named machine = (text : Option (List ℕ)) × (IsAt has named text × (machine ≡ option_and_then machine_in text))
 
 -- lines for nft(8) are written where these are asked for, for the interfaces of the file that is named, and with the
--- guard unless it is declined; rulesets for pfctl(8) go into the folder that is named, of which nothing is recorded yet
+-- guard unless it is declined; rulesets for pfctl(8) go into the folder that is named, of which nothing is recorded
+-- yet, and none is to be put again
 pub record IsWantedBy (has : (path text : List ℕ) → Type 0) (rows : List Row) (p : Places) : Type 0 where
   pub good : are_good rows ≡ true
   pub lines : is_some p.interfaces ≡ has_nft rows
@@ -71,6 +72,7 @@ pub record IsWantedBy (has : (path text : List ℕ) → Type 0) (rows : List Row
   pub guard : p.is_guarded ≡ (has_nft rows && not (has_no_guard rows))
   pub folder : folder_of p.files ≡ first_of (codes "pf") rows
   pub none : recorded p.files ≡ []
+  pub behind : are_behind p.files ≡ false
 
 -- 40 comes where the arguments don't go together, 89 where a file of interfaces lists none
 abbrev pub IsRefusedIf : (good nft : Bool) → (code : ℕ) → Type 0

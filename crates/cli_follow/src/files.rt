@@ -1,6 +1,6 @@
 //! Rulesets for pfctl(8) in files, one for each path.
 
-ghost use Rattle.std.specs.Prelude.{◌≡◌, List, [], ◌∷◌, IfOk, IfSome, IfNone, OnOk, OnErr, map, string_bytes, is_ok};
+ghost use Rattle.std.specs.Prelude.{◌≡◌, false, List, [], ◌∷◌, IfOk, IfSome, IfNone, OnOk, OnErr, map, string_bytes, is_ok};
 ghost use Rattle.std.specs.List.{list_all, list_any, AllByRecursion};
 ghost use Rattle.pf_dump.specs.Done.{AreDoneTo};
 ghost use Rattle.pf_dump.specs.Seen.{text_of};
@@ -179,6 +179,7 @@ impl TextFiles {
     pub fn new(alloc: Global, folder: &str) -> Result<TextFiles, AllocError>
         ensures folder { IfOk result (λ f. string_bytes f.folder ≡ folder.now) }
         ensures none { IfOk result (λ f. f.written.items ≡ []) }
+        ensures behind { IfOk result (λ f. f.is_behind ≡ false) }
     {
         Ok(TextFiles {
             folder: String::from_str(alloc, folder)?,

@@ -1,8 +1,9 @@
 //! What is to be written where, by the arguments.
 
-ghost use Rattle.std.specs.Prelude.{◌≡◌, [], IfOk, IfSome, Some, option_map};
+ghost use Rattle.std.specs.Prelude.{◌≡◌, false, [], IfOk, IfSome, Some, option_map};
 ghost use Rattle.clap.specs.Words.{found_of, rows_of};
 ghost use Rattle.nft_rules.specs.Seen.{machine_of};
+ghost use Rattle.cli_follow.specs.Files.{are_behind};
 ghost use Rattle.cli_follow.specs.Places.{folder_of, recorded, ArePlaces, IsListed};
 
 use crate::files::TextFiles;
@@ -69,6 +70,7 @@ fn log_interfaces<RT: Files, E: Write>(rt: &RT, file: &str, errors: &mut E) {
 fn files_in(alloc: Global, folder: Option<&str>) -> Result<Option<TextFiles>, AllocError>
     ensures folder { IfOk result (λ files. folder_of files ≡ option_map (λ f. f.now) folder.entry) }
     ensures none { IfOk result (λ files. recorded files ≡ []) }
+    ensures behind { IfOk result (λ files. are_behind files ≡ false) }
 {
     match folder {
         Some(folder) => Ok(Some(TextFiles::new(alloc, folder)?)),
