@@ -10,7 +10,7 @@ use Rattle.std.specs.Str.{chars, is_utf8}
 use Rattle.std.proofs.Math.Utf8.{encode, encodes}
 use Rattle.std.proofs.lemmas.Str.{encodes-chars, IsUtf8-from_is_utf8}
 use Rattle.std.proofs.lemmas.Bool.{and_parts, and_from, or_parts, eqb-true, false_from_ne_true, not_from_false}
-use Rattle.std.proofs.lemmas.Bool.{true≢false}
+use Rattle.std.proofs.lemmas.Bool.{not-true, true≢false}
 use Rattle.std.proofs.lemmas.List.Folds.{list_all-append}
 use Rattle.std.proofs.lemmas.List.Sums.{AllPass-from_list_all}
 use Rattle.std.proofs.lemmas.List.Splits.{slice_split_at, length-slice_split}
@@ -20,10 +20,6 @@ use Rattle.cli_ask.specs.Sending.{has_control, lines_of}
 
 other : (a b : ℕ) → a < b → (b == a) ≡ false
 other a b l = false_from_ne_true (b == a) (λ e. let same : b ≡ a = eqb-true b a e in omega (arith, l, same))
-
-not_true : (b : Bool) → not b ≡ true → b ≡ false
-not_true true e = cc
-not_true false e = refl
 
 not_this : (t c : ℕ) → is_control t ≡ true → is_control c ≡ false → not (c == t) ≡ true
 not_this t c k e =
@@ -65,7 +61,7 @@ word_clean t w l k u e =
     subst (λ (x : List ℕ). list_all (λ b. not (b == t)) x ≡ true) (encodes-chars w (IsUtf8-from_is_utf8 w u)) (chars_clean t (chars w) l k e)
 
 lacks : (t : ℕ) (w : List ℕ) → list_all (λ b. not (b == t)) w ≡ true → All (λ b. (b == t) ≡ false) w
-lacks t w e = λ k d l. not_true (get_or w k d == t) (AllPass-from_list_all (λ b. not (b == t)) w e k d l)
+lacks t w e = λ k d l. not-true (get_or w k d == t) (AllPass-from_list_all (λ b. not (b == t)) w e k d l)
 
 -- no carriage return is at its end
 whole : (w : List ℕ) → All (λ b. (b == 13) ≡ false) w → strip_carriage_return w ≡ w

@@ -2,14 +2,10 @@
 use Rattle.std.proofs.Common.{◌≡◌, ◌≢◌, ℕ, suc, ◌-◌, ◌||◌, Bool, true, false, List, [], ◌∷◌, ◌++◌, length, get_or, refl, sym, ap, subst, ◌∙◌, append_assoc, arith}
 use Rattle.std.specs.Prelude.{not}
 use Rattle.std.specs.List.{list_all}
-use Rattle.std.proofs.lemmas.Bool.{false≢true, and_parts, and_from}
+use Rattle.std.proofs.lemmas.Bool.{false≢true, and_parts, and_from, not-true}
 use Rattle.std.proofs.lemmas.List.{append-nil}
 use Rattle.pf_eval.specs.PacketTexts.{Word, is_blank, ended, words_from, words, has_outer_blank}
 use Rattle.pf_eval.specs.PacketGrammar.{IsWord, AreBlanks, LastBlank, MoreBlanks, AreSpaced, LastWord, MoreWords}
-
-not_true : (b : Bool) → not b ≡ true → b ≡ false
-not_true true e = absurd (false≢true e)
-not_true false e = refl
 
 -- ---- what is spaced so has these words
 
@@ -18,7 +14,7 @@ pub grows : (begun word text : List ℕ) → list_all (λ b. not (is_blank b)) w
 grows begun [] text e = ap (λ (w : List ℕ). words_from w text) (sym (append-nil begun))
 grows begun (b ∷ bs) text e =
     let a = and_parts (not (is_blank b)) (list_all (λ b. not (is_blank b)) bs) e in
-    let n : is_blank b ≡ false = not_true (is_blank b) a.0 in
+    let n : is_blank b ≡ false = not-true (is_blank b) a.0 in
     rw n (grows (begun ++ b ∷ []) bs text a.1 ∙ ap (λ (w : List ℕ). words_from w text) (append_assoc begun (b ∷ []) bs))
 
 -- blanks alone give no word
@@ -51,7 +47,7 @@ ends_plain (b ∷ c ∷ cs) = ends_plain (c ∷ cs)
 
 last_byte : (text : List ℕ) → ends_plain text ≡ true → is_blank (get_or text (length text - 1) 0) ≡ false
 last_byte [] e = refl
-last_byte (b ∷ []) e = not_true (is_blank b) e
+last_byte (b ∷ []) e = not-true (is_blank b) e
 last_byte (b ∷ c ∷ cs) e =
     let n : length (b ∷ c ∷ cs) - 1 ≡ suc (length (c ∷ cs) - 1) = omega arith in
     ap (λ (i : ℕ). is_blank (get_or (b ∷ c ∷ cs) i 0)) n ∙ last_byte (c ∷ cs) e
@@ -90,7 +86,7 @@ spaced_ends_plain _ _ (MoreWords word blanks text ws is are more) =
 
 word_begins_plain : (word text : List ℕ) → IsWord word → is_blank (get_or (word ++ text) 0 0) ≡ false
 word_begins_plain [] text is = absurd (is.some refl)
-word_begins_plain (b ∷ bs) text is = not_true (is_blank b) (and_parts (not (is_blank b)) (list_all (λ b. not (is_blank b)) bs) is.plain).0
+word_begins_plain (b ∷ bs) text is = not-true (is_blank b) (and_parts (not (is_blank b)) (list_all (λ b. not (is_blank b)) bs) is.plain).0
 
 spaced_begins_plain : (text : List ℕ) (ws : List Word) → AreSpaced text ws → is_blank (get_or text 0 0) ≡ false
 spaced_begins_plain _ _ (LastWord word is) = subst (λ (t : List ℕ). is_blank (get_or t 0 0) ≡ false) (append-nil word) (word_begins_plain word [] is)

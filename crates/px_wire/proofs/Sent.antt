@@ -1,7 +1,7 @@
 -- What fits has a spelling, and what is for all has one to each.
 use Rattle.std.proofs.Common.{◌≡◌, ℕ, ◌/◌, ◌%◌, ◌^◌, ◌<◌, ◌≤◌, Bool, true, false, cond, ltb, leb, eqb, Option, Some, None, refl, ap, subst, ◌∙◌, arith, inl, inr}
 use Rattle.std.specs.Prelude.{◌&&◌, ◌||◌, ◌⊎◌, not}
-use Rattle.std.proofs.lemmas.Bool.{ltb-true, lt-ltb, le-leb, leb-true, eq-eqb, eqb-true}
+use Rattle.std.proofs.lemmas.Bool.{not-true, ltb-true, lt-ltb, le-leb, leb-true, eq-eqb, eqb-true}
 use Rattle.std.proofs.lemmas.Bool.Decides.{nat_tests}
 use Rattle.pf_entry.specs.Entry.{is_origin}
 use Rattle.pf_entry.proofs.Takes.{IsBytes, both_true, and_true}
@@ -105,10 +105,6 @@ fits_has g from to (promise_all b p top x) le h = both_members g from to (promis
 
 -- ---- to each member
 
-not_true : (b : Bool) → not b ≡ true → b ≡ false
-not_true true h = absurd cc
-not_true false h = refl
-
 sender_of : (from to : ℕ) (x : Message) → is_kind from to (messages.kind x) ≡ true → cond (eqb (messages.kind x) 8) (eqb from 255) (not (eqb from 255)) ≡ true
 sender_of from to x h =
     let k : ℕ = messages.kind x in
@@ -119,13 +115,13 @@ other : (g : Group) (from to to' : ℕ) (x : Message) → g.members ≤ 15 → t
 other g from to to' x le lt h kind body = record { sender = h.sender; addressee = member_is_party g to' lt; kind = kind (member_isnt_client g.members to' le lt); body = body }
 
 pub to_each : (g : Group) (from to to' : ℕ) (x : Message) → g.members ≤ 15 → is_for_all x ≡ true → to' < g.members → HasSpelling g from to x → HasSpelling g from to' x
-to_each g from to to' (prepare b p) le all lt h = other g from to to' (prepare b p) le lt h (λ c. rw (not_true (eqb from 255) (sender_of from to (prepare b p) h.kind), c) refl) h.body
-to_each g from to to' (accept b p e) le all lt h = other g from to to' (accept b p e) le lt h (λ c. rw (not_true (eqb from 255) (sender_of from to (accept b p e) h.kind), c) refl) h.body
-to_each g from to to' (vote b p e) le all lt h = other g from to to' (vote b p e) le lt h (λ c. rw (not_true (eqb from 255) (sender_of from to (vote b p e) h.kind), c) refl) h.body
-to_each g from to to' (need p) le all lt h = other g from to to' (need p) le lt h (λ c. rw (not_true (eqb from 255) (sender_of from to (need p) h.kind), c) refl) h.body
-to_each g from to to' (learned p e) le all lt h = other g from to to' (learned p e) le lt h (λ c. rw (not_true (eqb from 255) (sender_of from to (learned p e) h.kind), c) refl) h.body
+to_each g from to to' (prepare b p) le all lt h = other g from to to' (prepare b p) le lt h (λ c. rw (not-true (eqb from 255) (sender_of from to (prepare b p) h.kind), c) refl) h.body
+to_each g from to to' (accept b p e) le all lt h = other g from to to' (accept b p e) le lt h (λ c. rw (not-true (eqb from 255) (sender_of from to (accept b p e) h.kind), c) refl) h.body
+to_each g from to to' (vote b p e) le all lt h = other g from to to' (vote b p e) le lt h (λ c. rw (not-true (eqb from 255) (sender_of from to (vote b p e) h.kind), c) refl) h.body
+to_each g from to to' (need p) le all lt h = other g from to to' (need p) le lt h (λ c. rw (not-true (eqb from 255) (sender_of from to (need p) h.kind), c) refl) h.body
+to_each g from to to' (learned p e) le all lt h = other g from to to' (learned p e) le lt h (λ c. rw (not-true (eqb from 255) (sender_of from to (learned p e) h.kind), c) refl) h.body
 to_each g from to to' (ask e) le all lt h = other g from to to' (ask e) le lt h (λ c. rw (sender_of from to (ask e) h.kind, c) refl) h.body
-to_each g from to to' (prepare_all b p) le all lt h = other g from to to' (prepare_all b p) le lt h (λ c. rw (not_true (eqb from 255) (sender_of from to (prepare_all b p) h.kind), c) refl) h.body
+to_each g from to to' (prepare_all b p) le all lt h = other g from to to' (prepare_all b p) le lt h (λ c. rw (not-true (eqb from 255) (sender_of from to (prepare_all b p) h.kind), c) refl) h.body
 to_each g from to to' (promise b p a) le all lt h = absurd cc
 to_each g from to to' (nack b p q) le all lt h = absurd cc
 to_each g from to to' (asked t k) le all lt h = absurd cc
@@ -194,7 +190,7 @@ first_holds false true h n = absurd cc
 first_holds false false h n = absurd cc
 
 party_member : (g : Group) (m : ℕ) → is_party g m ≡ true → not (eqb m 255) ≡ true → m < g.members
-party_member g m h n = ltb-true _ _ (first_holds (is_member g m) (eqb m 255) h (not_true (eqb m 255) n))
+party_member g m h n = ltb-true _ _ (first_holds (is_member g m) (eqb m 255) h (not-true (eqb m 255) n))
 
 of_members : (g : Group) (from to : ℕ) (x : Message) → HasSpelling g from to x → not (eqb from 255) ≡ true → not (eqb to 255) ≡ true → (from < g.members) × (to < g.members)
 of_members g from to x h a c = (party_member g from h.sender a, party_member g to h.addressee c)
