@@ -1,7 +1,6 @@
 -- Lists among lists, and what a wire is handed again.
-use Rattle.std.proofs.Common.{◌≡◌, ◌∙◌, ℕ, zero, suc, ◌+◌, ◌<◌, ◌≤◌, ◌⊎◌, List, [], ◌∷◌, ◌++◌, Option, Some, None, length, slice_get, refl, sym, ap, subst, inl, inr, arith, append_assoc}
+use Rattle.std.proofs.Common.{◌≡◌, ◌∙◌, ℕ, zero, suc, ◌+◌, ◌<◌, ◌≤◌, ◌⊎◌, List, [], ◌∷◌, ◌++◌, Some, length, slice_get, ap, subst, inl, inr, arith}
 use Rattle.std.proofs.lemmas.Option.{slice_get_within}
-use Rattle.std.proofs.lemmas.List.{append-nil}
 use Rattle.px_model.proofs.Basics.{among_left, among_right, among_cases, among_get}
 use Rattle.px_model.specs.Law.{Among}
 use Rattle.px_transport.specs.Wires.{WireEvent, Handed, Adds, IsQuiet}
@@ -40,11 +39,6 @@ among_sides xs ys vs ws a b = among_both xs ys (vs ++ ws) (among_front xs vs ws 
 
 pub hands_none : (kept : List Addressed) (old new : List WireEvent → Type 0) → IsQuiet old new → HandsAgain kept old new
 hands_none kept old new q = ([], among_none kept, adds_none old new q)
-
-pub hands_one : (kept : List Addressed) (d : Addressed) (old new : List WireEvent → Type 0) → Among kept d → Adds old new (Handed d.0 d.1 ∷ []) →
-    HandsAgain kept old new
-hands_one kept d old new a g =
-    (d ∷ [], λ x h. elim h [ inl e ↦ subst (λ (y : Addressed). Among kept y) e a | inr n ↦ absurd n ], g)
 
 pub hands_then : (kept : List Addressed) (old mid new : List WireEvent → Type 0) → HandsAgain kept old mid → HandsAgain kept mid new →
     HandsAgain kept old new

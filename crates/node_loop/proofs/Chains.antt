@@ -1,11 +1,9 @@
 -- Turns one after the other.
 use Rattle.std.proofs.Common.{◌≡◌, ◌∙◌, ℕ, zero, suc, List, [], ◌++◌, Option, Some, None, Bool, true, false, refl, sym, ap, subst}
-use Rattle.std.proofs.Common.{Result, Ok, Err, inl, inr}
-use Rattle.std.specs.Prelude.{IfOk, ◌∷◌, nat_lt}
-use Rattle.px_model.specs.Node.Input.{Ticks}
+use Rattle.std.proofs.Common.{inl, inr}
+use Rattle.std.specs.Prelude.{◌∷◌, nat_lt}
 use Rattle.px_model.specs.Spelling.{Bytes}
 use Rattle.px_records.specs.declared.records.Records.{Ghosts}
-use Rattle.px_replica.specs.Calls.{Call}
 use Rattle.px_replica.specs.declared.datagram.Datagram.{Datagram}
 use Rattle.px_replica.specs.declared.fault.NodeFault.{NodeFault}
 use Rattle.px_replica.specs.declared.state.Replica.{Replica}
@@ -17,13 +15,13 @@ use Rattle.px_wire.specs.declared.membership.Membership.{Membership}
 use Rattle.px_model.specs.Law.{Among}
 use Rattle.px_model.proofs.Basics.{among_cases}
 use Rattle.node_loop.specs.Again.{AreAmong}
-use Rattle.node_loop.proofs.Among.{among_all, among_is, among_front}
+use Rattle.node_loop.proofs.Among.{among_is, among_front}
 use Rattle.px_wire.specs.Message.{group}
 use Rattle.px_replica.specs.Replicas.{membership_of}
 use Rattle.node_loop.specs.Resending.{IsKnown}
-use Rattle.node_loop.specs.Turns.{Acts, LoopState, HeardTurn, Ticked, TickedIf, Took, Same, Turns, Ends, Served}
+use Rattle.node_loop.specs.Turns.{Acts, LoopState, HeardTurn, Ticked, TickedIf, Same, Turns, Served}
 use Rattle.node_loop.specs.Turns.{Resent, Passed, Between, IsIdle, IsKnownTo}
-use Rattle.node_loop.specs.Progress.{IsNobodys, Saw, SawOne, SawAll, looked}
+use Rattle.node_loop.specs.Progress.{IsNobodys, SawAll, looked}
 use Rattle.node_loop.specs.Timing.{TimerEvent, MakesRound, looks, sends_if, view_of}
 use Rattle.px_model.specs.Step.{front}
 use Rattle.px_replica.specs.Replicas.{learned_by}
@@ -41,15 +39,6 @@ same_is {R} {G} x y s =
     ∙ (ap {B = LoopState G} (λ (k : List (ℕ × Bytes)). record { replica = x.replica; traffic = x.traffic; kept = k; requests = y.requests; hears_asks = y.hears_asks }) s.kept
     ∙ (ap {B = LoopState G} (λ (q : List Bytes). record { replica = x.replica; traffic = x.traffic; kept = x.kept; requests = q; hears_asks = y.hears_asks }) s.requests
     ∙ ap {B = LoopState G} (λ (h : Bool). record { replica = x.replica; traffic = x.traffic; kept = x.kept; requests = x.requests; hears_asks = h }) s.hears)))
-
-pub same_then : {R : Type 0} {G : Ghosts R} (x y z : LoopState G) → Same x y → Same y z → Same x z
-same_then x y z s t = record {
-  replica = t.replica ∙ s.replica;
-  traffic = t.traffic ∙ s.traffic;
-  kept = t.kept ∙ s.kept;
-  requests = t.requests ∙ s.requests;
-  hears = t.hears ∙ s.hears;
-}
 
 pub same_all : {R : Type 0} {G : Ghosts R} (x : LoopState G) → Same x x
 same_all x = record { replica = refl; traffic = refl; kept = refl; requests = refl; hears = refl }
@@ -157,10 +146,6 @@ served_none x y s = served_between x y (between_same x y s)
 pub served_turn : {R : Type 0} {G : Ghosts R} (x y : LoopState G) (a : Option NodeFault) → HeardTurn x y a → Served x y a
 served_turn x y None d = record { turns = suc zero; then = y; made = (x, y, between_all x, d, between_all y); last = between_all y }
 served_turn x y (Some e) d = record { turns = zero; then = x; made = between_all x; last = d }
-
--- one turn more
-pub served_on : {R : Type 0} {G : Ghosts R} (x y z : LoopState G) (a : Option NodeFault) → Served x y None → HeardTurn y z a → Served x z a
-served_on x y z a s d = served_then x y z a s (served_turn y z a d)
 
 -- a turn of the clock is a turn
 pub turned_by_clock : {R : Type 0} {G : Ghosts R} (x y : LoopState G) (a : Option NodeFault) → Ticked x y a → HeardTurn x y a

@@ -4,7 +4,7 @@ use Rattle.std.proofs.lemmas.List.{length-map, length-append, map-append}
 use Rattle.px_model.proofs.Basics.{among_left, among_right, among_cases, among_get}
 use Rattle.px_model.specs.Law.{Among}
 use Rattle.node_loop.specs.Again.{Addressed, AreAmong}
-use Rattle.node_loop.specs.Keeping.{unless_empty, sent_in, votes_in}
+use Rattle.node_loop.specs.Keeping.{sent_in, votes_in}
 use Rattle.node_loop.specs.Resends.{IsBounded}
 use Rattle.node_loop.specs.Total.{total}
 use Rattle.node_loop.specs.declared.resender.Resender.{Resender}
@@ -14,21 +14,13 @@ use Rattle.node_loop.specs.declared.state.Kept.{Kept}
 use Rattle.node_loop.specs.declared.state.Latest.{Latest}
 use Rattle.node_loop.specs.declared.state.Votes.{Votes}
 use Rattle.node_loop.specs.declared.state.Sent.{Sent}
-use Rattle.node_loop.proofs.Among.{among_all, among_is, among_then, among_front, among_back, among_sides, for_one, at_one, at_none}
+use Rattle.node_loop.proofs.Among.{among_all, among_is, among_then, among_front, among_sides, for_one, at_one, at_none}
 use Rattle.node_loop.specs.Again.{HandsFor, HandsAt}
 use Rattle.std.proofs.lemmas.Option.{slice_get_within}
 use Rattle.px_transport.specs.Wires.{WireEvent, Handed, Adds, IsQuiet}
 use Rattle.std.specs.Prelude.{OnOk, OnErr}
 
 -- ---- a request
-
-pub unless_among : (b : List ℕ) → AreAmong (unless_empty b) (b ∷ [])
-unless_among [] x h = absurd h
-unless_among (y ∷ b) x h = h
-
-pub among_unless : (b : List ℕ) → b ≢ [] → Among (unless_empty b) b
-among_unless [] other = absurd (other refl)
-among_unless (y ∷ b) other = inl refl
 
 -- ---- two lists, each with one more
 
@@ -134,27 +126,11 @@ back_among old new more e =
     (subst (λ (ds : List Addressed). AreAmong (map addressed new) ds) (sym (map-append addressed new more))
     (among_front (map addressed new) (map addressed new) (map addressed more) (among_all (map addressed new))))
 
-pub front_among : (old new more : List Sent) → old ≡ more ++ new → AreAmong (map addressed new) (map addressed old)
-front_among old new more e =
-    subst (λ (xs : List Sent). AreAmong (map addressed new) (map addressed xs)) (sym e)
-    (subst (λ (ds : List Addressed). AreAmong (map addressed new) ds) (sym (map-append addressed more new))
-    (among_back (map addressed new) (map addressed more) (map addressed new) (among_all (map addressed new))))
-
 pub back_size : (old new : List Sent) (v : Sent) (size : ℕ) → old ≡ new ++ v ∷ [] → size ≡ total (map bytes_of old) →
     size - length v.bytes.items ≡ total (map bytes_of new)
 back_size old new v size e s =
     let is : size ≡ total (map bytes_of new) + length v.bytes.items = s ∙ (ap (λ (xs : List Sent). total (map bytes_of xs)) e ∙ total_more new v) in
     omega (arith, is)
-
-pub front_size : (old new : List Sent) (v : Sent) (size : ℕ) → old ≡ v ∷ new → size ≡ total (map bytes_of old) →
-    size - length v.bytes.items ≡ total (map bytes_of new)
-front_size old new v size e s =
-    let is : size ≡ length v.bytes.items + total (map bytes_of new) = s ∙ ap (λ (xs : List Sent). total (map bytes_of xs)) e in
-    omega (arith, is)
-
-pub no_size : (xs : List Sent) (size : ℕ) → length xs ≡ 0 → size ≡ total (map bytes_of xs) → size ≡ 0
-no_size [] size none s = s
-no_size (x ∷ xs) size none s = absurd (omega (arith, none))
 
 pub popped_few : (old new more : List Sent) → old ≡ new ++ more → length old ≤ 131072 → length new ≤ 131072
 popped_few old new more e h = omega (arith, h, ap length e, length-append new more)

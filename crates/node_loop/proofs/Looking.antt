@@ -1,5 +1,5 @@
 -- How often a timer was given what is seen.
-use Rattle.std.proofs.Common.{◌≡◌, ◌∙◌, ℕ, suc, ◌+◌, ◌*◌, ◌≤◌, Bool, true, false, List, [], ◌∷◌, ◌++◌, nat_lt, refl, arith}
+use Rattle.std.proofs.Common.{◌≡◌, ◌∙◌, ℕ, ◌+◌, ◌*◌, ◌≤◌, Bool, true, false, List, [], ◌∷◌, ◌++◌, nat_lt, refl, arith}
 use Rattle.px_transport.specs.Wires.{Adds}
 use Rattle.px_transport.proofs.Traffic.{adds_none, adds_then}
 use Rattle.node_loop.specs.Timing.{TimerEvent, looks, sends_if, looks_in, LooksTimes, MakesTurns}
@@ -28,10 +28,6 @@ looks_once a b c now v k d t g h =
     let none = sends_none (nat_lt v.front t.accepting) now in
     let all = looks_append (looks now v k t) (TimerEvent.Repeats now d ∷ []) in
     (looks now v k t ++ TimerEvent.Repeats now d ∷ [], omega (arith, none, all), adds_then a b c (looks now v k t) (TimerEvent.Repeats now d ∷ []) g h)
-
--- it is given something else
-pub looks_not : (a b : List TimerEvent → Type 0) (ts : List TimerEvent) → looks_in ts ≡ 0 → Adds a b ts → LooksTimes 0 a b
-looks_not a b ts none g = (ts, none, g)
 
 -- and then more often
 pub looks_then : (n k : ℕ) (a b c : List TimerEvent → Type 0) → LooksTimes n a b → LooksTimes k b c → LooksTimes (n + k) a c

@@ -1,26 +1,21 @@
 -- What the lines of a script do.
-use Rattle.std.proofs.Common.{◌≡◌, ◌≢◌, ◌∙◌, sym, ap, subst, refl, ℕ, zero, suc, ◌<◌, ◌≤◌, ◌+◌, Bool, true, false, cond, ◌&&◌, ◌||◌, nat_lt, nat_le, nat_eq, List, [], ◌∷◌, ◌++◌, Option, Some, None, Result, Ok, Err, length, slice_get, arith, unwrap_or}
+use Rattle.std.proofs.Common.{◌≡◌, ◌≢◌, ◌∙◌, sym, ap, subst, refl, ℕ, zero, suc, ◌<◌, ◌≤◌, ◌+◌, Bool, true, false, cond, ◌&&◌, ◌||◌, nat_lt, nat_eq, List, [], ◌∷◌, ◌++◌, Option, Some, Result, Ok, Err, length, slice_get, arith, unwrap_or}
 use Rattle.std.specs.List.{list_any}
-use Rattle.std.proofs.lemmas.Bool.{lt-ltb, le-ltb, le-leb, lt-leb, cond-true, cond-false}
+use Rattle.std.proofs.lemmas.Bool.{lt-ltb, le-ltb, cond-true, cond-false}
 use Rattle.std.proofs.lemmas.List.{append-nil, append_assoc}
 use Rattle.px_model.specs.Node as node
 use Rattle.px_model.specs.Node.{Envelope}
-use Rattle.px_model.specs.Node.Message.{Prepare, Promise, PrepareAll, PromiseAll, Accept, Vote, Nack, Need, Learned}
-use Rattle.px_model.specs.Node.Message.{Asked, AskRefused}
-use Rattle.px_model.specs.Fits.{IsBetween}
 use Rattle.px_model.specs.World as worlds
 use Rattle.px_model.specs.World.{World, Event, Action, happens, run}
 use Rattle.px_model.specs.Spelling.{Bytes}
 use Rattle.px_replica.specs.Made.{same}
 use Rattle.px_replica.specs.declared.datagram.Datagram.{Datagram}
-use Rattle.px_replica.specs.Spelled.{AreSpelled, IsSpelled}
+use Rattle.px_replica.specs.Spelled.{IsSpelled}
 use Rattle.px_wire.specs.Message as wire
 use Rattle.px_wire.specs.Members.{as_sent}
-use Rattle.std.proofs.lemmas.Bool.{and_from}
-use Rattle.px_wire.specs.Message.{Group}
 use Rattle.pf_lab.specs.Coming as coming
 use Rattle.pf_lab.specs.Coming.{action_of, event_of, is_long, model_events}
-use Rattle.pf_lab.specs.Outcomes.{Reports, is_bad, becomes, is_unknown, outcome_in}
+use Rattle.pf_lab.specs.Outcomes.{Reports, is_bad, becomes}
 use Rattle.pf_lab.specs.declared.event.LabFault.{LabFault}
 use Rattle.pf_lab.specs.declared.event.LabFault.TheVariants as fault
 use Rattle.std.specs.Prelude.{OnOk, OnErr}
@@ -29,11 +24,9 @@ use Rattle.pf_lab.specs.declared.event.LabAction.TheVariants as lab
 use Rattle.pf_lab.specs.declared.event.LabEvent.{LabEvent}
 use Rattle.pf_lab.specs.declared.event.LabEvent.TheVariants as event
 use Rattle.pf_lab.specs.declared.event.Outcome.{Outcome}
-use Rattle.pf_lab.specs.declared.event.Outcome.TheVariants as outcome
-use Rattle.pf_lab.specs.Scripts.{LabValue, with_world, world_action, world_event, world_events, asks_too_much, is_too_long, names_none, outcome_of, is_delivered, delivered_below, sent_line, sent_lines}
+use Rattle.pf_lab.specs.Scripts.{LabValue, with_world, world_action, world_event, world_events, asks_too_much, is_too_long, is_delivered, delivered_below, sent_line, sent_lines}
 use Rattle.pf_lab.specs.inner.Seen.{action_value, event_value}
-use Rattle.pf_scripts.specs.Lines.{refused_line}
-use Rattle.pf_lab.specs.Scripts.{Printed, prints, happened, marked, delivered_by, asked_by, outcome_text}
+use Rattle.pf_lab.specs.Scripts.{prints, happened}
 use Rattle.pf_lab.specs.inner.Benches.{IsBench, Does}
 use Rattle.pf_lab.specs.Labs.{IsWorld, cluster_of}
 use Rattle.pf_lab.specs.declared.bench.Bench.{Bench}
@@ -49,9 +42,6 @@ use Rattle.pf_lab.specs.Scripts.{run_all, done, words_done, at_end, all_shown}
 use Rattle.std.specs.Prelude.{option_map}
 use Rattle.pf_lab.proofs.Outcomes.{unknown_stays}
 use Rattle.std.proofs.Common.{codes, Vec, Global}
-use Rattle.std.specs.Prelude.{IfSome}
-use Rattle.std.specs.Borrow.{Bor}
-use Rattle.std.specs.Option.{option_copied}
 use Rattle.clap.specs.Words.{Text}
 use Rattle.px_model.specs.Step.{front}
 use Rattle.px_model.specs.World.{NodeState}
@@ -65,8 +55,7 @@ use Rattle.pf_scripts.specs.Lines.{line}
 use Rattle.pf_scripts.specs.Ctl.{tested}
 use Rattle.pf_lab.specs.Labs.{IsShown}
 use Rattle.pf_lab.specs.Shown.{log_lines, message_line}
-use Rattle.pf_lab.specs.Scripts.{all_delivered, of_running, of_node, learned_lines, verdict_line, config_at}
-use Rattle.pf_lab.specs.inner.Benches.{IsOfMember}
+use Rattle.pf_lab.specs.Scripts.{all_delivered, of_running, learned_lines, verdict_line, config_at}
 
 -- ---- an event of the code is one of the script
 
@@ -96,16 +85,6 @@ pub events_same : (e : LabEvent) → model_events e ≡ world_events (event_valu
 events_same e =
     ap (λ (b : Bool). cond b [] (event_of e ∷ [])) (event_long e)
     ∙ ap (λ (x : Event Bytes). cond (is_too_long (event_value e)) [] (x ∷ [])) (event_same e)
-
-pub bad_same : (n : ℕ) (w : World Bytes) (e : LabEvent) → is_bad n w e ≡ names_none n w (event_value e)
-bad_same n w e =
-    ap (λ (b : Bool). cond b false (is_unknown n w (event_of e))) (event_long e)
-    ∙ ap (λ (x : Event Bytes). cond (is_too_long (event_value e)) false (is_unknown n w x)) (event_same e)
-
-pub becomes_same : (n : ℕ) (w : World Bytes) (e : LabEvent) → becomes n w e ≡ outcome_of n w (event_value e)
-becomes_same n w e =
-    ap (λ (b : Bool). cond b (outcome.Refused 41) (outcome_in n w (event_of e))) (event_long e)
-    ∙ ap (λ (x : Event Bytes). cond (is_too_long (event_value e)) (outcome.Refused 41) (outcome_in n w x)) (event_same e)
 
 next : (k : ℕ) → suc k ≡ k + 1
 next k = omega arith
@@ -142,28 +121,6 @@ more_shown sent shown k x before out now late at so printed =
     ∙ append_assoc before (sent_lines sent shown k) (sent_line k (Some x)) ∙ ap (λ (xs : List ℕ). before ++ xs) (sym here)
 
 -- ---- messages
-
-or_right : (a b : Bool) → b ≡ true → (a || b) ≡ true
-or_right true b e = refl
-or_right false b e = e
-
-client_party : (n to : ℕ) → to ≡ 255 → (nat_lt to n || nat_eq to 255) ≡ true
-client_party n to e = or_right (nat_lt to n) (nat_eq to 255) (ap (λ (z : ℕ). nat_eq z 255) e)
-
--- whom a message goes to is a member or a client
-pub party : (n from to : ℕ) (m : node.Message Bytes) → IsBetween n from to m → (nat_lt to n || nat_eq to 255) ≡ true
-party n from to (Prepare b p) h = or_left _ _ (lt-ltb to n h.1)
-party n from to (Promise b p a) h = or_left _ _ (lt-ltb to n h.1)
-party n from to (PrepareAll b p) h = or_left _ _ (lt-ltb to n h.1)
-party n from to (PromiseAll b p t a) h = or_left _ _ (lt-ltb to n h.1)
-party n from to (Accept b p e) h = or_left _ _ (lt-ltb to n h.1)
-party n from to (Vote b p e) h = or_left _ _ (lt-ltb to n h.1)
-party n from to (Nack b p q) h = or_left _ _ (lt-ltb to n h.1)
-party n from to (Need p) h = or_left _ _ (lt-ltb to n h.1)
-party n from to (Learned p e) h = or_left _ _ (lt-ltb to n h.1)
-party n from to (node.Message.Ask t c) h = or_left _ _ (lt-ltb to n h.1)
-party n from to (Asked t k) h = client_party n to h.1
-party n from to (AskRefused t c) h = client_party n to h.1
 
 -- ---- the lab of the code is the definition's
 
@@ -202,30 +159,12 @@ delivered_step b v l k r (Err e) is happened stays reported not = tt
 
 -- ---- events
 
--- an event that names no member, or no message
-pub unhappened : (v : LabValue) (e : LabEvent) (b : Bench) (before after : List ℕ) → IsBench b v →
-    is_bad v.members v.world e ≡ true → after ≡ before ++ refused_line 81 0 → Does (happened v (event_value e)) b before after
-unhappened v e b before after is bad printed =
-    subst (λ (p : Printed). Does p b before after)
-    (sym (cond-true _ (prints v (refused_line 81 0)) _ (sym (bad_same v.members v.world e) ∙ bad))) (is, printed)
-
 -- the world after an event of the code
 pub world_after : (v : LabValue) (e : LabEvent) (l : Lab) →
     IsWorld l (cluster_of v.members) (run same v.members (model_events e) v.world) →
     IsWorld l (cluster_of v.members) (run same v.members (world_events (event_value e)) v.world)
 world_after v e l world =
     subst (λ (es : List (Event Bytes)). IsWorld l (cluster_of v.members) (run same v.members es v.world)) (events_same e) world
-
--- any other happens
-pub happens_so : (v : LabValue) (e : LabEvent) (b : Bench) (o : Outcome) (before after : List ℕ) →
-    IsBench b (marked (delivered_by (event_value e)) (with_world v (run same v.members (world_events (event_value e)) v.world))) →
-    (is_bad v.members v.world e ≡ false) × (o ≡ becomes v.members v.world e) →
-    after ≡ before ++ outcome_text (asked_by (event_value e)) o → Does (happened v (event_value e)) b before after
-happens_so v e b o before after is reported printed =
-    let text : after ≡ before ++ outcome_text (asked_by (event_value e)) (outcome_of v.members v.world (event_value e)) =
-    printed ∙ ap (λ (x : Outcome). before ++ outcome_text (asked_by (event_value e)) x) (reported.1 ∙ becomes_same v.members v.world e) in
-    subst (λ (p : Printed). Does p b before after)
-    (sym (cond-false _ (prints v (refused_line 81 0)) _ (sym (bad_same v.members v.world e) ∙ reported.0))) (is, text)
 
 -- ---- a pass
 
@@ -282,11 +221,6 @@ pass_done b b' v n ds is now all none =
 
 -- ---- what is shown
 
-pub of_member : {R : Type 0} {G : Ghosts R} (s : NodeState Bytes) (o : Option (Bor (Node R G))) →
-    IfSome o (λ n. IsShown s n.now) → (o ≡ None → s.is_up ≡ false) → IsOfMember s (option_copied o)
-of_member s None a b = b refl
-of_member s (Some n) a b = a
-
 pub learned_shown : {R : Type 0} {G : Ghosts R} (s : NodeState Bytes) (n : Node R G) → IsShown s n →
     log_lines (learned_by n) (front (learned_by n) + 64) ≡ of_running s learned_lines
 learned_shown s n is =
@@ -306,20 +240,7 @@ verdict_shown s n c packet is same =
 pub config_is : (log : node.Log Bytes) (k : ℕ) (c : Configuration) → after log k ≡ Some c → k ≡ front log → c ≡ config_at log
 config_is log k c h e = sym (ap (λ (j : ℕ). unwrap_or (after log j) empty) (sym e) ∙ ap (λ (o : Option Configuration). unwrap_or o empty) h)
 
--- nobody has that number
-pub no_node : (v : LabValue) (m : ℕ) (shows : NodeState Bytes → List ℕ) → v.members ≤ m → of_node v m shows ≡ refused_line 81 0
-no_node v m shows h = cond-true _ (refused_line 81 0) (of_running (v.world.nodes m) shows) (le-leb v.members m h)
-
-pub one_node : (v : LabValue) (m : ℕ) (shows : NodeState Bytes → List ℕ) → m < v.members → of_node v m shows ≡ of_running (v.world.nodes m) shows
-one_node v m shows h = cond-false _ (refused_line 81 0) (of_running (v.world.nodes m) shows) (lt-leb v.members m h)
-
 -- ---- a message's line
-
-pub may_come : (n : ℕ) (x : Envelope Bytes) (d : Datagram) → 1 ≤ n → n ≤ 15 → IsSpelled (cluster_of n) x d →
-    (nat_le 1 n && (nat_le n 15 && (nat_lt d.to n || nat_eq d.to 255))) ≡ true
-may_come n x d some few is =
-    and_from (nat_le 1 n) _ (le-leb 1 n some) (and_from (nat_le n 15) _ (le-leb n 15 few)
-    (ap (λ (to : ℕ). nat_lt to n || nat_eq to 255) is.addressee ∙ party n x.sender x.addressee x.message is.passes.between))
 
 pub line_of : (k from to : ℕ) (m : wire.Message) (x : Envelope Bytes) → from ≡ x.sender → to ≡ x.addressee → m ≡ as_sent x.message →
     message_line k from to m ≡ sent_line k (Some x)

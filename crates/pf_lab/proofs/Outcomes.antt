@@ -1,6 +1,6 @@
 -- What becomes of an event.
 use Rattle.std.proofs.Common.{◌≡◌, ◌∙◌, ap, sym, subst, refl, ℕ, ◌<◌, ◌≤◌, Bool, true, false, nat_lt, Option, Some, None, Result, Ok, Err, OnErr, IfOk, ◌&&◌, List, slice_get, arith}
-use Rattle.std.proofs.lemmas.Bool.{lt-leb, le-leb, le-ltb, leb-true, cond-true, cond-false}
+use Rattle.std.proofs.lemmas.Bool.{lt-leb, le-ltb, leb-true, cond-true, cond-false}
 use Rattle.std.proofs.lemmas.Option.{slice_get_within}
 use Rattle.px_model.specs.Node.{Input}
 use Rattle.px_model.specs.World.{World, NodeState, Action, Event, comes_to, at_member, happens, step_in, step_of, emptied}
@@ -10,12 +10,9 @@ use Rattle.px_wire.specs.Message.{Group, group}
 use Rattle.px_replica.specs.Made.{same, answer}
 use Rattle.px_replica.specs.declared.datagram.Datagram.{Datagram}
 use Rattle.pf_node.specs.Nodes.{state_in}
-use Rattle.pf_lab.specs.Coming.{event_of, is_long, is_too_long}
-use Rattle.pf_lab.specs.inner.Coming.{Came, IsInput, IsOf}
+use Rattle.pf_lab.specs.inner.Coming.{Came, IsInput}
 use Rattle.pf_lab.specs.Labs.{HostsAre, state_of, group_of}
 use Rattle.pf_lab.specs.declared.coming.What.{What}
-use Rattle.pf_lab.specs.declared.event.LabAction.{LabAction}
-use Rattle.pf_lab.specs.declared.event.LabEvent.{LabEvent}
 use Rattle.pf_lab.specs.declared.event.LabEvent.TheVariants as event
 use Rattle.pf_lab.specs.declared.host.Host.{Host}
 use Rattle.pf_lab.proofs.Taking.{input_here}
@@ -23,15 +20,11 @@ use Rattle.pf_lab.specs.declared.event.LabFault.{LabFault}
 use Rattle.pf_lab.specs.declared.event.LabFault.TheVariants as fault
 use Rattle.pf_lab.specs.declared.event.Outcome.{Outcome}
 use Rattle.pf_lab.specs.declared.event.Outcome.TheVariants as outcome
-use Rattle.pf_lab.specs.Outcomes.{is_nobodys, is_unknown, outcome_of, outcome_at, outcome_in, is_bad, becomes, Reports}
+use Rattle.pf_lab.specs.Outcomes.{is_nobodys, is_unknown, outcome_of, outcome_at, outcome_in, becomes, Reports}
 
 -- somebody is addressed
 pub addressed : (n m : ℕ) (w : World Bytes) (a : Action Bytes) (x : Input Bytes) → comes_to w a ≡ Some (m, x) → m < n → is_nobodys n (comes_to w a) ≡ false
 addressed n m w a x come below = ap (is_nobodys n) come ∙ lt-leb n m below
-
--- nobody is
-pub addressed_past : (n m : ℕ) (w : World Bytes) (a : Action Bytes) (x : Input Bytes) → comes_to w a ≡ Some (m, x) → n ≤ m → is_nobodys n (comes_to w a) ≡ true
-addressed_past n m w a x come past = ap (is_nobodys n) come ∙ le-leb n m past
 
 pub outcome_up : (w : World Bytes) (m : ℕ) (a : Action Bytes) (x : Input Bytes) (does : ℕ → Input Bytes → Outcome) → comes_to w a ≡ Some (m, x) → (w.nodes m).is_up ≡ true → outcome_at w (comes_to w a) does ≡ does m x
 outcome_up w m a x does come up = ap (λ (t : Option (ℕ × Input Bytes)). outcome_at w t does) come ∙ cond-true _ (does m x) outcome.Stopped up
@@ -129,25 +122,3 @@ takes_at r hosts g m w a what y sent world at up came memory reported =
     runs_reported r g.members m w (state_of y) a x came.comes inside host.here up memory all
 
 -- ---- an event and its action
-
-pub long_of : (e : LabEvent) (a : LabAction) → IsOf e a → is_long e ≡ is_too_long a
-long_of (event.Runs b) a h = ap is_too_long h
-long_of (event.StopBefore b) a h = ap is_too_long h
-long_of (event.StopAfter b) a h = ap is_too_long h
-long_of (event.Restart m) a h = absurd h
-
--- a command that is too long
-pub refused_reported : (n : ℕ) (w : World Bytes) (e : LabEvent) (a : LabAction) → IsOf e a → is_too_long a ≡ true →
-    Reports (Ok (outcome.Refused 41)) (is_bad n w e) (becomes n w e)
-refused_reported n w e a is long =
-    let all : is_long e ≡ true = long_of e a is ∙ long in
-    (cond-true _ false (is_unknown n w (event_of e)) all, sym (cond-true _ (outcome.Refused 41) (outcome_in n w (event_of e)) all))
-
--- any other
-pub reported_of : (r : Result Outcome LabFault) (n : ℕ) (w : World Bytes) (e : LabEvent) (a : LabAction) (x : Event Bytes) → IsOf e a → is_too_long a ≡ false → event_of e ≡ x →
-    Reports r (is_unknown n w x) (outcome_in n w x) → Reports r (is_bad n w e) (becomes n w e)
-reported_of r n w e a x is short same reported =
-    let none : is_long e ≡ false = long_of e a is ∙ short in
-    let bad : is_bad n w e ≡ is_unknown n w x = cond-false _ false (is_unknown n w (event_of e)) none ∙ ap (is_unknown n w) same in
-    let out : becomes n w e ≡ outcome_in n w x = cond-false _ (outcome.Refused 41) (outcome_in n w (event_of e)) none ∙ ap (outcome_in n w) same in
-    subst (λ (b : Bool). Reports r b (becomes n w e)) (sym bad) (subst (λ (o : Outcome). Reports r (is_unknown n w x) o) (sym out) reported)

@@ -202,9 +202,6 @@ kept_sound p q s t e is sound =
 abbrev pub AreBegun : ℕ → List Host → Type 0
 AreBegun n hosts = (k : ℕ) (x : Host) → slice_get hosts k ≡ Some x → IsHost start (cluster_of n) k (state_of x) (group_of x)
 
-pub none_begun : (n : ℕ) → AreBegun n []
-none_begun n k x h = absurd cc
-
 get_pushed : {M : Type 0} (xs : List M) (s : M) (k : ℕ) (x : M) → slice_get (xs ++ s ∷ []) k ≡ Some x →
     (slice_get xs k ≡ Some x) ⊎ ((k ≡ length xs) × (s ≡ x))
 get_pushed [] s zero x h = inr (refl, cc)
