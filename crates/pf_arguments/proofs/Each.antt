@@ -1,9 +1,7 @@
 -- The values of arguments, read from the front.
-use Rattle.std.proofs.Common.{◌≡◌, ◌==◌, ◌+◌, ℕ, Bool, true, false, cond, List, [], ◌∷◌, ◌++◌, length, Option, Some, None, Result, Ok, Err, refl, sym, ap, ◌∙◌, append_assoc, append-nil, arith, drop, codes, ◌≢◌, map, Vec, IfOk}
-use Rattle.std.specs.Prelude.{if◌then◌else◌, nat_lt}
+use Rattle.std.proofs.Common.{◌≡◌, ◌==◌, ◌+◌, ℕ, true, false, List, [], ◌∷◌, ◌++◌, length, Option, Some, None, Result, Ok, Err, refl, sym, ap, ◌∙◌, arith, drop, codes, ◌≢◌, map, Vec, IfOk}
+use Rattle.std.specs.Prelude.{if◌then◌else◌}
 use Rattle.pf_addr.specs.declared.fault.AddrFault.{AddrFault}
-use Rattle.pf_addr.specs.declared.fault.AddrFault.TheVariants.{BadNumber, BadShape, BadLength}
-use Rattle.pf_addr.specs.Faults.{fault_code}
 use Rattle.std.proofs.lemmas.Bool.{eqb-true}
 use Rattle.std.proofs.lemmas.List.{length-map}
 use Rattle.pf_addr.specs.Spelling.{prefix_of}
@@ -13,7 +11,7 @@ use Rattle.pf_entry.specs.Seen.{address_of}
 use Rattle.pf_entry.specs.Owned.{addresses_value}
 use Rattle.pf_arguments.specs.declared.fault.CommandFault.{CommandFault}
 use Rattle.pf_arguments.specs.Answers.{vec_read}
-use Rattle.pf_arguments.specs.inner.Answers.{lowest_of, ReadsEntries}
+use Rattle.pf_arguments.specs.inner.Answers.{ReadsEntries}
 use denote.Ref.{Bor}
 
 -- values and the lowest fault of the arguments so far, before those of the others
@@ -22,47 +20,6 @@ behind xs None (Ok ys) = Ok (xs ++ ys)
 behind xs None (Err f) = Err f
 behind xs (Some e) (Ok ys) = Err e
 behind xs (Some e) (Err f) = Err (lower e f)
-
-pub one_value : {X : Type 0} (xs : List X) (x : X) (found : Option AddrFault) (r : Result (List X) AddrFault) → behind xs found (before (Ok x) r) ≡ behind (xs ++ x ∷ []) found r
-one_value xs x None (Ok ys) = ap Ok (sym (append_assoc xs (x ∷ []) ys))
-one_value xs x None (Err f) = refl
-one_value xs x (Some e) (Ok ys) = refl
-one_value xs x (Some e) (Err f) = refl
-
-lower_both : (d e f : AddrFault) → lower d (lower e f) ≡ lower (lower d e) f
-lower_both BadNumber BadNumber BadNumber = refl
-lower_both BadNumber BadNumber BadShape = refl
-lower_both BadNumber BadNumber BadLength = refl
-lower_both BadNumber BadShape BadNumber = refl
-lower_both BadNumber BadShape BadShape = refl
-lower_both BadNumber BadShape BadLength = refl
-lower_both BadNumber BadLength BadNumber = refl
-lower_both BadNumber BadLength BadShape = refl
-lower_both BadNumber BadLength BadLength = refl
-lower_both BadShape BadNumber BadNumber = refl
-lower_both BadShape BadNumber BadShape = refl
-lower_both BadShape BadNumber BadLength = refl
-lower_both BadShape BadShape BadNumber = refl
-lower_both BadShape BadShape BadShape = refl
-lower_both BadShape BadShape BadLength = refl
-lower_both BadShape BadLength BadNumber = refl
-lower_both BadShape BadLength BadShape = refl
-lower_both BadShape BadLength BadLength = refl
-lower_both BadLength BadNumber BadNumber = refl
-lower_both BadLength BadNumber BadShape = refl
-lower_both BadLength BadNumber BadLength = refl
-lower_both BadLength BadShape BadNumber = refl
-lower_both BadLength BadShape BadShape = refl
-lower_both BadLength BadShape BadLength = refl
-lower_both BadLength BadLength BadNumber = refl
-lower_both BadLength BadLength BadShape = refl
-lower_both BadLength BadLength BadLength = refl
-
-pub one_fault : {X : Type 0} (xs : List X) (e : AddrFault) (found : Option AddrFault) (r : Result (List X) AddrFault) → behind xs found (before (Err e) r) ≡ behind xs (Some (lowest_of found e)) r
-one_fault xs e None (Ok ys) = refl
-one_fault xs e None (Err f) = refl
-one_fault xs e (Some d) (Ok ys) = refl
-one_fault xs e (Some d) (Err f) = ap Err (lower_both d e f)
 
 -- n arguments give n values
 all_read : {X : Type 0} (value : List ℕ → Result X AddrFault) (ws : List (List ℕ)) (xs : List X) → each value ws ≡ Ok xs → length xs ≡ length ws

@@ -1,10 +1,9 @@
 -- What a core answers is the answer of the member with its record.
 use Rattle.std.proofs.Common.{◌≡◌, ◌∙◌, ℕ, sym, ap, subst}
-use Rattle.std.specs.Prelude.{IfOk, IfSome, MatchResult, Result, Ok, Err, option_map}
+use Rattle.std.specs.Prelude.{MatchResult, Result, Ok, Err, option_map}
 use Rattle.px_model.specs.Node as node
-use Rattle.px_model.specs.Node.{Envelope}
 use Rattle.px_model.specs.Node.Answer.{Planned}
-use Rattle.px_model.specs.Fits.{Passes, InputFits, ChangeFits, SendsFit}
+use Rattle.px_model.specs.Fits.{Passes, InputFits}
 use Rattle.px_model.specs.Spelling.{Bytes}
 use Rattle.px_model.specs.Seen.{change_of, input_of, reads_of}
 use Rattle.px_model.specs.declared.message.Event.{Event}
@@ -12,20 +11,13 @@ use Rattle.px_core.specs.declared.plan.Plan.{Plan}
 use Rattle.px_core.specs.declared.plan.CoreFault.{CoreFault}
 use Rattle.px_core.specs.declared.state.Core.{Core}
 use Rattle.px_core.specs.Seen.{sends_of}
-use Rattle.px_core.specs.Planning.{State, state_of, volatile_after, planned, step_with, IsRefusal, MayCome}
-use Rattle.px_core.specs.Fitting.{HandedFits, PlanFits}
+use Rattle.px_core.specs.Planning.{State, state_of, volatile_after, planned, step_with, IsRefusal}
+use Rattle.px_core.specs.Fitting.{HandedFits}
 use Rattle.px_core.proofs.Following.{answers_as_a_member}
-use Rattle.px_core.proofs.Spelled.{spelled_may_come}
 use Rattle.px_wire.specs.Sent.{is_command}
 use Rattle.px_replica.specs.Made.{answer, running}
 use Rattle.px_replica.specs.inner.Seen.{IsSeen, SeenFits}
 use Rattle.px_replica.specs.declared.look.Seen.{Seen}
-
--- what can be spelled may reach the core
-pub may_come : (s : State) (n me : ℕ) (event : Event) → s.members ≡ n →
-    InputFits (Passes is_command) n me (input_of event) → MayCome s.members event
-may_come s n me event members fits =
-    subst (λ (k : ℕ). MayCome k event) (sym members) (spelled_may_come is_command n me event fits)
 
 input_for : (s : State) (n me : ℕ) (x : node.Input Bytes) → s.members ≡ n → s.me ≡ me →
     InputFits (Passes is_command) n me x → InputFits (Passes is_command) s.members s.me x
@@ -84,23 +76,3 @@ answered s n me core d seen event members here same (Ok plan) h agree is =
     (ap (λ (t : State). t.me) same ∙ here))
 answered s n me core d seen event members here same (Err fault) h agree is =
     subst (λ (a : node.Answer Bytes). IsRefusal fault a) (same_answer s n me d seen event members here agree is) h
-
--- what is written can be spelled
-pub change_spelled : (s : State) (n : ℕ) (core : Core) → s.members ≡ n → state_of core ≡ s → (r : Result Plan CoreFault) →
-    IfOk r (λ plan. PlanFits is_command (state_of core) (planned core plan)) →
-    IfOk r (λ plan. IfSome (option_map change_of plan.change) (λ x. ChangeFits (Passes is_command) n x))
-change_spelled s n core members same (Ok plan) h =
-    subst (λ (k : ℕ). IfSome (option_map change_of plan.change) (λ x. ChangeFits (Passes is_command) k x))
-    (ap (λ (t : State). t.members) same ∙ members) h.change
-change_spelled s n core members same (Err fault) h = tt
-
--- what is sent can be spelled
-pub sends_spelled : (s : State) (n me : ℕ) (core : Core) → s.members ≡ n → s.me ≡ me → state_of core ≡ s →
-    (r : Result Plan CoreFault) → IfOk r (λ plan. PlanFits is_command (state_of core) (planned core plan)) →
-    IfOk r (λ plan. SendsFit (Passes is_command) n me (sends_of n me plan.sends))
-sends_spelled s n me core members here same (Ok plan) h =
-    subst (λ (k : ℕ). SendsFit (Passes is_command) n k (sends_of n k plan.sends))
-    (ap (λ (t : State). t.me) same ∙ here)
-    (subst (λ (k : ℕ). SendsFit (Passes is_command) k (state_of core).me (sends_of k (state_of core).me plan.sends))
-    (ap (λ (t : State). t.members) same ∙ members) h.sends)
-sends_spelled s n me core members here same (Err fault) h = tt

@@ -14,8 +14,7 @@ use Rattle.px_core.specs.declared.plan.Sends.{Sends}
 use Rattle.px_core.specs.declared.plan.Sends.TheVariants as sends
 use Rattle.px_core.specs.Seen.{sends_of}
 use Rattle.px_wire.specs.declared.membership.Membership.{Membership}
-use Rattle.px_wire.specs.Message.{Group, group, HasSpelling, DatagramBytes}
-use Rattle.px_wire.specs.Message as datagrams
+use Rattle.px_wire.specs.Message.{Group, group, HasSpelling}
 use Rattle.px_wire.specs.Members.{as_sent, Passing}
 use Rattle.px_wire.specs.Sent.{is_command}
 use Rattle.px_wire.proofs.Members.{sent_has}
@@ -70,13 +69,6 @@ all_have m j x few fits h = sent_has (group m) (envelope m.me j x) few (all_pass
 pub front_whole : (n : ℕ) (xs ys : List ℕ) → n ≡ length xs → take n (xs ++ drop (length xs) ys) ≡ xs
 front_whole n xs ys is =
     ap (λ (k : ℕ). take k (xs ++ drop (length xs) ys)) is ∙ take-append_seam xs (drop (length xs) ys)
-
--- a datagram has a byte for its addressee
-pub has_addressee : (g : Group) (from to : ℕ) (x : datagrams.Message) (bytes : List ℕ) →
-    DatagramBytes g from to x bytes → 11 < length bytes
-has_addressee g from to x bytes d =
-    let e : length bytes ≡ length (datagrams.spelling g from to x) = ap length d.spelled in
-    omega (arith, e)
 
 -- ---- how many
 

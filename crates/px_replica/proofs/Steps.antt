@@ -1,18 +1,18 @@
 -- What a committed step leaves.
-use Rattle.std.proofs.Common.{◌≡◌, ◌↔◌, ℕ, zero, suc, ◌≤◌, ◌<◌, true, inl, inr, Option, Some, None, refl, subst, arith}
-use Rattle.std.specs.Prelude.{IfSome, Result, Ok, Err, max, is_some}
+use Rattle.std.proofs.Common.{◌≡◌, ◌↔◌, ℕ, zero, suc, ◌≤◌, ◌<◌, inl, inr, Option, Some, None, refl, subst, arith}
+use Rattle.std.specs.Prelude.{IfSome, Result, Ok, Err, max}
 use Rattle.std.proofs.Math.Nat.{le-max_right}
 use Rattle.px_model.specs.Node.{Record, Change, Plan, Input}
 use Rattle.px_model.specs.Node.Change.{NewRound, NewNumber, NewFloor, NewPromise, NewAccepted, NewLearned}
 use Rattle.px_model.specs.Node.Answer.{Planned}
-use Rattle.px_model.specs.Step.{commit, positions}
+use Rattle.px_model.specs.Step.{commit}
 use Rattle.px_model.specs.World.{NodeState}
 use Rattle.px_model.specs.Rising as model
 use Rattle.px_model.specs.Fits.{Passes, ChangeFits}
 use Rattle.px_model.specs.Spelling.{Bytes}
 use Rattle.px_model.proofs.Ranges.{new_round_fits, new_number_fits, new_floor_fits, new_promise_fits, new_accepted_fits, new_learned_fits}
 use Rattle.px_model.proofs.Rising.{steps_rise}
-use Rattle.px_records.specs.Records.{Rises, IsEnd, IsStoresFault}
+use Rattle.px_records.specs.Records.{Rises, IsStoresFault}
 use Rattle.px_records.specs.declared.records.StoreFault.{StoreFault}
 use Rattle.px_records.specs.declared.records.StoreFault.TheVariants as store
 use Rattle.px_wire.specs.Sent.{is_command}
@@ -71,18 +71,6 @@ pub none_failed : {X : Type 0} (n : ℕ) (x : X) → ((Ok x ≡ Err store.Failed
 none_failed zero x counts = refl
 none_failed (suc n) x counts = let e : Ok x ≡ Err store.Failed = counts.1 (omega arith) in cc
 
-some_there : {X : Type 0} (o : Option X) → is_some o ≡ true → (x : X) × (o ≡ Some x)
-some_there None h = absurd cc
-some_there (Some x) h = (x, refl)
-
--- the last learned position is one that there is
-pub end_within : (n : ℕ) (d : Record Bytes) (end : ℕ) → IsSound n d → IsEnd d.learned end → end ≤ positions
-end_within n d zero sound is = omega arith
-end_within n d (suc last) sound is =
-    let s = some_there (d.learned last) is.0 in
-    let h : last < positions = (sound.learned last s.0 s.1).0 in
-    omega (arith, h)
-
 -- whichever call it is that the store refuses
 pub stores_fault : {X Y : Type 0} (f : StoreFault) → IsStoresFault {X = X} (Err f) → IsStoresFault {X = Y} (Err f)
 stores_fault store.Memory (inl e) = absurd cc
@@ -96,12 +84,3 @@ pub bad_row : {X Y : Type 0} (f : StoreFault) → ◌≡◌ {A = Result X StoreF
 bad_row store.Memory e = absurd cc
 bad_row store.Failed e = absurd cc
 bad_row store.BadStore e = refl
-
--- a call that finds a bad row leaves no failure
-pub bad_unfailed : {X : Type 0} (n : ℕ) (f : StoreFault) → ◌≡◌ {A = Result X StoreFault} (Err f) (Err store.BadStore) →
-    (◌≡◌ {A = Result X StoreFault} (Err f) (Err store.Failed) ↔ (0 < n)) → n ≡ 0
-bad_unfailed zero f e counts = refl
-bad_unfailed (suc n) store.Memory e counts = absurd cc
-bad_unfailed {X} (suc n) store.Failed e counts = absurd cc
-bad_unfailed {X} (suc n) store.BadStore e counts =
-    let h : ◌≡◌ {A = Result X StoreFault} (Err store.BadStore) (Err store.Failed) = counts.1 (omega arith) in cc

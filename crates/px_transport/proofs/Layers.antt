@@ -65,16 +65,6 @@ looped_below b b' w w' more me k a =
     looped_more b b' w w' (passed more) more me (queue_passed more (kept_of w) (kept_of w') k)
     (subst (Adds b b') (sym (below_passed more)) a) (above_passed (me_of w) more)
 
--- nothing goes over either
-pub looped_quiet : {W : Type 0} (b b' : List WireEvent → Type 0) (w w' : LoopbackWire W) →
-    me_of w' ≡ me_of w → kept_of w' ≡ kept_of w → IsQuiet b b' → IsQuiet (Looped b w) (Looped b' w')
-looped_quiet b b' w w' me k q es r = record {
-  loops = r.loops;
-  below_is = q (loop.below_in r.loops) r.below_is;
-  above_is = r.above_is ∙ ap (λ n. loop.above_in n r.loops) (sym me);
-  queue = subst (IsQueue r.loops []) (sym k) r.queue;
-}
-
 abbrev or_empty : Option (List ℕ) → List ℕ
 or_empty None = []
 or_empty (Some b) = b
@@ -137,13 +127,6 @@ pub faulty_passes : (b b' : List WireEvent → Type 0) (more : List WireEvent) �
     Adds (WentFaulty b) (WentFaulty b') more
 faulty_passes b b' more a =
     faulty_more b b' (map fault.Passes more) more (subst (Adds b b') (sym (below_all more)) a) (above_all more)
-
-pub faulty_quiet : (b b' : List WireEvent → Type 0) → IsQuiet b b' → IsQuiet (WentFaulty b) (WentFaulty b')
-faulty_quiet b b' q es r = record {
-  events = r.events;
-  below_is = q (fault.below_in r.events) r.below_is;
-  above_is = r.above_is;
-}
 
 -- a datagram doesn't reach the wire below
 pub faulty_loses : (b b' : List WireEvent → Type 0) (to : ℕ) (d : List ℕ) → IsQuiet b b' →

@@ -130,21 +130,6 @@ pub take_nil : {X : Type 0} (n : ℕ) → take {A = X} n [] ≡ []
 take_nil zero = refl
 take_nil (suc n) = refl
 
-pub take_past : (n to : ℕ) (echo : Start) (held : PiecesHeld) (m : List ℕ) (i : ℕ) → i ≡ count_of (length m) →
-    take n (pieces_from to echo held m i) ≡ []
-take_past n to echo held m i e =
-    let none : count_of (length m) - i ≡ 0 = omega (arith, e) in
-    ap (λ x. take n (map (piece to echo held.name m) (lacked held.bits i x))) none ∙ take_nil n
-
-pub take_none : (n to : ℕ) (echo : Start) (held : PiecesHeld) (m : List ℕ) (i : ℕ) → n ≡ 0 →
-    take n (pieces_from to echo held m i) ≡ []
-take_none n to echo held m i e = ap (λ x. take x (pieces_from to echo held m i)) e
-
--- all that were to be sent were
-pub upto_done : (s : Sealer) (r : Bool) (all first rest : List Unsealed) (h : Handed) (os : List ToMember) (h' : Handed)
-    (os' : List ToMember) → all ≡ first ++ rest → rest ≡ [] → All s first h os h' os' → Upto s r all h os h' os'
-upto_done s r all first rest h os h' os' split none done = (first, rest, split, (λ _. none), done)
-
 -- ---- one of two ways
 
 pub upto_if : (s : Sealer) (b r : Bool) (ps qs : List Unsealed) (h : Handed) (os os1 : List ToMember) (h' : Handed)

@@ -13,16 +13,6 @@ adds_none old new q es h = subst new (sym (append-nil es)) (q es h)
 pub quiet_by : {X : Type 0} (old new : List X → Type 0) → Adds old new [] → IsQuiet old new
 quiet_by old new a es h = subst new (append-nil es) (a es h)
 
-pub quiet_still : {X : Type 0} (old : List X → Type 0) → IsQuiet old old
-quiet_still old es h = h
-
-pub quiet_then : {X : Type 0} (old mid new : List X → Type 0) → IsQuiet old mid → IsQuiet mid new → IsQuiet old new
-quiet_then old mid new a b es h = b es (a es h)
-
-pub adds_quiet : {X : Type 0} (old mid new : List X → Type 0) (xs : List X) → Adds old mid xs → IsQuiet mid new →
-    Adds old new xs
-adds_quiet old mid new xs a q es h = q (es ++ xs) (a es h)
-
 pub quiet_adds : {X : Type 0} (old mid new : List X → Type 0) (xs : List X) → IsQuiet old mid → Adds mid new xs →
     Adds old new xs
 quiet_adds old mid new xs q a es h = a es (q es h)
@@ -62,15 +52,3 @@ moves_by old new more how a f es h = (es ++ more, a es h, f es)
 pub moves_still : {X : Type 0} (old new : List X → Type 0) (how : List X → List X → Type 0) →
     IsQuiet old new → ((es : List X) → how es es) → Moves old new how
 moves_still old new how q f es h = (es, q es h, f es)
-
-pub moves_map : {X : Type 0} (old new : List X → Type 0) (how so : List X → List X → Type 0) →
-    ((es es' : List X) → how es es' → so es es') → Moves old new how → Moves old new so
-moves_map old new how so f m es h = let r = m es h in (r.0, r.1, f es r.0 r.2)
-
-pub moves_then : {X : Type 0} (old mid new : List X → Type 0) (how next so : List X → List X → Type 0) →
-    ((es ms es' : List X) → how es ms → next ms es' → so es es') → Moves old mid how → Moves mid new next →
-    Moves old new so
-moves_then old mid new how next so f a b es h =
-    let r = a es h in
-    let s = b r.0 r.1 in
-    (s.0, s.1, f es r.0 s.0 r.2 s.2)
