@@ -1,5 +1,5 @@
 -- How a configuration follows a log.
-use Rattle.std.proofs.Common.{◌≡◌, ℕ, zero, suc, ◌+◌, ◌<◌, ◌≤◌, Option, Some, None, Result, Ok, Err, ap, sym, ◌∙◌, refl, arith, add-one}
+use Rattle.std.proofs.Common.{◌≡◌, ℕ, zero, suc, ◌+◌, ◌<◌, ◌≤◌, Option, Some, None, ap, sym, ◌∙◌, refl, arith, add-one}
 use Rattle.px_model.specs.Node as node
 use Rattle.px_model.specs.Node.{Log}
 use Rattle.px_model.specs.Step.{front}
@@ -7,7 +7,6 @@ use Rattle.px_model.specs.Law.{next_state}
 use Rattle.px_model.specs.Spelling.{Bytes}
 use Rattle.px_model.proofs.Plans.{below_front}
 use Rattle.pf_config.specs.Map.{Configuration}
-use Rattle.pf_command.specs.Effect.{Effect, RefusedCommand, changed}
 use Rattle.pf_node.specs.Applied.{entry_applied, after}
 
 -- one entry more
@@ -36,13 +35,3 @@ pub after_kept : (log more : Log Bytes) (k : ℕ) (c : Configuration) → after 
 after_kept log more k c a within below = after_same log more k (λ p b. below p (omega arith)) ∙ a
 
 -- ---- a command's change
-
--- a command that is done leaves the configuration of its effect
-pub done_changes : (c x : Configuration) (added removed : ℕ) (r : Result Effect RefusedCommand) →
-    r ≡ Ok (record { configuration = x; added = added; removed = removed }) → x ≡ changed c r
-done_changes c x added removed r is = sym (ap (changed c) is)
-
--- one that is refused leaves all as it was
-pub refused_changes : (c x : Configuration) (code line : ℕ) (r : Result Effect RefusedCommand) →
-    r ≡ Err (record { code = code; line = line }) → x ≡ c → x ≡ changed c r
-refused_changes c x code line r is same = same ∙ sym (ap (changed c) is)

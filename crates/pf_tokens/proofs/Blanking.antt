@@ -128,9 +128,6 @@ module _ (ds : List Definition) (defining : Bool) (p : Placed) (inside text : Li
       let same : statement_left ds defining 1 new.0 new.1 ≡ statement_left ds defining 1 inside text = ap (λ (q : List Placed × List Placed). statement_left ds defining 1 q.0 q.1) e ∙ (pulled_keeps ds defining inside text).statement 1 in
       omega (arith, ap (λ (ps : List Placed). length ps) same, ap (λ (ps : List Placed). length ps) (newline_left 1 (omega arith)))
 
-pub blanks_same : (braces : ℕ) (ds : List Definition) (defining : Bool) (p : List Placed × List Placed) → Blanks braces ds defining p p
-blanks_same braces ds defining p = record { statement = λ depth within. refl; ending = λ depth within. refl }
-
 pub blanks_more : (braces : ℕ) (ds : List Definition) (defining : Bool) (old mid new : List Placed × List Placed) → Blanks braces ds defining old mid → Blanks braces ds defining mid new → Blanks braces ds defining old new
 blanks_more braces ds defining old mid new a b = record {
   statement = λ depth within. b.statement depth within ∙ a.statement depth within;

@@ -5,10 +5,6 @@ use Rattle.pf_tokens.specs.Macros.{Definition, text_of, unwritten, text_tokens, 
 use Rattle.pf_tokens.specs.Flow.{statement_raw, ending_raw, statement_left, ending_left}
 use Rattle.pf_tokens.specs.inner.Flow.{pulled_raw, pulled_first, pulled}
 
--- tokens of a macro's text don't end the statement
-others_stay : (line depth : ℕ) (t : Placed) → ends depth (unwritten line t) ≡ false
-others_stay line depth t = refl
-
 macro_stays : (p : Placed) (name : List ℕ) (depth : ℕ) → p.token ≡ Macro name → ends depth p ≡ false
 macro_stays p name depth e = rw e (both p.written)
   where

@@ -40,12 +40,6 @@ others_there [] d at h = absurd (false≢true h)
 others_there (x ∷ ds) d zero h = refl
 others_there (x ∷ ds) d (suc at) h = others_there ds d at h
 
-pub index_none : (m : BTreeMap (Vec ℕ) ℕ) → m.entries ≡ [] → IsIndex [] m
-index_none m e = λ name. rw e refl
-
-pub within_none : (m : BTreeMap (Vec ℕ) ℕ) → m.entries ≡ [] → IsWithin [] m
-within_none m e = λ name. rw e refl
-
 module _ (ds : List Definition) (d : Definition) (m n : BTreeMap (Vec ℕ) ℕ) (within : IsWithin ds m) (name : Vec ℕ) (at : ℕ) (same : name.items ≡ d.name) (len : at ≡ length ds) (set : Updates by_bytes m n name (Some at)) where
   h : UpdatesBy by_bytes (λ (k : Vec ℕ). slice_cmp nat_cmp d.name k.items) m n (Some (length ds))
   h = subst (λ (i : ℕ). UpdatesBy by_bytes (λ (k : Vec ℕ). slice_cmp nat_cmp d.name k.items) m n (Some i)) len (subst (λ (bs : List ℕ). UpdatesBy by_bytes (λ (k : Vec ℕ). slice_cmp nat_cmp bs k.items) m n (Some at)) same set)

@@ -21,7 +21,6 @@
 -- - **List law.** `lists_as_spelled` goes one way by the step lemmas of the loop (`Going`), the other by a bound on steps
 --   and an inversion (`ran_list`, `ran_comma`, `ran_close`, `ran_one`); the induction hypothesis is handed over as a fact
 --   about the bound (`Runs element Is b`).
--- - Parts of lines: `Lexes Ok part ts` with `Ok` a fact on what follows, and `glue`.
 --
 -- Traps: `open` is reserved; `n == 0` doesn't compute at `suc n` (match `zero`/`suc` instead); `None {A = ℕ}` isn't
 -- written, turn the equation round; a module may not have the name of a function that lib.rt re-exports (`list`,
@@ -46,8 +45,6 @@ pub mod Listing
 pub mod Walking
 pub mod Passing
 pub mod Collecting
-pub mod Parts
-pub mod Written
 pub mod Fronts
 pub mod ListsSpelled
 pub mod MacroSpelling

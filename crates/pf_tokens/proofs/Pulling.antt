@@ -65,10 +65,6 @@ pub pulled_some : (ds : List Definition) (defining : Bool) (l : Lexed) (ts rest 
 pulled_some ds defining l ts rest [] is_first is_rest is_some some = absurd (omega arith)
 pulled_some ds defining l ts rest (r ∷ rs) is_first is_rest is_some some = rw (text_first l ts is_first, is_some, is_rest) refl
 
-pub text_shorter : (l : Lexed) (ts rest : List Placed) → option_map placed_of (Some l) ≡ first ts → rest ≡ drop 1 ts → length rest < length ts
-text_shorter l [] rest is_first is_rest = absurd cc
-text_shorter l (t ∷ ts) rest is_first is_rest = omega (arith, ap length is_rest)
-
 pub pulled_end : (ds : List Definition) (defining : Bool) (ts : List Placed) → first ts ≡ None → pulled_raw ds defining ts ≡ ([], [])
 pulled_end ds defining [] none = refl
 pulled_end ds defining (t ∷ ts) none = absurd cc

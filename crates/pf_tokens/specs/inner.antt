@@ -7,6 +7,5 @@ pub mod Defining
 pub mod Flow
 pub mod Joined
 pub mod Lexed
-pub mod Lines
 pub mod Pending
 pub mod Tokens
