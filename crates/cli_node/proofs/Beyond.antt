@@ -1,12 +1,10 @@
 -- A start isn't refused for what it doesn't name: a key, a control socket.
-use Rattle.std.proofs.Common.{◌≡◌, ◌≢◌, ◌∙◌, ◌⊎◌, ℕ, List, [], Result, Ok, Err, Bool, true, false, Option, Some, None, refl, ap, inl, inr}
-use Rattle.std.specs.Prelude.{◌&&◌, ◌||◌, not, if◌then◌else◌, nat_lt, IfErr, OnErr, is_some}
+use Rattle.std.proofs.Common.{◌≡◌, ◌≢◌, ◌∙◌, ◌⊎◌, ℕ, List, [], Bool, true, false, Option, Some, None, refl, ap, inl, inr}
+use Rattle.std.specs.Prelude.{◌&&◌, ◌||◌, not, if◌then◌else◌, nat_lt, is_some}
 use Rattle.px_records.specs.declared.records.Records.{Ghosts}
 use Rattle.px_wire.specs.declared.membership.Membership.{Membership}
 use Rattle.px_replica.specs.declared.fault.NodeFault.{NodeFault}
 use Rattle.px_replica.specs.declared.fault.NodeFault.TheVariants as fault
-use Rattle.px_store.specs.declared.fault.AdoptFault.{AdoptFault}
-use Rattle.px_store.specs.declared.fault.AdoptFault.TheVariants as adopt
 use Rattle.px_transport.specs.Wires.{WireEvent}
 use Rattle.node_loop.specs.Runs.{Reports, Runs}
 use Rattle.node_loop.specs.declared.ended.Ended.{Ended}
@@ -14,11 +12,9 @@ use Rattle.node_loop.specs.declared.ended.Ended.TheVariants as ended
 use Rattle.cli_node.specs.declared.outcome.Outcome.{Outcome}
 use Rattle.cli_node.specs.declared.outcome.Outcome.TheVariants.{Memory, Refused, Sound}
 use Rattle.cli_node.specs.declared.store.Found.{Found}
-use Rattle.cli_node.specs.declared.store.Opening.{Opening}
-use Rattle.cli_node.specs.declared.store.Opening.TheVariants.{Refuses}
-use Rattle.cli_node.specs.Endings.{adopt_outcome, checked, ended_outcome, ending_of, first_of, is_beyond, is_refused, outcome_of}
+use Rattle.cli_node.specs.Endings.{checked, ended_outcome, ending_of, first_of, is_beyond, is_refused, outcome_of}
 use Rattle.cli_node.specs.Endings.{ComesOpenOr, ComesTo, IsWireless}
-use Rattle.cli_node.specs.Stores.{IsOpening, IsRefused}
+use Rattle.cli_node.specs.Stores.{IsRefused}
 use Rattle.cli_node.proofs.Endings.{first}
 
 -- out of memory, nothing, or another number
@@ -31,12 +27,6 @@ sound_or : (k c : Bool) (code : ℕ) (o : Outcome) → is_beyond k c (Refused co
     is_beyond k c o ≡ false
 sound_or k c code o h (inl e) = ap (is_beyond k c) e
 sound_or k c code o h (inr e) = ap (is_beyond k c) e ∙ h
-
-pub in_err : {X : Type 0} (k c : Bool) (code : ℕ) (r : Result X Outcome) (o : Outcome) → is_beyond k c (Refused code) ≡ false →
-    r ≡ Err o → OnErr r ((r ≡ Err Memory) ⊎ (r ≡ Err (Refused code))) → is_beyond k c o ≡ false
-in_err k c code (Ok x) o h is e = absurd (cc)
-in_err k c code (Err p) o h is (inl e) = let same : o ≡ Memory = cc in either k c code o h (inl same)
-in_err k c code (Err p) o h is (inr e) = let same : o ≡ Refused code = cc in either k c code o h (inr same)
 
 -- ---- what else a start names
 
@@ -132,21 +122,10 @@ of_ending c o n h =
 
 -- ---- a store that isn't opened
 
-pub of_adopt : (k c : Bool) (e : AdoptFault) → is_beyond k c (adopt_outcome e) ≡ false
-of_adopt k c adopt.Memory = refl
-of_adopt k c adopt.Failed = refl
-of_adopt k c adopt.StoreVersion = refl
-of_adopt k c adopt.BadStore = refl
-of_adopt k c adopt.WrongNode = refl
-
 refused : (k c file new : Bool) (f : Found) (code : ℕ) → IsRefused file new f code → is_beyond k c (Refused code) ≡ false
 refused k c file new f code (inl w) = ap (λ (n : ℕ). is_beyond k c (Refused n)) w.0
 refused k c file new f code (inr (inl w)) = ap (λ (n : ℕ). is_beyond k c (Refused n)) w.0
 refused k c file new f code (inr (inr w)) = ap (λ (n : ℕ). is_beyond k c (Refused n)) w.0
-
-pub of_opening : (k c file new : Bool) (f : Found) (o : Opening) (code : ℕ) → IsOpening file new f o → o ≡ Refuses code →
-    is_beyond k c (Refused code) ≡ false
-of_opening k c file new f o code is e = refused k c file new f code (is.refused code e)
 
 -- ---- what a start would be refused for
 

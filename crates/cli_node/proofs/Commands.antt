@@ -55,16 +55,6 @@ pub node_given : (runs_none asks_none makes_none : Type 0) (node key ask : List 
     of_node ≡ Some rows → asks_none → makes_none → node rows o → OutcomeBy runs_none asks_none makes_none node key ask of_node of_key of_ask (Some o)
 node_given runs_none asks_none makes_none node key ask of_node of_key of_ask rows o e q t h = rw e ((q, t), h)
 
-pub key_given : (runs_none asks_none makes_none : Type 0) (node key ask : List Row → Outcome → Type 0) (of_node of_key of_ask : Option (List Row)) (rows : List Row) (o : Outcome) →
-    of_node ≡ None → of_key ≡ Some rows → runs_none → asks_none → key rows o →
-    OutcomeBy runs_none asks_none makes_none node key ask of_node of_key of_ask (Some o)
-key_given runs_none asks_none makes_none node key ask of_node of_key of_ask rows o e f r q h = rw (e, f) ((r, q), h)
-
-pub ask_given : (runs_none asks_none makes_none : Type 0) (node key ask : List Row → Outcome → Type 0) (of_node of_key of_ask : Option (List Row)) (rows : List Row) (o : Outcome) →
-    of_node ≡ None → of_key ≡ None → of_ask ≡ Some rows → runs_none → makes_none → ask rows o →
-    OutcomeBy runs_none asks_none makes_none node key ask of_node of_key of_ask (Some o)
-ask_given runs_none asks_none makes_none node key ask of_node of_key of_ask rows o e f g r t h = rw (e, f, g) ((r, t), h)
-
 pub none_given : (runs_none asks_none makes_none : Type 0) (node key ask : List Row → Outcome → Type 0) (of_node of_key of_ask : Option (List Row)) → of_node ≡ None →
     of_key ≡ None → of_ask ≡ None → runs_none → asks_none → makes_none → OutcomeBy runs_none asks_none makes_none node key ask of_node of_key of_ask None
 none_given runs_none asks_none makes_none node key ask of_node of_key of_ask e f g r q t = rw (e, f, g) (r, (q, t))

@@ -131,15 +131,6 @@ pub by_opening : (file new : Bool) (f : Found) (o : Opening) (code : ℕ) → Is
     IsStoreless file new (Refused code)
 by_opening file new f o code is e = by_refused file new f code (is.refused code e)
 
-not_80 : (file new : Bool) (f : Found) (code : ℕ) → IsRefused file new f code → Refused code ≢ Refused 80
-not_80 file new f code (inl w) e = let a : code ≡ 93 = w.0 in let b : code ≡ 80 = same_number code 80 e in omega (arith, a, b)
-not_80 file new f code (inr (inl w)) e = let a : code ≡ 94 = w.0 in let b : code ≡ 80 = same_number code 80 e in omega (arith, a, b)
-not_80 file new f code (inr (inr w)) e = let a : code ≡ 70 = w.0 in let b : code ≡ 80 = same_number code 80 e in omega (arith, a, b)
-
-pub unfailed_opening : (file new : Bool) (f : Found) (o : Opening) (code : ℕ) → IsOpening file new f o → o ≡ Refuses code →
-    Refused code ≢ Refused 80
-unfailed_opening file new f o code is e = not_80 file new f code (is.refused code e)
-
 -- out of memory
 pub by_memory : (file new : Bool) → IsStoreless file new Memory
 by_memory file new = record { missing = λ e. absurd (cc); there = λ e. absurd (cc) }
@@ -188,14 +179,6 @@ unfailed_fault adopt.StoreVersion e = let b : 73 ≡ 80 = same_number 73 80 e in
 unfailed_fault adopt.BadStore e = let b : 72 ≡ 80 = same_number 72 80 e in omega (arith, b)
 unfailed_fault adopt.WrongNode e = let b : 71 ≡ 80 = same_number 71 80 e in omega (arith, b)
 
-pub unfailed_file : {C : Type 0} (r : Result C Outcome) (outcome : Outcome) → r ≡ Err outcome →
-    OnErr r ((r ≡ Err Memory) ⊎ (r ≡ Err (Refused 70))) → outcome ≢ Refused 80
-unfailed_file (Ok c) outcome is h e = cc
-unfailed_file (Err o) outcome is (inl h) e = let same : outcome ≡ Memory = cc in cc
-unfailed_file (Err o) outcome is (inr h) e =
-    let same : outcome ≡ Refused 70 = cc in
-    let b : 70 ≡ 80 = same_number 70 80 (sym same ∙ e) in omega (arith, b)
-
 -- a store isn't made
 of_unmade : (file new : Bool) (o : Outcome) → IsUnmade o → IsStoreless file new o
 of_unmade file new o (inl e) = subst (λ (x : Outcome). IsStoreless file new x) (sym e) (by_memory file new)
@@ -209,17 +192,6 @@ pub by_making : {C : Type 0} (file new : Bool) (r : Result C Outcome) (outcome :
     IfErr r IsUnmade → IsStoreless file new outcome
 by_making file new (Ok c) outcome is h = absurd (cc)
 by_making file new (Err o) outcome is h = let same : o ≡ outcome = cc in of_unmade file new outcome (subst IsUnmade same h)
-
-not_made_80 : (o : Outcome) → IsUnmade o → o ≢ Refused 80
-not_made_80 o (inl e) f = cc
-not_made_80 o (inr (inl e)) f = let b : 70 ≡ 80 = same_number 70 80 (sym e ∙ f) in omega (arith, b)
-not_made_80 o (inr (inr (inl e))) f = let b : 82 ≡ 80 = same_number 82 80 (sym e ∙ f) in omega (arith, b)
-not_made_80 o (inr (inr (inr e))) f = let b : 84 ≡ 80 = same_number 84 80 (sym e ∙ f) in omega (arith, b)
-
-pub unfailed_making : {C : Type 0} (r : Result C Outcome) (outcome : Outcome) → r ≡ Err outcome → IfErr r IsUnmade →
-    outcome ≢ Refused 80
-unfailed_making (Ok c) outcome is h = absurd (cc)
-unfailed_making (Err o) outcome is h = let same : o ≡ outcome = cc in not_made_80 outcome (subst IsUnmade same h)
 
 -- ---- where 93 comes no store is there
 

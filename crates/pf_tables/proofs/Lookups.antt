@@ -1,5 +1,5 @@
 -- Entries in order, and what is found among them.
-use Rattle.std.proofs.Common.{◌≡◌, ℕ, Bool, true, false, ◌&&◌, ◌||◌, cond, List, [], ◌∷◌, ◌++◌, Option, Some, None, Ordering, length, take, drop, refl, sym, subst, ap, ◌∙◌, arith, take-append-drop, take_all, drop-cons, length-drop, get_or, ◌-◌, ◌≤◌}
+use Rattle.std.proofs.Common.{◌≡◌, ℕ, Bool, true, false, ◌&&◌, ◌||◌, cond, List, [], ◌∷◌, ◌++◌, Option, Some, None, length, take, drop, refl, sym, subst, ap, ◌∙◌, arith, take-append-drop, take_all, drop-cons, length-drop, get_or, ◌-◌, ◌≤◌}
 use Rattle.std.specs.declared.cmp.Ordering.TheVariants.{Less, Equal, Greater}
 use Rattle.std.specs.Prelude.{if◌then◌else◌, filter, not}
 use Rattle.std.specs.List.{list_all, list_any}
@@ -28,13 +28,6 @@ above p es = list_all (λ (f : TableEntry). is_lt (prefix_cmp p f.prefix)) es
 pub above_chain : (p q : Block) (es : List TableEntry) → is_lt (prefix_cmp p q) ≡ true → above q es ≡ true → above p es ≡ true
 above_chain p q [] h k = refl
 above_chain p q (e ∷ es) h k = let both = both_true (is_lt (prefix_cmp q e.prefix)) (above q es) k in rw (chain p q e.prefix h both.0) (above_chain p q es h both.1)
-
-not_both : (o e : Ordering) → o ≡ e → is_lt o ≡ true → is_eq e ≡ false
-not_both Less Less h k = refl
-not_both Less Equal h k = cc
-not_both Less Greater h k = cc
-not_both Equal e h k = cc
-not_both Greater e h k = cc
 
 -- what is behind the prefix is another one
 pub less_other : (p q : Block) → is_lt (prefix_cmp p q) ≡ true → is_eq (prefix_cmp q p) ≡ false

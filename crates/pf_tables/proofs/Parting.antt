@@ -1,6 +1,6 @@
 -- Entries in order are cut into parts.
 use Rattle.std.specs.Prelude.{◌⊎◌}
-use Rattle.std.proofs.Common.{drop-cons, add-one, ◌≡◌, ℕ, zero, suc, ◌+◌, ◌<◌, ◌≤◌, ◌==◌, Bool, true, false, ◌&&◌, cond, List, [], ◌∷◌, ◌++◌, Ordering, length, take, drop, get_or, refl, sym, subst, ap, ◌∙◌, arith, inl, inr, append_assoc, take-append-drop, length-drop}
+use Rattle.std.proofs.Common.{drop-cons, add-one, ◌≡◌, ℕ, zero, suc, ◌+◌, ◌<◌, ◌≤◌, ◌==◌, Bool, true, false, ◌&&◌, cond, List, [], ◌∷◌, ◌++◌, Ordering, length, take, drop, get_or, refl, sym, subst, ap, ◌∙◌, arith, inl, inr, append_assoc, take-append-drop}
 use Rattle.std.specs.declared.cmp.Ordering.TheVariants.{Equal, Greater}
 use Rattle.std.specs.Prelude.{if◌then◌else◌, filter, not}
 use Rattle.std.specs.List.{list_all, prefix_len}
@@ -15,7 +15,7 @@ use Rattle.pf_rules.specs.declared.ruleset.TableEntry.{TableEntry}
 use Rattle.pf_tables.specs.declared.part.Part.{Part}
 use Rattle.pf_tables.specs.Tables.{is_v6, is_of, bool_eq}
 use Rattle.pf_addr.specs.Order.{version, prefix_cmp, bits_of}
-use Rattle.pf_tables.specs.Parts.{joined, IsOrdered, AreBlocks, ArePartsBefore, AreParts}
+use Rattle.pf_tables.specs.Parts.{joined, IsOrdered, AreBlocks, ArePartsBefore}
 use Rattle.pf_tables.proofs.Lookups.{above, both_true, ordered_back}
 use Rattle.pf_tables.proofs.Deciding.{joined_last, append_nil}
 
@@ -176,19 +176,6 @@ one_part_more ps p e (x ∷ es) all n f h v l i b =
     let own : Goal x = λ v l i. cut_off ps p x es all h v l i b in
     let at : Goal e = subst Goal (sym f) own in
     at v l i
-
-pub all_parted : (ps : List Part) (rest all : List TableEntry) → length rest < 1 → Parted ps rest all → (joined ps ≡ all) × (IsOrdered all → AreParts ps)
-all_parted ps (e ∷ rest) all n h = absurd (omega (arith, n))
-all_parted ps [] all n h =
-    let e : joined ps ≡ all = sym (append_nil (joined ps)) ∙ h.whole in
-    (e, λ s. record { apart = h.apart; ordered = subst IsOrdered (sym e) s; blocks = h.blocks })
-
-pub shorter : (e : TableEntry) (rest : List TableEntry) → 1 ≤ length rest → e ≡ get_or rest 0 e → length (drop (prefix_len (is_of (is_v6 e.prefix.base) e.prefix.len) rest) rest) < length rest
-shorter e [] n f = absurd (omega (arith, n))
-shorter e (x ∷ rest) n f =
-    let Goal : TableEntry → Type 0 = λ y. length (drop (prefix_len (is_of (is_v6 y.prefix.base) y.prefix.len) (x ∷ rest)) (x ∷ rest)) < length (x ∷ rest) in
-    let own : Goal x = (let m = run_is x rest in let k = length-drop (prefix_len (is_of (is_v6 x.prefix.base) x.prefix.len) (x ∷ rest)) (x ∷ rest) in omega (arith, m, k, n)) in
-    subst Goal (sym f) own
 
 -- ---- one part of them
 

@@ -33,7 +33,6 @@
 -- | `CatchingUp` | what is learned stays learned (`keeping`); a member at which nothing waits is sent the entry of a position (`learned_next`); the law `catches_up` |
 -- | `Following` | a member of the group that is behind is sent an entry, or makes an attempt (`advances`); the law `all_learn` |
 -- | `ProgressCases` | two worked cases of progress |
--- | `Weaker` | for the crates above: what fits by one predicate on commands fits by another (`entry_passes`, `slot_passes`, `log_weaker`, `change_weaker`) |
 -- | `Commands` | spellings of entries: what is read of one names it, and what stands for it is spelled so again |
 -- | `Reading` | lemmas for code over the definitions: a kept number is the front, or the top; lists of entries |
 --
@@ -117,7 +116,6 @@ pub mod MoreCases
 pub mod Commands
 pub mod Enough
 pub mod Rising
-pub mod Weaker
 pub mod Going
 pub mod Replies
 pub mod Attempts

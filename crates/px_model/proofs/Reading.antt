@@ -1,13 +1,13 @@
 -- How code that keeps the front, reads the top, keeps lists or compares bytes meets the definitions.
-use Rattle.std.proofs.Common.{◌≡◌, ℕ, zero, suc, ◌<◌, ◌≤◌, inl, inr, List, [], ◌∷◌, Option, Some, None, length, slice_index_or, Contains, nat_eq, arith, refl, sym, ◌∙◌}
+use Rattle.std.proofs.Common.{◌≡◌, ℕ, suc, ◌<◌, ◌≤◌, inl, inr, List, [], ◌∷◌, Option, Some, None, Contains, nat_eq, arith, refl, sym, ◌∙◌}
 use Rattle.std.proofs.lemmas.Bool.{cases_order}
 use Rattle.std.specs.Cmp.Lexicographic.{pointwise}
 use Rattle.std.proofs.lemmas.Bool.Decides.{Decides-eqb}
 use Rattle.std.proofs.lemmas.Slice.Eq.{slice_eq-Decides}
-use Rattle.px_model.specs.Node.{IsEquality, Proposal, Slot}
+use Rattle.px_model.specs.Node.{IsEquality}
 use Rattle.px_model.specs.Step.{positions, top, front}
 use Rattle.px_model.specs.Law.{Among}
-use Rattle.px_model.proofs.Plans.{front_within, below_front, at_front, above_top, top_reached}
+use Rattle.px_model.proofs.Plans.{front_within, below_front, at_front}
 
 -- a number is the front where all below it is learned, and nothing at it
 pub front_is : {X : Type 0} (learned : ℕ → Option X) (f : ℕ) → f ≤ positions → ((q : ℕ) → q < f → (x : X) × (learned q ≡ Some x)) → (f < positions → learned f ≡ None) → front learned ≡ f
@@ -27,27 +27,6 @@ front_is learned f within below here =
       ])
     ]
 
--- a number is the top where nothing is accepted from it on, and something just below it
-pub top_is : {C : Type 0} (slots : ℕ → Slot C) (t : ℕ) → ((q : ℕ) → t ≤ q → q < positions → (slots q).accepted ≡ None) → ((q : ℕ) → t ≡ suc q → (q < positions) × ((x : Proposal C) × ((slots q).accepted ≡ Some x))) → top slots ≡ t
-top_is {C} slots t above last =
-    elim (cases_order (top slots) t) [
-      | inl same ↦ same
-      | inr apart ↦ (elim apart [
-        | inl less ↦ absurd (from_below t refl less)
-        | inr more ↦ absurd (
-            let r = top_reached slots (omega arith) in
-            let e = above r.0 (omega arith) r.2 in
-            let c : Some r.3 ≡ None = sym r.4 ∙ e in cc)
-      ])
-    ]
-  where
-    from_below : (k : ℕ) → t ≡ k → top slots < t → ⊥
-    from_below zero is less = omega arith
-    from_below (suc q) is less =
-        let s = last q is in
-        let e = above_top slots q (omega arith) s.0 in
-        let c : Some s.1.0 ≡ None = sym s.1.1 ∙ e in cc
-
 -- between `Among` and the library's `Contains`
 pub among_contains : {X : Type 0} (xs : List X) (x : X) → Among xs x → Contains xs x
 among_contains [] x a = absurd a
@@ -56,14 +35,6 @@ among_contains (y ∷ ys) x a =
       | inl is ↦ (0, omega arith, is)
       | inr b ↦ (let c = among_contains ys x b in (suc c.0, (let u = c.1 in omega arith), c.2))
     ]
-
-pub contains_among : {X : Type 0} (xs : List X) (x : X) → Contains xs x → Among xs x
-contains_among xs x c = at xs c.0 c.1 c.2
-  where
-    at : (ys : List _) (k : ℕ) → k < length ys → slice_index_or ys k x ≡ x → Among ys x
-    at [] k less is = absurd (omega arith)
-    at (y ∷ ys) zero less is = inl is
-    at (y ∷ ys) (suc k) less is = inr (at ys k (omega arith) is)
 
 -- the equality of commands that are lists of bytes, as `==` computes it
 pub bytes_equality : IsEquality (pointwise nat_eq)
