@@ -20,8 +20,6 @@ use Rattle.std.proofs.lemmas.Option.{slice_get_within}
 use Rattle.px_transport.specs.Wires.{WireEvent, Handed, Adds, IsQuiet}
 use Rattle.std.specs.Prelude.{OnOk, OnErr}
 
--- ---- a request
-
 -- ---- two lists, each with one more
 
 pub among_two : (xs ys vs ws : List Addressed) (d : Addressed) → AreAmong xs (vs ++ d ∷ []) → AreAmong ys (ws ++ d ∷ []) →

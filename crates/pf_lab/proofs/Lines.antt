@@ -120,8 +120,6 @@ more_shown sent shown k x before out now late at so printed =
     printed ∙ ap (λ (xs : List ℕ). xs ++ sent_line k (Some x)) so
     ∙ append_assoc before (sent_lines sent shown k) (sent_line k (Some x)) ∙ ap (λ (xs : List ℕ). before ++ xs) (sym here)
 
--- ---- messages
-
 -- ---- the lab of the code is the definition's
 
 pub in_world : (b : Bench) (v : LabValue) (l : Lab) (w : World Bytes) → IsBench b v →

@@ -120,5 +120,3 @@ takes_at r hosts g m w a what y sent world at up came memory reported =
     let mine = subst (λ (j : ℕ). IfOk r (λ (o : Outcome). o ≡ outcome_of S.stored.meta x (answer p.members j S x))) host.me here in
     let all = subst (λ (k : ℕ). IfOk r (λ (o : Outcome). o ≡ outcome_of S.stored.meta x (answer k m S x))) e mine in
     runs_reported r g.members m w (state_of y) a x came.comes inside host.here up memory all
-
--- ---- an event and its action

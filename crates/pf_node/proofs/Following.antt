@@ -33,5 +33,3 @@ learned_below log p under none = let s = below_front log p under in let e : Some
 pub after_kept : (log more : Log Bytes) (k : ℕ) (c : Configuration) → after log k ≡ Some c → k ≤ front log →
     ((p : ℕ) → p < front log → more p ≡ log p) → after more k ≡ Some c
 after_kept log more k c a within below = after_same log more k (λ p b. below p (omega arith)) ∙ a
-
--- ---- a command's change

@@ -29,7 +29,7 @@
 -- - A test that calls what has a `requires` names each crate whose definitions the clause cites in crates.txt, else the
 --   goal is out of reach.
 --
--- Wrong bodies, each refused at a goal of the function that was changed:
+-- Mutants, each refused at a goal of the function that was changed:
 --
 -- | Edit | Refused at |
 -- |---|---|
