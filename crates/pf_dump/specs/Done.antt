@@ -8,7 +8,7 @@ use Rattle.pf_entry.specs.Entry.{load}
 use Rattle.pf_entry.specs.Owned.{is_over}
 use Rattle.pf_command.specs.Effect.{Effect, RefusedCommand, effect, after_command, empty}
 use Rattle.pf_scripts.specs.Lines.{ScriptLine, lines, bytes_of, words_in}
-use Rattle.pf_scripts.specs.Ctl.{WaitingWords, WordsValue, Asks, Refuses, Shows, words_read, takes_text}
+use Rattle.pf_scripts.specs.Ctl.{WaitingWords, WordsValue, Asks, Prints, words_read, takes_text}
 use Rattle.pf_dump.specs.Contents.{IsSame}
 use Rattle.pf_dump.specs.Texts.{Text}
 
@@ -21,8 +21,7 @@ Word = List ℕ
 abbrev pub change_done : Configuration → WordsValue → Option Configuration
 change_done c (Asks command) =
     if is_over (record { origin = 0; number = 0; command = command }) then None else Some (after_command c command)
-change_done c (Refuses code at) = None
-change_done c (Shows output) = None
+change_done c (Prints printed) = None
 
 -- the configuration behind a line, and what waits for its text
 pub record Place : Type 0 where

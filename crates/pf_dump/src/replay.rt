@@ -81,8 +81,7 @@ fn run_words(
 {
     match read_words(alloc, config, words, text)? {
         WordsRead::Change(command) => apply_change(alloc, config, command),
-        WordsRead::Refused(_, _) => Ok(false),
-        WordsRead::Output(_) => Ok(false),
+        WordsRead::Printed(_) => Ok(false),
     }
 }
 

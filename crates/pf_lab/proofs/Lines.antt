@@ -52,7 +52,7 @@ use Rattle.pf_node.specs.Applied.{after}
 use Rattle.pf_node.specs.Nodes.{learned_by}
 use Rattle.pf_node.specs.declared.state.Node.{Node}
 use Rattle.pf_scripts.specs.Lines.{line}
-use Rattle.pf_scripts.specs.Ctl.{tested}
+use Rattle.pf_scripts.specs.Ctl.{tested, text_of}
 use Rattle.pf_lab.specs.Labs.{IsShown}
 use Rattle.pf_lab.specs.Shown.{log_lines, message_line}
 use Rattle.pf_lab.specs.Scripts.{all_delivered, of_running, learned_lines, verdict_line, config_at}
@@ -230,9 +230,9 @@ pub stopped_shown : (s : NodeState Bytes) (shows : NodeState Bytes → List ℕ)
 stopped_shown s shows down = sym (cond-false _ (shows s) (line (codes "stopped")) down)
 
 pub verdict_shown : {R : Type 0} {G : Ghosts R} (s : NodeState Bytes) (n : Node R G) (c : Configuration) (packet : List Text) →
-    IsShown s n → c ≡ config_at (learned_by n) → tested c packet ≡ of_running s (verdict_line packet)
+    IsShown s n → c ≡ config_at (learned_by n) → text_of (tested c packet) ≡ of_running s (verdict_line packet)
 verdict_shown s n c packet is same =
-    ap (λ (d : Configuration). tested d packet) (same ∙ sym (ap config_at is.learned))
+    ap (λ (d : Configuration). text_of (tested d packet)) (same ∙ sym (ap config_at is.learned))
     ∙ sym (cond-true _ (verdict_line packet s) (line (codes "stopped")) is.up)
 
 pub config_is : (log : node.Log Bytes) (k : ℕ) (c : Configuration) → after log k ≡ Some c → k ≡ front log → c ≡ config_at log

@@ -19,7 +19,7 @@ use Rattle.pf_entry.specs.Owned.{is_over}
 use Rattle.pf_command.specs.Effect.{empty}
 use Rattle.pf_node.specs.Applied.{after}
 use Rattle.pf_scripts.specs.Lines.{ScriptLine, lines, bytes_of, words_in, line, refused_line}
-use Rattle.pf_scripts.specs.Ctl.{WaitingWords, tested}
+use Rattle.pf_scripts.specs.Ctl.{WaitingWords, tested, text_of}
 use Rattle.pf_lab.specs.declared.event.Outcome.{Outcome}
 use Rattle.pf_lab.specs.declared.event.Outcome.TheVariants as outcome
 use Rattle.pf_lab.specs.Outcomes.{is_unknown, outcome_in}
@@ -210,7 +210,7 @@ learned_lines s = log_lines s.stored.learned (front s.stored.learned + 64)
 
 -- the verdict for the packet that the arguments spell
 abbrev pub verdict_line : List Text → NodeState Bytes → List ℕ
-verdict_line packet s = tested (config_at s.stored.learned) packet
+verdict_line packet s = text_of (tested (config_at s.stored.learned) packet)
 
 -- ---- what is shown of messages
 

@@ -133,7 +133,7 @@ fn push_verdict(
         ≡ string_bytes out.old ++ of_running s (verdict_line (map (λ w. w.now) packet.now))) }
 {
     match node {
-        Some(node) => test_packet(alloc, configuration(node)?, packet, out),
+        Some(node) => test_packet(alloc, configuration(node)?, packet)?.push_to(alloc, out),
         None => push_line(out, "stopped"),
     }
 }

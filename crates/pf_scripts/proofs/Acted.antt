@@ -1,20 +1,23 @@
 -- What a command does, as it is answered.
-use Rattle.std.proofs.Common.{◌≡◌, ℕ, Bool, List, ◌++◌, Option, Some, Result, Ok, Err, refl, ap, unwrap_or}
+use Rattle.std.proofs.Common.{◌≡◌, ℕ, Bool, Option, Some, Result, Ok, Err, refl, ap, unwrap_or}
 use Rattle.pf_config.specs.Map.{Configuration}
 use Rattle.pf_command.specs.Effect.{Effect, RefusedCommand, changed}
 use Rattle.pf_arguments.specs.declared.fault.CommandFault.{CommandFault}
 use Rattle.pf_arguments.specs.declared.fault.CommandFault.TheVariants.{Memory, Usage, BadPath, BadAddress, TooLong}
 use Rattle.pf_arguments.specs.Asked.{Asked}
 use Rattle.pf_arguments.specs.Answers.{FailsAs, command_fault_code}
-use Rattle.pf_scripts.specs.Lines.{refused_line}
-use Rattle.pf_scripts.specs.Ctl.{numbered, prints, counts_line, change_line}
+use Rattle.pf_scripts.specs.Ctl.{PrintedValue, Refused, Lines, numbered, prints, counts_line, change_printed}
 use Rattle.pf_scripts.specs.inner.Seen.{Does}
 
-pub applied_does : (c new : Configuration) (counts : Bool) (r : Result Effect RefusedCommand) (added removed : ℕ) (before after : List ℕ) → r ≡ Ok (record { configuration = new; added = added; removed = removed }) → after ≡ before ++ counts_line counts added removed → Does (prints (changed c r) (change_line counts r)) new before after
-applied_does c new counts r added removed before after h k = rw h (refl, k)
+pub applied_does : (c new : Configuration) (counts : Bool) (r : Result Effect RefusedCommand) (added removed : ℕ)
+    (p : PrintedValue) → r ≡ Ok (record { configuration = new; added = added; removed = removed }) →
+    p ≡ Lines (counts_line counts added removed) → Does (prints (changed c r) (change_printed counts r)) new p
+applied_does c new counts r added removed p h k = rw h (refl, k)
 
-pub refused_does : (c new : Configuration) (counts : Bool) (r : Result Effect RefusedCommand) (code at : ℕ) (before after : List ℕ) → r ≡ Err (record { code = code; line = at }) → new ≡ c → after ≡ before ++ refused_line code at → Does (prints (changed c r) (change_line counts r)) new before after
-refused_does c new counts r code at before after h e k = rw h (e, k)
+pub refused_does : (c new : Configuration) (counts : Bool) (r : Result Effect RefusedCommand) (code at : ℕ) →
+    r ≡ Err (record { code = code; line = at }) → new ≡ c →
+    Does (prints (changed c r) (change_printed counts r)) new (Refused code at)
+refused_does c new counts r code at h e = rw h (e, refl)
 
 -- a fault has its number
 pub fault_numbered : (fault : CommandFault) (a : Asked) (code : ℕ) → FailsAs fault a →

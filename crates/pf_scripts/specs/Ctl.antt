@@ -39,10 +39,24 @@ abbrev pub counts_line : Bool → ℕ → ℕ → List ℕ
 counts_line counts added removed =
     if counts then line (codes "ok " ++ decimal added ++ codes " " ++ decimal removed) else line (codes "ok")
 
--- the line of a command's effect, or of its refusal
+-- what a line prints: a refusal with its number and a ruleset's line, or lines
+pub data PrintedValue : Type 0 where
+  Refused : (code at : ℕ) → PrintedValue
+  Lines : (text : List ℕ) → PrintedValue
+
+-- the line of a refusal, or the lines
+abbrev pub text_of : PrintedValue → List ℕ
+text_of (Refused code at) = refused_line code at
+text_of (Lines text) = text
+
+-- what is printed of a command's effect, or of its refusal
+abbrev pub change_printed : Bool → Result Effect RefusedCommand → PrintedValue
+change_printed counts (Ok e) = Lines (counts_line counts e.added e.removed)
+change_printed counts (Err r) = Refused r.code r.line
+
+-- the line of it
 abbrev pub change_line : Bool → Result Effect RefusedCommand → List ℕ
-change_line counts (Ok e) = counts_line counts e.added e.removed
-change_line counts (Err r) = refused_line r.code r.line
+change_line counts result = text_of (change_printed counts result)
 
 -- ---- what a line of pfctl's arguments asks for
 
@@ -82,25 +96,24 @@ action_in words text = asked_at text (rows_in words)
 
 -- ---- what it gives where nothing is changed
 
--- a change that is asked for and not made; a refusal with its number and a ruleset's line; or what is printed
+-- a change that is asked for and not made, or what is printed
 pub data WordsValue : Type 0 where
   Asks : (command : Command) → WordsValue
-  Refuses : (code : ℕ) → (at : ℕ) → WordsValue
-  Shows : (output : List ℕ) → WordsValue
+  Prints : (printed : PrintedValue) → WordsValue
 
 -- -n: the text is only read
 abbrev pub checked : Result RulesetValue Refusal → WordsValue
-checked (Ok rules) = Shows (line (codes "ok"))
-checked (Err refusal) = Refuses (refused_text refusal).code (refused_text refusal).line
+checked (Ok rules) = Prints (Lines (line (codes "ok")))
+checked (Err refusal) = Prints (Refused (refused_text refusal).code (refused_text refusal).line)
 
 -- what is listed, or its refusal
 abbrev pub shown : Result (List ℕ) ℕ → WordsValue
-shown (Ok output) = Shows output
-shown (Err code) = Refuses code 0
+shown (Ok output) = Prints (Lines output)
+shown (Err code) = Prints (Refused code 0)
 
 -- an action where nothing is changed: a change is handed back
 abbrev pub looked : Configuration → List ℕ → Result ActionValue ℕ → WordsValue
-looked c text (Err code) = Refuses code 0
+looked c text (Err code) = Prints (Refused code 0)
 looked c text (Ok (Change command)) = Asks command
 looked c text (Ok (CheckOnly p)) = checked (reading (place_at p) Two text)
 looked c text (Ok action) = shown (listed c action)
@@ -115,17 +128,16 @@ words_read c words text = looked c text (action_in words text)
 -- the configuration after a line, and what it prints
 pub record Outcome : Type 0 where
   pub configuration : Configuration
-  pub output : List ℕ
+  pub printed : PrintedValue
 
 -- a configuration and what is printed
-abbrev pub prints : Configuration → List ℕ → Outcome
-prints c output = record { configuration = c; output = output }
+abbrev pub prints : Configuration → PrintedValue → Outcome
+prints c printed = record { configuration = c; printed = printed }
 
--- a change is made, and the line of its effect printed; all else changes nothing
+-- a change is made, and its effect printed; all else changes nothing
 abbrev pub done_with : Configuration → WordsValue → Outcome
-done_with c (Asks command) = prints (after_command c command) (change_line (is_counted command) (effect c command))
-done_with c (Refuses code at) = prints c (refused_line code at)
-done_with c (Shows output) = prints c output
+done_with c (Asks command) = prints (after_command c command) (change_printed (is_counted command) (effect c command))
+done_with c (Prints printed) = prints c printed
 
 -- a line of pfctl's arguments, with the text of their file
 abbrev pub pfctl : Configuration → List Text → List ℕ → Outcome
@@ -155,15 +167,15 @@ pub record WaitingWords : Type 0 where
   pub words : List Text
   pub text : List ℕ
 
--- the configuration, whether a ruleset is being read, and what a line printed
+-- the configuration, whether a ruleset is being read, and what a line printed, if anything
 pub record StepValue : Type 0 where
   pub configuration : Configuration
   pub waiting : Option WaitingWords
-  pub output : List ℕ
+  pub printed : List PrintedValue
 
 -- a line is done with, and no text is waited for
 abbrev pub done : Outcome → StepValue
-done outcome = record { configuration = outcome.configuration; waiting = None; output = outcome.output }
+done outcome = record { configuration = outcome.configuration; waiting = None; printed = outcome.printed ∷ [] }
 
 -- a line of pfctl's arguments: it is run at once, or waits for its text
 abbrev pub pfctl_line : Configuration → List Text → StepValue
@@ -171,27 +183,27 @@ pfctl_line c words =
     if takes_text words then record {
       configuration = c;
       waiting = Some (record { words = words; text = [] });
-      output = [];
+      printed = [];
     }
     else done (pfctl c words [])
 
 -- the line of a packet's verdict, 30 where the text is no packet
-abbrev pub packet_line : Configuration → Option PacketValue → List ℕ
-packet_line c None = refused_line 30 0
-packet_line c (Some k) = line (verdict_text (judgement c k))
+abbrev pub packet_printed : Configuration → Option PacketValue → PrintedValue
+packet_printed c None = Refused 30 0
+packet_printed c (Some k) = Lines (line (verdict_text (judgement c k)))
 
 -- test PACKET
-unfoldable pub tested : Configuration → List Text → List ℕ
-tested c words = packet_line c (packet_of (spaced words))
+unfoldable pub tested : Configuration → List Text → PrintedValue
+tested c words = packet_printed c (packet_of (spaced words))
 
 -- pfctl WORDS, or test PACKET; an empty line does nothing, any other is 40
 abbrev pub at_words : Configuration → Option (List Text) → StepValue
-at_words c None = done (prints c (refused_line 40 0))
-at_words c (Some []) = done (prints c [])
+at_words c None = done (prints c (Refused 40 0))
+at_words c (Some []) = record { configuration = c; waiting = None; printed = [] }
 at_words c (Some (w ∷ ws)) =
     if bytes_eq w (codes "pfctl") then pfctl_line c (w ∷ ws)
     else if bytes_eq w (codes "test") then done (prints c (tested c ws))
-    else done (prints c (refused_line 40 0))
+    else done (prints c (Refused 40 0))
 
 -- a line: one of a ruleset, up to a line `.`, or one with arguments
 abbrev pub stepped : Configuration → Option WaitingWords → ScriptLine → StepValue
@@ -201,20 +213,20 @@ stepped c (Some w) l =
     else record {
       configuration = c;
       waiting = Some (record { words = w.words; text = w.text ++ bytes_of l });
-      output = [];
+      printed = [];
     }
 
 -- the end of the script ends a ruleset
-abbrev pub at_end : Configuration → Option WaitingWords → List ℕ
+abbrev pub at_end : Configuration → Option WaitingWords → List PrintedValue
 at_end c None = []
-at_end c (Some w) = (pfctl c w.words w.text).output
+at_end c (Some w) = (pfctl c w.words w.text).printed ∷ []
 
 -- what the lines of a script print from here on, up to its end
-abbrev pub printed_from : Configuration → Option WaitingWords → List ScriptLine → List ℕ
+abbrev pub printed_from : Configuration → Option WaitingWords → List ScriptLine → List PrintedValue
 printed_from c waiting [] = at_end c waiting
 printed_from c waiting (l ∷ ls) =
-    let s = stepped c waiting l in s.output ++ printed_from s.configuration s.waiting ls
+    let s = stepped c waiting l in s.printed ++ printed_from s.configuration s.waiting ls
 
 -- what a script prints over an empty configuration
-unfoldable pub printed : List ℕ → List ℕ
+unfoldable pub printed : List ℕ → List PrintedValue
 printed script = printed_from empty None (lines script)

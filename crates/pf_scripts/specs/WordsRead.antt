@@ -8,7 +8,8 @@ use Rattle.pf_scripts.specs.declared.words_read.WordsRead.{WordsRead}
 use Rattle.pf_scripts.specs.declared.words_read.WordsRead.TheVariants as rust
 use Rattle.pf_scripts.specs.declared.words_read.ChangeFault.{ChangeFault}
 use Rattle.pf_scripts.specs.declared.words_read.ChangeFault.TheVariants as fault
-use Rattle.pf_scripts.specs.Ctl.{WordsValue, Asks, Refuses, Shows, action_in}
+use Rattle.pf_scripts.specs.Ctl.{WordsValue, Asks, Prints, action_in}
+use Rattle.pf_scripts.specs.Seen.{printed_value}
 
 -- the change of an action; one that is none is 40
 abbrev pub change_of : Result ActionValue ℕ → Result Command ℕ
@@ -25,14 +26,12 @@ change_in words text = change_of (action_in words text)
 -- the value of read arguments in code
 abbrev pub words_value : WordsRead → WordsValue
 words_value (rust.Change command) = Asks (command_value command)
-words_value (rust.Refused code at) = Refuses code at
-words_value (rust.Output output) = Shows (string_bytes output)
+words_value (rust.Printed printed) = Prints (printed_value printed)
 
 -- a change that is handed back has an entry
 abbrev pub AsksShort : WordsRead → Type 0
 AsksShort (rust.Change command) = is_too_long (command_value command) ≡ false
-AsksShort (rust.Refused code at) = Unit {0}
-AsksShort (rust.Output output) = Unit {0}
+AsksShort (rust.Printed printed) = Unit {0}
 
 -- what is asked for, or its refusal; out of memory isn't specified
 abbrev pub IsAskedAs : {Z V : Type 0} → Result Z ChangeFault → (Z → V) → Result V ℕ → Type 0

@@ -1,17 +1,18 @@
 //! What a line of pfctl's arguments does.
 
-ghost use Rattle.std.specs.Prelude.{◌≡◌, ◌++◌, OnOk, map, false, string_bytes};
+ghost use Rattle.std.specs.Prelude.{◌≡◌, ◌++◌, IfOk, OnOk, map, false, string_bytes};
 ghost use Rattle.std.specs.Option.{option_copied};
 ghost use Rattle.pf_entry.specs.Owned.{command_value};
 ghost use Rattle.pf_entry.specs.Seen.{command_of};
 ghost use Rattle.pf_command.specs.Effect.{effect, after_command};
 ghost use Rattle.pf_arguments.specs.Asked.{is_too_long};
-ghost use Rattle.pf_scripts.specs.Ctl.{is_counted, counts_line, change_line, prints, asked_at, looked, done_with};
-ghost use Rattle.pf_scripts.specs.Ctl.{pfctl};
+ghost use Rattle.pf_scripts.specs.Ctl.{is_counted, counts_line, change_printed, prints, asked_at, looked, done_with};
+ghost use Rattle.pf_scripts.specs.Ctl.{pfctl, Lines};
+ghost use Rattle.pf_scripts.specs.Seen.{printed_value};
 ghost use Rattle.pf_scripts.specs.inner.Seen.{Does, rows_matched};
 
 use crate::pfctl::matches_in;
-use crate::printing::{push_number, push_refusal};
+use crate::printing::{Printed, push_number};
 use crate::reading::read_matches;
 use crate::words_read::WordsRead;
 use clap::ArgMatches;
@@ -57,36 +58,39 @@ pub fn push_counts(
     out.push('\n')
 }
 
-/// Applies a command as it is in an entry's bytes, and prints the result.
+/// What is printed of a change that was made.
+fn made(alloc: Global, counts: bool, applied: Applied) -> Result<Printed, AllocError>
+    ensures { IfOk result (λ p. printed_value p ≡ Lines (counts_line counts applied.added applied.removed)) }
+{
+    let mut line = String::new(alloc);
+    push_counts(alloc, &mut line, counts, applied)?;
+    Ok(Printed::Lines(line))
+}
+
+/// Applies a command as it is in an entry's bytes.
 #[tactic(auto, using(crate::proofs::Acted::applied_does, crate::proofs::Acted::refused_does))]
 fn run_view(
     alloc: Global,
     config: &mut Config,
     command: &CommandView,
-    out: &mut String,
-) -> Result<(), AllocError>
-    ensures { OnOk result (Does (prints (after_command config.old (command_of command.now))
-        (change_line (is_counted (command_of command.now)) (effect config.old (command_of command.now))))
-        config.new (string_bytes out.old) (string_bytes out.new)) }
+) -> Result<Printed, AllocError>
+    ensures { IfOk result (λ p. Does (prints (after_command config.old (command_of command.now))
+        (change_printed (is_counted (command_of command.now)) (effect config.old (command_of command.now))))
+        config.new (printed_value p)) }
 {
     match apply(alloc, config, command) {
-        Ok(applied) => push_counts(alloc, out, is_counted(command), applied),
+        Ok(applied) => made(alloc, is_counted(command), applied),
         Err(ApplyFault::Memory) => Err(AllocError),
-        Err(ApplyFault::Refused(code, at)) => push_refusal(alloc, out, code, at),
+        Err(ApplyFault::Refused(code, at)) => Ok(Printed::Refused(code, at)),
     }
 }
 
 /// Applies a command by way of the bytes of an entry.
-fn run_change(
-    alloc: Global,
-    config: &mut Config,
-    command: Command,
-    out: &mut String,
-) -> Result<(), AllocError>
+fn run_change(alloc: Global, config: &mut Config, command: Command) -> Result<Printed, AllocError>
     requires { is_too_long (command_value command) ≡ false }
-    ensures { OnOk result (Does (prints (after_command config.old (command_value command))
-        (change_line (is_counted (command_value command)) (effect config.old (command_value command))))
-        config.new (string_bytes out.old) (string_bytes out.new)) }
+    ensures { IfOk result (λ p. Does (prints (after_command config.old (command_value command))
+        (change_printed (is_counted (command_value command)) (effect config.old (command_value command))))
+        config.new (printed_value p)) }
 {
     let entry = Entry {
         origin: 0,
@@ -99,7 +103,7 @@ fn run_change(
         Err(EncodeFault::TooLong) => unreachable!(),
     };
     match decode(&bytes) {
-        Ok(view) => run_view(alloc, config, &view.command, out),
+        Ok(view) => run_view(alloc, config, &view.command),
         Err(BadEntry) => unreachable!(),
     }
 }
@@ -110,16 +114,14 @@ pub(crate) fn run_matches(
     config: &mut Config,
     matches: Option<&ArgMatches<'_>>,
     text: &[u8],
-    out: &mut String,
-) -> Result<(), AllocError>
-    ensures { OnOk result (Does (done_with config.old
+) -> Result<Printed, AllocError>
+    ensures { IfOk result (λ p. Does (done_with config.old
         (looked config.old text.now (asked_at text.now (rows_matched (option_copied matches.entry)))))
-        config.new (string_bytes out.old) (string_bytes out.new)) }
+        config.new (printed_value p)) }
 {
     match read_matches(alloc, config, matches, text)? {
-        WordsRead::Change(command) => run_change(alloc, config, command, out),
-        WordsRead::Refused(code, at) => push_refusal(alloc, out, code, at),
-        WordsRead::Output(output) => out.push_str(output.as_str()),
+        WordsRead::Change(command) => run_change(alloc, config, command),
+        WordsRead::Printed(printed) => Ok(printed),
     }
 }
 
@@ -129,11 +131,10 @@ pub(crate) fn run_words(
     config: &mut Config,
     words: &[&str],
     text: &[u8],
-    out: &mut String,
-) -> Result<(), AllocError>
-    ensures { OnOk result (Does (pfctl config.old (map (λ w. w.now) words.now) text.now)
-        config.new (string_bytes out.old) (string_bytes out.new)) }
+) -> Result<Printed, AllocError>
+    ensures { IfOk result (λ p. Does (pfctl config.old (map (λ w. w.now) words.now) text.now)
+        config.new (printed_value p)) }
 {
     let matches = matches_in(alloc, words)?;
-    run_matches(alloc, config, matches.as_ref(), text, out)
+    run_matches(alloc, config, matches.as_ref(), text)
 }

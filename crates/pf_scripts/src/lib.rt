@@ -2,7 +2,7 @@
 //!
 //! # Organization
 //!
-//! - [`ctl`]: what a script of pfctl's arguments and packets prints.
+//! - [`ctl`]: what a script of pfctl's arguments and packets prints, as values, [`Printed`].
 //! - [`read_words`]: what a line of pfctl's arguments gives where nothing is changed; [`read_change`]: the change that
 //!   it asks for; [`list`]: what an action lists.
 //! - For scripts of other kinds: [`cut_line`] and [`words_in`] cut; [`takes_text`] and [`Waiting`] are of the text
@@ -43,7 +43,7 @@ pub use acting::{is_counted, push_counts};
 pub use lines::{Line, cut_line, push_bytes, spaced, texts, words_in};
 pub use listing::list;
 pub use pfctl::{file_in, is_standard, matches_in, takes_text};
-pub use printing::{push_line, push_number, push_refusal};
+pub use printing::{Printed, push_line, push_number, push_refusal};
 pub use reading::{read_change, read_words};
 pub use running::ctl;
 pub use stepping::test_packet;

@@ -2,8 +2,19 @@
 
 ghost use Rattle.std.specs.Prelude.{◌≡◌, ◌++◌, OnOk, string_bytes, codes, decimal};
 ghost use Rattle.pf_scripts.specs.Lines.{line, refused_line};
+ghost use Rattle.pf_scripts.specs.Ctl.{text_of};
+ghost use Rattle.pf_scripts.specs.Seen.{printed_value};
 
-use std::alloc::{AllocError, Global};
+use std::alloc::{AllocError, AllocFailed, Global};
+
+/// What a line of a script prints.
+#[derive(Drop)]
+pub enum Printed {
+    /// The number of a refusal, and the line of a refused ruleset, 0 where there is none.
+    Refused(u8, u64),
+    /// Lines, each with its newline.
+    Lines(String),
+}
 
 /// Puts a line behind the text.
 pub fn push_line(out: &mut String, shown: &str) -> Result<(), AllocError>
@@ -32,4 +43,16 @@ pub fn push_refusal(alloc: Global, out: &mut String, code: u8, at: u64) -> Resul
         push_number(alloc, out, at)?;
     }
     out.push('\n')
+}
+
+impl Printed {
+    /// Puts it behind the text.
+    pub fn push_to(&self, alloc: Global, out: &mut String) -> Result<(), AllocError>
+        ensures { OnOk result (string_bytes out.new ≡ string_bytes out.old ++ text_of (printed_value self.now)) }
+    {
+        match self {
+            Printed::Refused(code, at) => push_refusal(alloc, out, *code, *at),
+            Printed::Lines(text) => out.push_str(text.as_str()),
+        }
+    }
 }

@@ -9,12 +9,13 @@ ghost use Rattle.pf_command.specs.Effect.{place_at};
 ghost use Rattle.pf_arguments.specs.Asked.{given_in, asked};
 ghost use Rattle.pf_arguments.specs.Answers.{action_value, IsShort};
 ghost use Rattle.pf_scripts.specs.Ctl.{numbered, asked_at, checked, looked, words_read, done_with, pfctl};
+ghost use Rattle.pf_scripts.specs.Ctl.{Prints, Refused};
 ghost use Rattle.pf_scripts.specs.WordsRead.{change_in, words_value, AsksShort, IsAskedAs};
 ghost use Rattle.pf_scripts.specs.inner.Seen.{rows_matched};
 
 use crate::listing::list;
 use crate::pfctl::{file_in, is_standard, matches_in};
-use crate::printing::push_line;
+use crate::printing::{Printed, push_line};
 use crate::words_read::{ChangeFault, WordsRead};
 use clap::ArgMatches;
 use pf_arguments::{Action, Command, USAGE, from_matches};
@@ -59,6 +60,14 @@ fn place_at(path: &[Name]) -> Place
     }
 }
 
+/// A refusal, with the line of a refused ruleset, 0 where there is none.
+fn refused(code: u8, at: u64) -> WordsRead
+    ensures value { words_value result ≡ Prints (Refused code at) }
+    ensures short { AsksShort result }
+{
+    WordsRead::Printed(Printed::Refused(code, at))
+}
+
 /// Reads a ruleset and loads nothing.
 fn check_text(alloc: Global, path: &[Name], text: &[u8]) -> Result<WordsRead, AllocError>
     ensures value { IfOk result (λ r. words_value r ≡ checked (reading (place_at path.now) Two text.now)) }
@@ -68,12 +77,10 @@ fn check_text(alloc: Global, path: &[Name], text: &[u8]) -> Result<WordsRead, Al
         Ok(_rules) => {
             let mut out = String::new(alloc);
             push_line(&mut out, "ok")?;
-            Ok(WordsRead::Output(out))
+            Ok(WordsRead::Printed(Printed::Lines(out)))
         }
         Err(ParseFault::Memory) => Err(AllocError),
-        Err(ParseFault::Refused(refusal)) => {
-            Ok(WordsRead::Refused(refusal.cause.code(), refusal.line))
-        }
+        Err(ParseFault::Refused(refusal)) => Ok(refused(refusal.cause.code(), refusal.line)),
     }
 }
 
@@ -92,8 +99,8 @@ fn read_action(
         Action::Change(command) => Ok(WordsRead::Change(command)),
         Action::CheckOnly(path) => check_text(alloc, path.names(), text),
         action => match list(alloc, config, &action)? {
-            Ok(output) => Ok(WordsRead::Output(output)),
-            Err(code) => Ok(WordsRead::Refused(code, 0)),
+            Ok(output) => Ok(WordsRead::Printed(Printed::Lines(output))),
+            Err(code) => Ok(refused(code, 0)),
         },
     }
 }
@@ -111,7 +118,7 @@ pub(crate) fn read_matches(
 {
     match action_of(alloc, matches, text) {
         Ok(action) => read_action(alloc, config, action, text),
-        Err(ChangeFault::Refused(code)) => Ok(WordsRead::Refused(code, 0)),
+        Err(ChangeFault::Refused(code)) => Ok(refused(code, 0)),
         Err(ChangeFault::Memory) => Err(AllocError),
     }
 }

@@ -1,39 +1,34 @@
 //! A line of a script.
 
-ghost use Rattle.std.specs.Prelude.{◌≡◌, ◌++◌, IfOk, OnOk, map, option_map, string_bytes};
-ghost use Rattle.pf_scripts.specs.Ctl.{tested, packet_line, pfctl_line, at_words, stepped};
-ghost use Rattle.pf_scripts.specs.Seen.{line_of};
+ghost use Rattle.std.specs.Prelude.{◌≡◌, IfOk, map, option_map};
+ghost use Rattle.pf_scripts.specs.Ctl.{tested, packet_printed, pfctl_line, at_words, stepped};
+ghost use Rattle.pf_scripts.specs.Seen.{line_of, printed_value, printed_values};
 ghost use Rattle.pf_scripts.specs.inner.Seen.{waiting_of, Steps};
 
 use crate::acting::{run_matches, run_words};
 use crate::lines::{Line, push_bytes, spaced, words_in};
 use crate::pfctl::{matches_in, takes_text_by};
-use crate::printing::{push_line, push_refusal};
+use crate::printing::Printed;
 use crate::waiting::Waiting;
 use pf_arguments::USAGE;
 use pf_config::Config;
 use pf_eval::{PacketFault, parse_packet, show_verdict, verdict};
 use std::alloc::{AllocError, Global};
 
-/// Appends the verdict for a packet to the output, 30 where the arguments spell no packet.
+/// The verdict for a packet, 30 where the arguments spell no packet.
 #[tactic(auto, unfolding(crate::specs::Ctl::tested))]
-pub fn test_packet(
-    alloc: Global,
-    config: &Config,
-    words: &[&str],
-    out: &mut String,
-) -> Result<(), AllocError>
-    ensures { OnOk result (string_bytes out.new
-        ≡ string_bytes out.old ++ tested config.now (map (λ w. w.now) words.now)) }
+pub fn test_packet(alloc: Global, config: &Config, words: &[&str]) -> Result<Printed, AllocError>
+    ensures { IfOk result (λ p. printed_value p ≡ tested config.now (map (λ w. w.now) words.now)) }
 {
     let text = spaced(alloc, words)?;
     match parse_packet(alloc, text.as_str()) {
         Ok(packet) => {
-            let shown = show_verdict(alloc, &verdict(config, &packet))?;
-            push_line(out, shown.as_str())
+            let mut shown = show_verdict(alloc, &verdict(config, &packet))?;
+            shown.push('\n')?;
+            Ok(Printed::Lines(shown))
         }
         Err(PacketFault::Memory) => Err(AllocError),
-        Err(PacketFault::BadPacket) => push_refusal(alloc, out, 30, 0),
+        Err(PacketFault::BadPacket) => Ok(Printed::Refused(30, 0)),
     }
 }
 
@@ -42,15 +37,15 @@ fn run_pfctl<'a>(
     alloc: Global,
     config: &mut Config,
     words: Vec<&'a str>,
-    out: &mut String,
+    out: &mut Vec<Printed>,
 ) -> Result<Option<Waiting<'a>>, AllocError>
     ensures { IfOk result (λ w. Steps (pfctl_line config.old (map (λ x. x.now) words.entry.items))
-        config.new (option_map waiting_of w) (string_bytes out.old) (string_bytes out.new)) }
+        config.new (option_map waiting_of w) (printed_values out.old.items) (printed_values out.new.items)) }
 {
     {
         let matches = matches_in(alloc, &words)?;
         if !takes_text_by(&words, matches.as_ref()) {
-            run_matches(alloc, config, matches.as_ref(), &[], out)?;
+            out.push(run_matches(alloc, config, matches.as_ref(), &[])?)?;
             return Ok(None);
         }
     }
@@ -65,14 +60,14 @@ fn run_line<'a>(
     alloc: Global,
     config: &mut Config,
     words: Option<Vec<&'a str>>,
-    out: &mut String,
+    out: &mut Vec<Printed>,
 ) -> Result<Option<Waiting<'a>>, AllocError>
     ensures { IfOk result (λ w. Steps
         (at_words config.old (option_map (λ v. map (λ x. x.now) v.items) words.entry))
-        config.new (option_map waiting_of w) (string_bytes out.old) (string_bytes out.new)) }
+        config.new (option_map waiting_of w) (printed_values out.old.items) (printed_values out.new.items)) }
 {
     let Some(words) = words else {
-        push_refusal(alloc, out, USAGE, 0)?;
+        out.push(Printed::Refused(USAGE, 0))?;
         return Ok(None);
     };
     match words.as_slice() {
@@ -82,10 +77,10 @@ fn run_line<'a>(
                 return run_pfctl(alloc, config, words, out);
             }
             if *first == "test" {
-                test_packet(alloc, config, rest, out)?;
+                out.push(test_packet(alloc, config, rest)?)?;
                 return Ok(None);
             }
-            push_refusal(alloc, out, USAGE, 0)?;
+            out.push(Printed::Refused(USAGE, 0))?;
             Ok(None)
         }
     }
@@ -97,11 +92,11 @@ pub(crate) fn step<'a>(
     config: &mut Config,
     waiting: Option<Waiting<'a>>,
     line: Line<'a>,
-    out: &mut String,
+    out: &mut Vec<Printed>,
 ) -> Result<Option<Waiting<'a>>, AllocError>
     ensures { IfOk result (λ w. Steps
         (stepped config.old (option_map waiting_of waiting.entry) (line_of line.entry))
-        config.new (option_map waiting_of w) (string_bytes out.old) (string_bytes out.new)) }
+        config.new (option_map waiting_of w) (printed_values out.old.items) (printed_values out.new.items)) }
 {
     match waiting {
         None => {
@@ -110,7 +105,7 @@ pub(crate) fn step<'a>(
         }
         Some(waiting) => {
             if line.content == b".".as_slice() {
-                run_words(alloc, config, &waiting.words, &waiting.text, out)?;
+                out.push(run_words(alloc, config, &waiting.words, &waiting.text)?)?;
                 return Ok(None);
             }
             let mut text = waiting.text;

@@ -1,5 +1,6 @@
 //! What arguments give where nothing is changed.
 
+use crate::printing::Printed;
 use pf_arguments::Command;
 use std::alloc::{AllocError, AllocFailed};
 
@@ -8,10 +9,8 @@ use std::alloc::{AllocError, AllocFailed};
 pub enum WordsRead {
     /// It asks for this change, which isn't made.
     Change(Command),
-    /// The number of the refusal, and the line of a refused text, 0 where there is none.
-    Refused(u8, u64),
     /// What is printed.
-    Output(String),
+    Printed(Printed),
 }
 
 /// Why arguments ask for no change.

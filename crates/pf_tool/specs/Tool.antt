@@ -21,11 +21,12 @@ use Rattle.pf_eval.specs.Packets.{PacketValue}
 use Rattle.pf_eval.specs.PacketTexts.{packet_of}
 use Rattle.pf_eval.specs.Seen.{verdict_text}
 use Rattle.pf_eval.specs.Verdicts.{Judgement, judgement}
-use Rattle.pf_scripts.specs.Lines.{lines, words_if, words_in}
-use Rattle.pf_scripts.specs.Ctl.{printed}
+use Rattle.pf_scripts.specs.Lines.{ScriptLine, lines, words_if}
+use Rattle.pf_scripts.specs.Ctl.{PrintedValue, text_of, printed}
+use Rattle.pf_scripts.specs.Ctl as script
 use Rattle.pf_lab.specs.Scripts as lab
 use Rattle.cli_io.specs.declared.paragraph.Explanation.{Explanation}
-use Rattle.cli_io.specs.Explained.{paragraph, paragraphs, named}
+use Rattle.cli_io.specs.Explained.{paragraph, paragraphs}
 use Rattle.cli_io.specs.Sources.{IsAt}
 use Rattle.pf_tool.specs.declared.output.Ending.{Ending}
 use Rattle.pf_tool.specs.declared.output.Ending.TheVariants.{Done, Refused}
@@ -116,30 +117,26 @@ check_output source place text = checked source (reading place Two text)
 
 -- ---- scripts
 
--- the refusal that a printed line is: it begins with `refused` and, behind blanks, the number
--- Example: of `refused 12 line 3` the table's row for 12.
-abbrev pub refusal_in : List Explanation → Option (List Text) → Option Explanation
-refusal_in table None = None
-refusal_in table (Some []) = None
-refusal_in table (Some (word ∷ [])) = None
-refusal_in table (Some (word ∷ digits ∷ words)) = if bytes_eq word (codes "refused") then named table digits else None
+-- for each printed line the number of the refusal that it is, if it is one
+abbrev pub marks : PrintedValue → List (Option ℕ)
+marks (script.Refused code at) = Some code ∷ []
+marks (script.Lines text) = map (λ (l : ScriptLine). None) (lines text)
 
 -- a refusal at a printed line, before the messages of the lines behind it
-abbrev pub put_refusal : (n : ℕ) → Option Explanation → List Message → List Message
+abbrev pub put_refusal : (n : ℕ) → Option ℕ → List Message → List Message
 put_refusal n None later = later
-put_refusal n (Some row) later = Refuses (codes "stdout") (Some n) row.code ∷ later
+put_refusal n (Some code) later = Refuses (codes "stdout") (Some n) code ∷ later
 
 -- the refusals among printed lines, numbered from this number on
-abbrev pub refusals_in : List Explanation → (n : ℕ) → List (List ℕ) → List Message
-refusals_in table n [] = []
-refusals_in table n (content ∷ contents) =
-    put_refusal n (refusal_in table (words_in content)) (refusals_in table (n + 1) contents)
+abbrev pub refusals_in : (n : ℕ) → List (Option ℕ) → List Message
+refusals_in n [] = []
+refusals_in n (mark ∷ later) = put_refusal n mark (refusals_in (n + 1) later)
 
 -- what a script prints; a refusal doesn't end it
-unfoldable pub scripted : List Explanation → List ℕ → Written
-scripted table text = record {
-  text = text;
-  messages = refusals_in table 1 (map (λ l. l.content) (lines text));
+unfoldable pub scripted : List PrintedValue → Written
+scripted printed = record {
+  text = flat_map text_of printed;
+  messages = refusals_in 1 (flat_map marks printed);
   ending = Done;
 }
 
@@ -273,7 +270,7 @@ status_of Refused = status.Refused
 abbrev pub IsAnswer : (has : (path text : Text) → Type 0) → List Explanation → CallValue → List ℕ → Written → Type 0
 IsAnswer has table (Test packets) input w = w ≡ test_output (codes "stdin") packets input
 IsAnswer has table (Check place) input w = w ≡ check_output (codes "stdin") place input
-IsAnswer has table Ctl input w = w ≡ scripted table (printed input)
+IsAnswer has table Ctl input w = w ≡ scripted (printed input)
 IsAnswer has table Lab input w = w ≡ answered (lab.printed input)
 IsAnswer has table (Explain refusal) input w = w ≡ explained table refusal
 IsAnswer has table (CheckFiles place quiet files) input w = AreChecked has place quiet files input w

@@ -101,7 +101,7 @@ fn ctl_input<R: Read>(
     reader: &mut R,
 ) -> Result<Output, RunFault>
     ensures { IfOk result (λ o. IfSome (R.remaining reader.old)
-        (λ input. written o ≡ rendered reporter.now (scripted reporter.now.table.now (printed input)))) }
+        (λ input. written o ≡ rendered reporter.now (scripted (printed input)))) }
 {
     let input = input_of(alloc, reader)?;
     let output = script_output(alloc, reporter, &input)?;

@@ -35,9 +35,8 @@
 //! - **A message is made where its line is**: of one refusal both `refused CODE` and its message, of one verdict both
 //!   its line and the rule that decides. So they can't contradict each other, and nothing is evaluated twice. Messages
 //!   are written after the output; that they can't be written changes nothing.
-//! - **A script's refusals are named by the line of what is printed** (`stdout:2:`): pf_scripts hands out what a
-//!   script prints, and not at which of its lines. So these messages alone are read from printed lines, and no rule is
-//!   reported of a script's `test`.
+//! - **A script's refusals are named by the line of what is printed** (`stdout:2:`). No rule is reported of a script's
+//!   `test`.
 //! - **Numbers with names** (60 to 62, 30, 90) are in cli_io. Lower crates keep their enums with a `code` of
 //!   their own: they are below it, and each number is in each of them once.
 //! - **More input than 16,777,216 bytes is a fault of its own** (`TooLong`), so that a clause can say what it

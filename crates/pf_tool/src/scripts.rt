@@ -1,58 +1,70 @@
 //! The subcommands `ctl` and `lab`: what a script prints.
 
-ghost use Rattle.std.specs.Prelude.{◌≡◌, IfOk, map, string_bytes};
-ghost use Rattle.std.specs.Option.{option_copied};
-ghost use Rattle.pf_scripts.specs.Ctl.{printed};
-ghost use Rattle.pf_scripts.specs.Lines.{lines, words_in};
+ghost use Rattle.std.specs.Prelude.{◌≡◌, ◌++◌, None, IfOk, OnOk, map, string_bytes};
+ghost use Rattle.std.specs.List.{flat_map};
+ghost use Rattle.pf_scripts.specs.Ctl.{printed, text_of};
+ghost use Rattle.pf_scripts.specs.Lines.{ScriptLine, lines};
+ghost use Rattle.pf_scripts.specs.Seen.{printed_values};
 ghost use Rattle.pf_lab.specs.Scripts as lab;
-ghost use Rattle.pf_tool.specs.Tool.{answered, refusal_in, refusals_in, scripted};
+ghost use Rattle.pf_tool.specs.Tool.{answered, marks, refusals_in, scripted};
 ghost use Rattle.pf_tool.specs.inner.Output.{written, rendered, reported};
 
 use crate::output::{Ending, Output, answered};
-use crate::packets::contents;
 use crate::reporting::Reporter;
-use cli_io::{Explanation, named};
 use pf_lab::lab_script;
-use pf_scripts::{ctl, words_in};
+use pf_scripts::{Printed, ctl, cut_line};
 use std::alloc::{AllocError, Global};
 
-/// The refusal that a printed line is, none where it is another line.
-fn refusal_in<'t>(
-    alloc: Global,
-    table: &'t [Explanation],
-    content: &[u8],
-) -> Result<Option<&'t Explanation>, AllocError>
-    ensures { IfOk result (λ row. option_copied row ≡ refusal_in table.now (words_in content.now)) }
+/// The text of what a script prints.
+fn text_of(alloc: Global, printed: &[Printed]) -> Result<String, AllocError>
+    ensures { IfOk result (λ text. string_bytes text ≡ flat_map text_of (printed_values printed.now)) }
 {
-    let Some(words) = words_in(alloc, content)? else {
-        return Ok(None);
-    };
-    match words.as_slice() {
-        [word, digits, ..] => {
-            if *word == "refused" {
-                return Ok(named(table, digits));
-            }
-            Ok(None)
-        }
-        _ => Ok(None),
+    let mut text = String::new(alloc);
+    for piece in printed {
+        piece.push_to(alloc, &mut text)?;
     }
+    Ok(text)
+}
+
+/// Puts a mark for each line of a text behind the others: it is no refusal.
+fn push_unmarked(marks: &mut Vec<Option<u8>>, text: &str) -> Result<(), AllocError>
+    ensures { OnOk result (marks.new.items ≡ marks.old.items ++ map (λ (l : ScriptLine). None) (lines text.now)) }
+{
+    let mut left = text.as_bytes();
+    while let Some((_line, rest)) = cut_line(left) {
+        marks.push(None)?;
+        left = rest;
+    }
+    Ok(())
+}
+
+/// For each printed line the number of the refusal that it is, if it is one.
+fn marks(alloc: Global, printed: &[Printed]) -> Result<Vec<Option<u8>>, AllocError>
+    ensures { IfOk result (λ v. v.items ≡ flat_map marks (printed_values printed.now)) }
+{
+    let mut found = Vec::new(alloc);
+    for piece in printed {
+        match piece {
+            Printed::Refused(code, _) => found.push(Some(*code))?,
+            Printed::Lines(text) => push_unmarked(&mut found, text.as_str())?,
+        }
+    }
+    Ok(found)
 }
 
 /// The messages of the refusals among printed lines, by their places from 1.
 fn refusals_in(
     alloc: Global,
     reporter: &Reporter<'_>,
-    contents: &[&[u8]],
+    marks: &[Option<u8>],
 ) -> Result<String, AllocError>
-    ensures { IfOk result (λ text. string_bytes text ≡ reported reporter.now
-        (refusals_in reporter.now.table.now 1 (map (λ c. c.now) contents.now))) }
+    ensures { IfOk result (λ text. string_bytes text ≡ reported reporter.now (refusals_in 1 marks.now)) }
 {
     let mut messages = String::new(alloc);
-    for (i, content) in contents.iter().enumerate() {
-        match refusal_in(alloc, reporter.table, content)? {
-            Some(row) => {
-                let line = Some((i + 1) as u64);
-                let message = reporter.refusal(alloc, "stdout", line, row.code)?;
+    for (i, mark) in marks.iter().enumerate() {
+        match mark {
+            Some(code) => {
+                let message = reporter.refusal(alloc, "stdout", Some((i + 1) as u64), *code)?;
                 messages.push_str(message.as_str())?;
             }
             None => {}
@@ -65,13 +77,13 @@ fn refusals_in(
 fn script_messages(
     alloc: Global,
     reporter: &Reporter<'_>,
-    printed: &[u8],
+    printed: &[Printed],
 ) -> Result<String, AllocError>
     ensures { IfOk result (λ text. string_bytes text ≡ reported reporter.now
-        (refusals_in reporter.now.table.now 1 (map (λ l. l.content) (lines printed.now)))) }
+        (refusals_in 1 (flat_map marks (printed_values printed.now)))) }
 {
     if reporter.has_refusals() {
-        let found = contents(alloc, printed)?;
+        let found = marks(alloc, printed)?;
         return refusals_in(alloc, reporter, &found);
     }
     Ok(String::new(alloc))
@@ -84,11 +96,11 @@ pub(crate) fn script_output(
     reporter: &Reporter<'_>,
     input: &[u8],
 ) -> Result<Output, AllocError>
-    ensures { IfOk result (λ o. written o ≡ rendered reporter.now
-        (scripted reporter.now.table.now (printed input.now))) }
+    ensures { IfOk result (λ o. written o ≡ rendered reporter.now (scripted (printed input.now))) }
 {
-    let text = ctl(alloc, input)?;
-    let messages = script_messages(alloc, reporter, text.as_bytes())?;
+    let printed = ctl(alloc, input)?;
+    let text = text_of(alloc, &printed)?;
+    let messages = script_messages(alloc, reporter, &printed)?;
     Ok(Output {
         text,
         messages,

@@ -4,7 +4,7 @@ use Rattle.clap.specs.Words.{Row, rows_of, found_of}
 use Rattle.clap.specs.declared.parser.matches.ArgMatches.{ArgMatches}
 use Rattle.pf_config.specs.Map.{Configuration}
 use Rattle.pf_scripts.specs.declared.waiting.Waiting.{Waiting}
-use Rattle.pf_scripts.specs.Ctl.{WaitingWords, StepValue, Outcome}
+use Rattle.pf_scripts.specs.Ctl.{WaitingWords, StepValue, Outcome, PrintedValue}
 
 abbrev pub waiting_of : Waiting → WaitingWords
 waiting_of w = record { words = map (λ x. x.now) w.words.items; text = w.text.items }
@@ -13,14 +13,14 @@ waiting_of w = record { words = map (λ x. x.now) w.words.items; text = w.text.i
 abbrev pub rows_matched : Option ArgMatches → Option (List Row)
 rows_matched matches = option_map (λ m. rows_of (found_of m)) matches
 
--- a line was done so: this is the configuration now, and the output has grown
-abbrev pub Does : Outcome → Configuration → List ℕ → List ℕ → Type 0
-Does outcome new before after = (new ≡ outcome.configuration) × (after ≡ before ++ outcome.output)
+-- a line was done so: this is the configuration now, and this is printed
+abbrev pub Does : Outcome → Configuration → PrintedValue → Type 0
+Does outcome new printed = (new ≡ outcome.configuration) × (printed ≡ outcome.printed)
 
--- a step was made so
-abbrev pub Steps : StepValue → Configuration → Option WaitingWords → List ℕ → List ℕ → Type 0
+-- a step was made so, and what is printed has grown
+abbrev pub Steps : StepValue → Configuration → Option WaitingWords → (before after : List PrintedValue) → Type 0
 Steps s new waiting before after = (new ≡ s.configuration) × (waiting ≡ s.waiting) ×
-    (after ≡ before ++ s.output)
+    (after ≡ before ++ s.printed)
 
 abbrev pub texts_of : {Z : Type 0} → List (String Z) → List (List ℕ)
 texts_of texts = map string_bytes texts

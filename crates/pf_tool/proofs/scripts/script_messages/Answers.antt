@@ -1,6 +1,7 @@
-use Rattle.std.proofs.Common.{◌∙◌, map, sym}
-use Rattle.pf_scripts.specs.Lines.{lines}
-use Rattle.pf_tool.specs.Tool.{refusals_in}
+use Rattle.std.proofs.Common.{◌∙◌, sym}
+use Rattle.std.specs.List.{flat_map}
+use Rattle.pf_scripts.specs.Seen.{printed_values}
+use Rattle.pf_tool.specs.Tool.{marks, refusals_in}
 use Rattle.pf_tool.proofs.Messages.{no_messages}
 use Rattle.pf_tool.proofs.scripts.script_messages.Goals as goal
 
@@ -8,5 +9,5 @@ use Rattle.pf_tool.proofs.scripts.script_messages.Goals as goal
 pub returns : goal.returns
 returns c =
     let reporter = c.args.reporter.now in
-    let found = refusals_in reporter.table.now 1 (map (λ l. l.content) (lines c.args.printed.now)) in
+    let found = refusals_in 1 (flat_map marks (printed_values c.args.printed.now)) in
     c.new.ensures.bytes ∙ sym (no_messages reporter.level reporter.table.now found (sym c.has_refusals.ensures ∙ c.if-has_refusals.false))
