@@ -19,7 +19,7 @@
 //! # Why
 //!
 //! - **`ask --control` has its own arguments beside `ask --to`** (cli_node), since the options of the two exclude each
-//!   other; `main` picks one by the first arguments.
+//!   other; pfx takes this one where an argument is `--control`.
 //! - **Arguments are read once, where they are typed** (by `from_matches`; in a script by `read_change`): the `Action`
 //!   decides which request is made, and a change is sent as the bytes of its entry, so that a node reads no arguments
 //!   again. The entry has origin 0 and number 0; the node uses neither.

@@ -38,8 +38,9 @@
 //!   of a wrong key is the first that begins with it; a key that is written with escapes has none. No clause states
 //!   which line it is.
 //! - **An option goes before the file**, flags only towards true: `unsealed = true` has no option against it.
-//! - **What clap asks for** (`--me`, `--cluster`, `--store`, a control socket for `--metrics`, a key for `--other-key`)
-//!   it asks for where no file is named. With a file these are required of both together: 92, without a line.
+//! - **What clap asks for** (`--me`, `--cluster`, `--store`) it asks for where no file is named. With a file these are
+//!   required of both together (92, without a line). A control socket for `--metrics` and a key for `--other-key` and
+//!   `--new-starts` are required in any case: 92 where a file is named, else 40.
 //! - **90 before 92**, and both before the refusals of a node's arguments.
 //! - **A start's number is above the last one's**: the other members drop what is of a start below the one that they
 //!   know. A number that is at least the time in seconds goes on above the old ones where a file was lost and made

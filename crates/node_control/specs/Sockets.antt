@@ -24,8 +24,8 @@ use Rattle.node_udp.specs.declared.address.Address.{Address}
 -- A member of the group ran from this record: this is its trace, and this its state at the end. Over its wire went its
 -- moves, and then, where a call failed, what came for that call and after it, and what was handed over again. Of what
 -- was to be handed over, the end may be lost; of what was given, nothing is.
--- So a run that is killed is one, too, wherever that happens. If it was in a call, what came for the call is
--- unanswered, and it left of the record what a stop may leave. If it was after a call, before all that this sends was
+-- So any prefix of a run is one, too, wherever it ends. If that is in a call, what came for the call is
+-- unanswered, and of the record is left what a stop may leave. If it is after a call, before all that this sends was
 -- handed over, the rest is lost. Each layer below is a list of steps up to then, so a prefix of it is one: a datagram
 -- of which some packets were put counts as sent, and its other packets are no steps; one that the wire wasn't
 -- handed yet is lost here; and what the wire kept of the member's own is what it keeps then. A packet that came when

@@ -15,8 +15,8 @@
 //!
 //! - **Help changes nothing that is promised**: how `clap` reads arguments doesn't depend on it (`app_of`), so no
 //!   definition has it.
-//! - **`pfx --help` lists all subcommands, and six programs of `clap` read them.** pf_tool's has the subcommands of
-//!   others (`node`, `ask`, `key`, `show`, `follow`) by their names alone; `main` hands a run whose first argument is
+//! - **`pfx --help` lists all subcommands, and seven programs of `clap` read them.** pf_tool's has the subcommands of
+//!   others (`node`, `ask`, `key`, `show`, `follow`) by their names alone; pfx hands a run whose first argument is
 //!   one of these to the crate that has its options. One command of all options would make the crate that holds it
 //!   depend on all of them, SQLite too, and `ask` has two sets of options (`--to`, `--control`), which `clap` could
 //!   distinguish only by rules between arguments, for which its contracts don't state what is refused. The exit is in
@@ -26,7 +26,7 @@
 //!   out. They are reported in one line, with status 2.
 //! - **`run` is lent the table of refusals**, and so are the calls of cli_io. A clause can't name a constant
 //!   that is a list of structs, and a copy of the table among the definitions would be a second table. So what is
-//!   promised of `explain` holds for whatever table is lent, and `main` lends the one that there is.
+//!   promised of `explain` holds for whatever table is lent, and pfx lends the one that there is.
 //! - **A clause names the path of each file that is read**, and what a file has is what `cli_io::Sources` says of its
 //!   path; of the system's files that is that some file has it. Names of files are UTF-8 arguments. A file is read
 //!   whole before anything is written; `-` doesn't name standard input, `/dev/stdin` does.

@@ -1,4 +1,4 @@
--- A run that is killed: what went over its socket up to then.
+-- A prefix of a run: what went over its socket up to its end.
 use Rattle.std.specs.Prelude.{◌≡◌, ℕ, List, ◌++◌}
 use Rattle.px_model.specs.Node.{Record}
 use Rattle.px_model.specs.Spelling.{Bytes}

@@ -152,8 +152,8 @@ pub fn equally_applied_at_sealed_sockets<R: Records, Q: Records>()
     px_transport::laws::sealed_is_carried();
 }
 
-/// What went over a run's socket up to any moment is what goes over the socket of a run: so a run that is killed is
-/// one.
+/// What went over a run's socket up to any moment is what goes over the socket of a run with a prefix of its trace: so
+/// a killed run is one, if it did a prefix of a complete run.
 pub fn fronts_are_runs()
     ensures { FrontsAreRuns }
 {}
