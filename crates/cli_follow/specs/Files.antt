@@ -135,11 +135,11 @@ PutsFront folder old files acts = (front : List FileValue) × (rest : List FileV
     × (files ≡ front ++ rest) × Puts folder old front acts new
 
 -- The files of a configuration were put, with an empty one for each path that is gone, and that is recorded, with
--- whether one couldn't be written. For 91 nothing is done: the rulesets don't give the configuration.
+-- whether one couldn't be written: its rulesets give it. Where they don't, which is 91, nothing is done.
 -- Example: x/y is gone: anchor+x+y.conf is written without text.
 abbrev pub ArePutFor : Configuration → (old : TextFiles) → List Act → (new : TextFiles) → Type 0
 ArePutFor c old acts new = ((new ≡ old) × (acts ≡ []) × (AreDoneTo (texts_of c) c → ⊥))
-    ⊎ ((new.folder ≡ old.folder) × (new.is_behind ≡ not (list_all is_put new.written.items))
+    ⊎ (AreDoneTo (texts_of c) c × (new.folder ≡ old.folder) × (new.is_behind ≡ not (list_all is_put new.written.items))
     × Puts (string_bytes old.folder) old.written.items (with_gone (files_of c) old.written.items) acts
     new.written.items)
 

@@ -91,6 +91,7 @@ fn files_in(alloc: Global, texts: Vec<PathText<'_>>) -> Result<Vec<TextFile>, Al
 /// rulesets don't give it.
 fn files_of(alloc: Global, config: &Config) -> Result<Option<Vec<TextFile>>, AllocError>
     ensures files { IfOk result (λ o. IfSome o (λ files. map file_value files.items ≡ files_of config.now)) }
+    ensures done { IfOk result (λ o. IfSome o (λ _. AreDoneTo (texts_of config.now) config.now)) }
     ensures none { IfOk result (λ o. IfNone o (AreDoneTo (texts_of config.now) config.now → ⊥)) }
 {
     let Some(texts) = texts(alloc, config)? else {
