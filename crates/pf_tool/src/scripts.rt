@@ -4,7 +4,7 @@ ghost use Rattle.std.specs.Prelude.{◌≡◌, ◌++◌, None, IfOk, OnOk, map, 
 ghost use Rattle.std.specs.List.{flat_map};
 ghost use Rattle.pf_scripts.specs.Ctl.{printed, text_of};
 ghost use Rattle.pf_scripts.specs.Lines.{ScriptLine, lines};
-ghost use Rattle.pf_scripts.specs.Seen.{printed_values};
+ghost use Rattle.pf_scripts.specs.Seen.{printed_value, printed_values};
 ghost use Rattle.pf_lab.specs.Scripts as lab;
 ghost use Rattle.pf_tool.specs.Tool.{answered, marks, refusals_in, scripted};
 ghost use Rattle.pf_tool.specs.inner.Output.{written, rendered, reported};
@@ -38,16 +38,26 @@ fn push_unmarked(marks: &mut Vec<Option<u8>>, text: &str) -> Result<(), AllocErr
     Ok(())
 }
 
+/// Puts the marks of the lines of a piece behind the others.
+fn push_marks(found: &mut Vec<Option<u8>>, piece: &Printed) -> Result<(), AllocError>
+    ensures { OnOk result (found.new.items ≡ found.old.items ++ marks (printed_value piece.now)) }
+{
+    match piece {
+        Printed::Refused(code, _) => {
+            found.push(Some(*code))?;
+            Ok(())
+        }
+        Printed::Lines(text) => push_unmarked(found, text.as_str()),
+    }
+}
+
 /// For each printed line the number of the refusal that it is, if it is one.
 fn marks(alloc: Global, printed: &[Printed]) -> Result<Vec<Option<u8>>, AllocError>
     ensures { IfOk result (λ v. v.items ≡ flat_map marks (printed_values printed.now)) }
 {
     let mut found = Vec::new(alloc);
     for piece in printed {
-        match piece {
-            Printed::Refused(code, _) => found.push(Some(*code))?,
-            Printed::Lines(text) => push_unmarked(&mut found, text.as_str())?,
-        }
+        push_marks(&mut found, piece)?;
     }
     Ok(found)
 }
