@@ -1,27 +1,15 @@
 -- The arguments of `ask` with `--control`, as `clap` has them.
-use Rattle.std.specs.Prelude.{List, Option, codes}
-use Rattle.clap.specs.Words.{App, Row, Text, new_app, with_rule}
+use Rattle.std.specs.Prelude.{List, [], ◌∷◌, Option, codes}
+use Rattle.clap.specs.Words.{App, Row, Text, new_app}
 use Rattle.pf_arguments.specs.Options.{with_pfctl}
 use Rattle.cli_io.specs.Given.{program_of, given_with}
-use Rattle.cli_io.specs.Options.{flag_rule, needed_rule, number_rule, value_rule}
+use Rattle.cli_io.specs.Options.{flag_rule, needed_rule, number_rule, value_rule, with_rules}
 
--- --control PATH [--wait S] [--at A] [--unchecked]
-abbrev pub with_socket : App → App
-with_socket app =
-    let control = with_rule app (needed_rule (codes "control")) in
-    let wait = with_rule control (number_rule (codes "wait") 0 3600) in
-    let at = with_rule wait (number_rule (codes "at") 0 1000000) in
-    with_rule at (flag_rule (codes "unchecked"))
-
--- [--script FILE [--from LINE]]
-abbrev pub with_script : App → App
-with_script app =
-    let script = with_rule app (value_rule (codes "script")) in
-    with_rule script (number_rule (codes "from") 1 4294967295)
-
--- ask --control PATH, with these options and pfctl's
+-- ask --control PATH [--wait S] [--at A] [--unchecked] [--script FILE [--from LINE]], with pfctl's options
 abbrev pub ask_app : App
-ask_app = with_pfctl (with_script (with_socket (new_app (codes "ask"))))
+ask_app = with_pfctl (with_rules (new_app (codes "ask")) (needed_rule (codes "control")
+    ∷ number_rule (codes "wait") 0 3600 ∷ number_rule (codes "at") 0 1000000 ∷ flag_rule (codes "unchecked")
+    ∷ value_rule (codes "script") ∷ number_rule (codes "from") 1 4294967295 ∷ []))
 
 -- the program with this subcommand, which has to be given
 abbrev pub pfx_app : App

@@ -1,4 +1,3 @@
 pub mod Digits
 pub mod Fronts
 pub mod Given
-pub mod Rules

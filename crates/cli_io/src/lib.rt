@@ -8,9 +8,8 @@
 //! - [`open_regular`], [`make_private`]: a file that isn't waited for, and one that its owner alone may read;
 //!   [`knock`]: why nobody answers at a socket.
 //! - [`Shown`]: a foreign string, its control characters escaped.
-//! - [`flag`], [`valued`], [`needed`], [`numbered`], [`with_option`]: the options of a subcommand; [`program_with`]:
-//!   the program with one. [`given_in`]: what is given with it; [`value_in`], [`values_in`], [`number_in`],
-//!   [`has_flag`]: what one option has.
+//! - [`Argument`], [`with_options`]: the options of a subcommand; [`program_with`]: the program with one. [`given_in`]:
+//!   what is given with it; [`value_in`], [`values_in`], [`number_in`], [`has_flag`]: what one option has.
 //! - [`write_bytes`]: all of an output, or its first bytes; [`misused`], [`out_of_memory`]: what is written of
 //!   arguments that aren't understood, and of out of memory.
 //! - [`REFUSALS`]: the table, which has each refusal that the program answers once, by its number. [`explanation`],
@@ -45,8 +44,7 @@ pub use input::{InputFault, read_all};
 pub use lookup::{explain_all, explanation, named};
 pub use numbers::{NO_PACKET, NO_SCRIPT, POSITIONS_SPENT, ROUNDS_SPENT, UNREADABLE, WAITING_FULL};
 pub use options::{
-    flag, given_in, has_flag, needed, number_in, numbered, program_with, value_in, valued,
-    values_in, with_option,
+    Argument, given_in, has_flag, number_in, program_with, value_in, values_in, with_options,
 };
 pub use paragraph::Explanation;
 pub use remark::Remark;

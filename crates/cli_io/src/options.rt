@@ -1,62 +1,104 @@
 //! The options of subcommands, as `clap` reads them.
 
 ghost use Rattle.std.specs.Prelude.{◌≡◌, [], IfOk, false, map, option_map, unwrap_or};
-ghost use Rattle.clap.specs.Words.{app_of, rule_of, with_rule, found_of, rows_of, first_of, all_of, subcommand_rows_of};
+ghost use Rattle.clap.specs.Words.{app_of, rule_of, found_of, rows_of, first_of, all_of, subcommand_rows_of};
 ghost use Rattle.clap.specs.declared.builder.command.Command.TheViews.{out-Command};
 ghost use Rattle.cli_io.specs.Given.{given_in, is_given, program_of};
 ghost use Rattle.cli_io.specs.Numbers.{number_at};
-ghost use Rattle.cli_io.specs.Options.{flag_rule, needed_rule, number_rule, value_rule};
+ghost use Rattle.cli_io.specs.Options.{long_rule, rule_by, with_rules};
 
+use clap::ArgAction::{Append, Set, SetTrue};
 use clap::builder::ValueParser;
-use clap::{Arg, ArgAction, ArgMatches, Command};
+use clap::{Arg, ArgAction, ArgMatches, Command, value_parser};
 use std::alloc::{AllocError, Global};
 
+/// An option of a subcommand, or an argument behind the options: its name, its help, and what else it has.
+#[derive(Clone, Copy)]
+pub enum Argument<'a> {
+    /// `--NAME`.
+    Flag(&'a str, &'a str),
+    /// `-L` or `--NAME`.
+    ShortFlag(&'a str, &'a str, char),
+    /// `--NAME VALUE`.
+    Value(&'a str, &'a str),
+    /// `-L VALUE` or `--NAME VALUE`.
+    ShortValue(&'a str, &'a str, char),
+    /// `--NAME VALUE`, which has to be given.
+    Needed(&'a str, &'a str),
+    /// `--NAME VALUE`, and whether it has to be given.
+    NeededIf(&'a str, &'a str, bool),
+    /// `--NAME VALUE..`, once or more often.
+    Values(&'a str, &'a str),
+    /// `--NAME N`, from one number up to another.
+    Number(&'a str, &'a str, u64, u64),
+    /// `--NAME N`, a number of 8 bits, and whether it has to be given.
+    U8(&'a str, &'a str, bool),
+    /// `--NAME N`, a number of 32 bits, and whether it has to be given.
+    U32(&'a str, &'a str, bool),
+    /// One argument behind the options, or none.
+    Single(&'a str, &'a str),
+    /// Any number of arguments behind the options.
+    Several(&'a str, &'a str),
+}
+
 /// `--NAME`, with its help.
-pub fn flag<'a>(alloc: Global, name: &'a str, help: &'a str) -> Arg<'a>
-    ensures rule { rule_of result ≡ flag_rule name.entry.now }
+fn long<'a>(alloc: Global, name: &'a str, help: &'a str, action: ArgAction) -> Arg<'a>
+    ensures rule { rule_of result ≡ long_rule name.entry.now action }
     ensures local { result.global ≡ false }
 {
-    Arg::new(alloc, name)
-        .long(name)
-        .action(ArgAction::SetTrue)
-        .help(help)
+    Arg::new(alloc, name).long(name).action(action).help(help)
 }
 
-/// `--NAME VALUE`, with its help.
-pub fn valued<'a>(alloc: Global, name: &'a str, help: &'a str) -> Arg<'a>
-    ensures rule { rule_of result ≡ value_rule name.entry.now }
+/// The argument as `clap` has it.
+fn arg_of<'a>(alloc: Global, argument: Argument<'a>) -> Arg<'a>
+    ensures rule { rule_of result ≡ rule_by argument.entry }
     ensures local { result.global ≡ false }
 {
-    Arg::new(alloc, name)
-        .long(name)
-        .action(ArgAction::Set)
-        .help(help)
+    match argument {
+        Argument::Flag(name, help) => long(alloc, name, help, SetTrue),
+        Argument::ShortFlag(name, help, letter) => long(alloc, name, help, SetTrue).short(letter),
+        Argument::Value(name, help) => long(alloc, name, help, Set),
+        Argument::ShortValue(name, help, letter) => long(alloc, name, help, Set).short(letter),
+        Argument::Needed(name, help) => long(alloc, name, help, Set).required(true),
+        Argument::NeededIf(name, help, needed) => long(alloc, name, help, Set).required(needed),
+        Argument::Values(name, help) => long(alloc, name, help, Append).num_args(1..),
+        Argument::Number(name, help, least, most) => {
+            long(alloc, name, help, Set).value_parser(ValueParser::Unsigned(least, most))
+        }
+        Argument::U8(name, help, needed) => {
+            long(alloc, name, help, Set)
+                .value_parser(value_parser!(u8))
+                .required(needed)
+        }
+        Argument::U32(name, help, needed) => {
+            long(alloc, name, help, Set)
+                .value_parser(value_parser!(u32))
+                .required(needed)
+        }
+        Argument::Single(name, help) => Arg::new(alloc, name).action(Set).help(help),
+        Argument::Several(name, help) => {
+            Arg::new(alloc, name)
+                .action(Append)
+                .num_args(0..)
+                .help(help)
+        }
+    }
 }
 
-/// `--NAME VALUE`, which has to be given, with its help.
-pub fn needed<'a>(alloc: Global, name: &'a str, help: &'a str) -> Arg<'a>
-    ensures rule { rule_of result ≡ needed_rule name.entry.now }
-    ensures local { result.global ≡ false }
-{
-    valued(alloc, name, help).required(true)
-}
-
-/// `--NAME N`, from one number up to another, with its help.
-pub fn numbered<'a>(alloc: Global, name: &'a str, help: &'a str, least: u64, most: u64) -> Arg<'a>
-    ensures rule { rule_of result ≡ number_rule name.entry.now least most }
-    ensures local { result.global ≡ false }
-{
-    valued(alloc, name, help).value_parser(ValueParser::Unsigned(least, most))
-}
-
-/// A subcommand with one option more.
-pub fn with_option<'a>(command: Command<'a>, arg: Arg<'a>) -> Result<Command<'a>, AllocError>
-    requires command { (out-Command command).has_globals ≡ false }
-    requires arg { arg.global ≡ false }
-    ensures app { IfOk result (λ c. app_of c ≡ with_rule (app_of command.entry) (rule_of arg.entry)) }
+/// A subcommand with these arguments more, in their order.
+pub fn with_options<'a>(
+    alloc: Global,
+    mut command: Command<'a>,
+    arguments: &[Argument<'a>],
+) -> Result<Command<'a>, AllocError>
+    requires { (out-Command command).has_globals ≡ false }
+    ensures app { IfOk result (λ c. app_of c ≡ with_rules (app_of command.entry) (map rule_by arguments.entry.now)) }
     ensures local { IfOk result (λ c. (out-Command c).has_globals ≡ false) }
 {
-    command.arg(arg)
+    for argument in arguments {
+        command = command.arg(arg_of(alloc, *argument))?;
+    }
+    Ok(command)
 }
 
 /// The program with this subcommand, which has to be given.

@@ -1,15 +1,13 @@
 -- The arguments `check --nft`, and which members they name.
 use Rattle.std.specs.Prelude.{ℕ, List, [], ◌∷◌, Option, Some, None, length, nat_lt, codes}
 use Rattle.std.specs.Prelude.{unwrap_or, if◌then◌else◌}
-use Rattle.clap.specs.Words.{App, Row, Rule, Text, new_app, new_rule, with_rule, all_of}
-use Rattle.clap.specs.declared.builder.action.ArgAction.TheVariants.{Append}
-use Rattle.clap.specs.Lexer.{usize_max}
+use Rattle.clap.specs.Words.{App, Row, Text, new_app, all_of}
 use Rattle.node_udp.specs.declared.address.Address.{Address}
 use Rattle.node_udp.specs.Addresses.{address_of}
 use Rattle.nft_rules.specs.declared.guard.Member.{Member}
 use Rattle.cli_io.specs.Given.{program_of, given_with}
 use Rattle.cli_io.specs.Numbers.{number_at}
-use Rattle.cli_io.specs.Options.{flag_rule, needed_rule, u32_rule}
+use Rattle.cli_io.specs.Options.{flag_rule, needed_rule, u32_rule, values_rule, with_rules}
 
 -- ---- members
 
@@ -34,20 +32,10 @@ members_in texts = if nat_lt 15 (length texts) then None else members_at texts
 
 -- ---- arguments
 
--- --NAME VALUE.., once or more often
-abbrev pub several_rule : Text → Rule
-several_rule id = record (new_rule id) {
-  long = Some id;
-  action = Some Append;
-  range = Some (record { start_inclusive = 1; end_inclusive = usize_max });
-}
-
 -- check --nft --interfaces FILE [--members ADDRESS:PORT..] [--position N]
 abbrev pub check_app : App
-check_app =
-    let flagged = with_rule (new_app (codes "check")) (flag_rule (codes "nft")) in
-    let filed = with_rule flagged (needed_rule (codes "interfaces")) in
-    with_rule (with_rule filed (several_rule (codes "members"))) (u32_rule (codes "position"))
+check_app = with_rules (new_app (codes "check")) (flag_rule (codes "nft") ∷ needed_rule (codes "interfaces")
+    ∷ values_rule (codes "members") ∷ u32_rule (codes "position") ∷ [])
 
 -- the program with this subcommand, which has to be given
 abbrev pub nft_app : App

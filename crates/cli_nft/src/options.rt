@@ -1,13 +1,11 @@
 //! The arguments `check --nft`, as `clap` reads them.
 
-ghost use Rattle.std.specs.Prelude.{◌≡◌, IfOk, false, codes};
-ghost use Rattle.clap.specs.Words.{app_of, rule_of};
-ghost use Rattle.clap.specs.declared.builder.command.Command.TheViews.{out-Command};
-ghost use Rattle.cli_nft.specs.Options.{several_rule, check_app, nft_app};
-ghost use Rattle.cli_io.specs.Options.{u32_rule};
+ghost use Rattle.std.specs.Prelude.{◌≡◌, IfOk};
+ghost use Rattle.clap.specs.Words.{app_of};
+ghost use Rattle.cli_nft.specs.Options.{nft_app};
 
-use clap::{Arg, ArgAction, Command, value_parser};
-use cli_io::{flag, needed, program_with, valued, with_option};
+use clap::Command;
+use cli_io::{Argument, program_with, with_options};
 use std::alloc::{AllocError, Global};
 
 const NFT: &str = "As nft(8) loads it";
@@ -28,43 +26,18 @@ those of check, and
   40 a member is no ADDRESS:PORT, or there are more than 15
   87 an anchor contains itself   88 a packet would meet more than 100000 rules   89 the file of interfaces";
 
-/// `--members ADDRESS:PORT..`
-fn members<'a>(alloc: Global) -> Arg<'a>
-    ensures rule { rule_of result ≡ several_rule (codes "members") }
-    ensures local { result.global ≡ false }
-{
-    Arg::new(alloc, "members")
-        .long("members")
-        .action(ArgAction::Append)
-        .num_args(1..)
-        .help(MEMBERS)
-}
-
-/// `--position N`
-fn position<'a>(alloc: Global) -> Arg<'a>
-    ensures rule { rule_of result ≡ u32_rule (codes "position") }
-    ensures local { result.global ≡ false }
-{
-    valued(alloc, "position", POSITION).value_parser(value_parser!(u32))
-}
-
-/// `check --nft --interfaces FILE [--members ADDRESS:PORT..] [--position N]`
-fn check_command<'a>(alloc: Global) -> Result<Command<'a>, AllocError>
-    ensures app { IfOk result (λ c. app_of c ≡ check_app) }
-    ensures local { IfOk result (λ c. (out-Command c).has_globals ≡ false) }
-{
-    let command = Command::new(alloc, "check")
-        .about("Prints a ruleset as nft(8) loads it on a machine")
-        .after_help(BELOW);
-    let command = with_option(command, flag(alloc, "nft", NFT))?;
-    let command = with_option(command, needed(alloc, "interfaces", INTERFACES))?;
-    let command = with_option(command, members(alloc))?;
-    with_option(command, position(alloc))
-}
-
-/// The program with this subcommand.
+/// The program with `check --nft --interfaces FILE [--members ADDRESS:PORT..] [--position N]`.
 pub(crate) fn command<'a>(alloc: Global) -> Result<Command<'a>, AllocError>
     ensures { IfOk result (λ c. app_of c ≡ nft_app) }
 {
-    program_with(alloc, check_command(alloc)?)
+    let check = Command::new(alloc, "check")
+        .about("Prints a ruleset as nft(8) loads it on a machine")
+        .after_help(BELOW);
+    let arguments = [
+        Argument::Flag("nft", NFT),
+        Argument::Needed("interfaces", INTERFACES),
+        Argument::Values("members", MEMBERS),
+        Argument::U32("position", POSITION, false),
+    ];
+    program_with(alloc, with_options(alloc, check, &arguments)?)
 }

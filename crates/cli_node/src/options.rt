@@ -1,15 +1,13 @@
 //! The arguments of `node`, `ask` and `key`, as `clap` reads them.
 
-ghost use Rattle.std.specs.Prelude.{◌≡◌, IfOk, false, codes, map};
-ghost use Rattle.clap.specs.Words.{app_of, rule_of, with_subcommand};
+ghost use Rattle.std.specs.Prelude.{◌≡◌, IfOk, false, map};
+ghost use Rattle.clap.specs.Words.{app_of, with_subcommand};
 ghost use Rattle.clap.specs.declared.builder.command.Command.TheViews.{out-Command};
-ghost use Rattle.cli_io.specs.Options.{u32_rule, u8_rule, value_rule};
-ghost use Rattle.cli_node.specs.Arguments.{with_place, with_keys, with_control, with_flags, members_rule};
-ghost use Rattle.cli_node.specs.Arguments.{with_rest, needed_if, node_app, with_member, ask_app, key_app, with_all};
-ghost use Rattle.cli_node.specs.Arguments.{with_settings, net_app, is_config, names_config};
+ghost use Rattle.cli_node.specs.Arguments.{node_app, ask_app, key_app, with_all, net_app};
+ghost use Rattle.cli_node.specs.Arguments.{is_config, names_config};
 
-use clap::{Arg, ArgAction, Command, value_parser};
-use cli_io::{flag, needed, numbered, valued, with_option};
+use clap::Command;
+use cli_io::{Argument, with_options};
 use pf_arguments::pfctl_args;
 use std::alloc::{AllocError, Global};
 use std::convert::AsStr;
@@ -86,130 +84,9 @@ const ASK_BELOW: &str =
     "It prints asked NODE.NUMBER, no answer, or refused CODE; a node refuses with 60 (64 commands wait) or 62 (no number
 is left). A command that is asked isn't learned yet: see the nodes' logs.";
 
-/// An option with a number from 0 to 255.
-fn small<'a>(alloc: Global, name: &'a str, help: &'a str, is_needed: bool) -> Arg<'a>
-    ensures rule { rule_of result ≡ needed_if is_needed (u8_rule name.entry.now) }
-    ensures local { result.global ≡ false }
-{
-    valued(alloc, name, help)
-        .value_parser(value_parser!(u8))
-        .required(is_needed)
-}
-
-/// An option with a number from 0 to 4,294,967,295.
-fn large<'a>(alloc: Global, name: &'a str, help: &'a str, is_needed: bool) -> Arg<'a>
-    ensures rule { rule_of result ≡ needed_if is_needed (u32_rule name.entry.now) }
-    ensures local { result.global ≡ false }
-{
-    valued(alloc, name, help)
-        .value_parser(value_parser!(u32))
-        .required(is_needed)
-}
-
-/// `--store FILE`
-fn store<'a>(alloc: Global, is_needed: bool) -> Arg<'a>
-    ensures rule { rule_of result ≡ needed_if is_needed (value_rule (codes "store")) }
-    ensures local { result.global ≡ false }
-{
-    valued(alloc, "store", STORE).required(is_needed)
-}
-
-/// `--me N --cluster C --store FILE`, which have to be given where no file of settings is named.
-fn with_place<'a>(
-    alloc: Global,
-    command: Command<'a>,
-    is_needed: bool,
-) -> Result<Command<'a>, AllocError>
-    requires command { (out-Command command).has_globals ≡ false }
-    ensures app { IfOk result (λ c. app_of c ≡ with_place is_needed (app_of command.entry)) }
-    ensures local { IfOk result (λ c. (out-Command c).has_globals ≡ false) }
-{
-    let command = with_option(command, small(alloc, "me", ME, is_needed))?;
-    let command = with_option(command, large(alloc, "cluster", CLUSTER, is_needed))?;
-    with_option(command, store(alloc, is_needed))
-}
-
-/// `--turns T`
-fn turns<'a>(alloc: Global) -> Arg<'a>
-    ensures rule { rule_of result ≡ u32_rule (codes "turns") }
-    ensures local { result.global ≡ false }
-{
-    valued(alloc, "turns", TURNS).value_parser(value_parser!(u32))
-}
-
-/// The options of `node` about its keys that may be missing.
-fn with_keys<'a>(alloc: Global, command: Command<'a>) -> Result<Command<'a>, AllocError>
-    requires command { (out-Command command).has_globals ≡ false }
-    ensures app { IfOk result (λ c. app_of c ≡ with_keys (app_of command.entry)) }
-    ensures local { IfOk result (λ c. (out-Command c).has_globals ≡ false) }
-{
-    let command = with_option(command, valued(alloc, "key", KEY))?;
-    let command = with_option(command, valued(alloc, "other-key", OTHER_KEY))?;
-    let command = with_option(command, flag(alloc, "new-starts", NEW_STARTS))?;
-    with_option(command, flag(alloc, "unsealed", UNSEALED))
-}
-
-/// The options of `node` about operators that may be missing.
-fn with_control<'a>(alloc: Global, command: Command<'a>) -> Result<Command<'a>, AllocError>
-    requires command { (out-Command command).has_globals ≡ false }
-    ensures app { IfOk result (λ c. app_of c ≡ with_control (app_of command.entry)) }
-    ensures local { IfOk result (λ c. (out-Command c).has_globals ≡ false) }
-{
-    let command = with_option(command, valued(alloc, "control", CONTROL))?;
-    with_option(command, valued(alloc, "metrics", METRICS))
-}
-
-/// The options of `node` without a value that are no others' business.
-fn with_flags<'a>(alloc: Global, command: Command<'a>) -> Result<Command<'a>, AllocError>
-    requires command { (out-Command command).has_globals ≡ false }
-    ensures app { IfOk result (λ c. app_of c ≡ with_flags (app_of command.entry)) }
-    ensures local { IfOk result (λ c. (out-Command c).has_globals ≡ false) }
-{
-    let command = with_option(command, flag(alloc, "new", NEW))?;
-    let command = with_option(command, flag(alloc, "check", CHECK))?;
-    with_option(command, flag(alloc, "quiet", QUIET))
-}
-
-/// The members' addresses.
-fn members<'a>(alloc: Global) -> Arg<'a>
-    ensures rule { rule_of result ≡ members_rule }
-    ensures local { result.global ≡ false }
-{
-    Arg::new(alloc, "member")
-        .action(ArgAction::Append)
-        .num_args(0..)
-        .help(MEMBER)
-}
-
-/// `[--config FILE] --me N --cluster C --store FILE [--turns T]`, and the options about operators.
-fn with_settings<'a>(
-    alloc: Global,
-    command: Command<'a>,
-    is_needed: bool,
-) -> Result<Command<'a>, AllocError>
-    requires command { (out-Command command).has_globals ≡ false }
-    ensures app { IfOk result (λ c. app_of c ≡ with_settings is_needed (app_of command.entry)) }
-    ensures local { IfOk result (λ c. (out-Command c).has_globals ≡ false) }
-{
-    let command = with_option(command, valued(alloc, "config", CONFIG))?;
-    let command = with_place(alloc, command, is_needed)?;
-    let command = with_option(command, turns(alloc))?;
-    with_control(alloc, command)
-}
-
-/// The options about keys, the flags, and the addresses.
-fn with_rest<'a>(alloc: Global, command: Command<'a>) -> Result<Command<'a>, AllocError>
-    requires command { (out-Command command).has_globals ≡ false }
-    ensures app { IfOk result (λ c. app_of c ≡ with_rest (app_of command.entry)) }
-    ensures local { IfOk result (λ c. (out-Command c).has_globals ≡ false) }
-{
-    let command = with_keys(alloc, command)?;
-    let command = with_flags(alloc, command)?;
-    with_option(command, members(alloc))
-}
-
 /// `node [--config FILE] --me N --cluster C --store FILE [--turns T] [--control PATH [--metrics ADDR]]
-/// [--key FILE [--other-key FILE] [--new-starts]] [--unsealed] [--new] [--check] [--quiet] ADDR..`
+/// [--key FILE [--other-key FILE] [--new-starts]] [--unsealed] [--new] [--check] [--quiet] ADDR..`, with a number,
+/// a cluster and a store that have to be given where no file of settings is named.
 fn node_command<'a>(alloc: Global, is_needed: bool) -> Result<Command<'a>, AllocError>
     ensures app { IfOk result (λ c. app_of c ≡ node_app is_needed) }
     ensures local { IfOk result (λ c. (out-Command c).has_globals ≡ false) }
@@ -217,20 +94,24 @@ fn node_command<'a>(alloc: Global, is_needed: bool) -> Result<Command<'a>, Alloc
     let node = Command::new(alloc, "node")
         .about("Runs a node on its store over UDP")
         .after_help(NODE_BELOW);
-    let command = with_settings(alloc, node, is_needed)?;
-    with_rest(alloc, command)
-}
-
-/// `--to ADDR --cluster C --members N --node N`
-fn with_member<'a>(alloc: Global, command: Command<'a>) -> Result<Command<'a>, AllocError>
-    requires command { (out-Command command).has_globals ≡ false }
-    ensures app { IfOk result (λ c. app_of c ≡ with_member (app_of command.entry)) }
-    ensures local { IfOk result (λ c. (out-Command c).has_globals ≡ false) }
-{
-    let command = with_option(command, needed(alloc, "to", TO))?;
-    let command = with_option(command, large(alloc, "cluster", CLUSTER, true))?;
-    let command = with_option(command, small(alloc, "members", MEMBERS, true))?;
-    with_option(command, small(alloc, "node", NODE, true))
+    let arguments = [
+        Argument::Value("config", CONFIG),
+        Argument::U8("me", ME, is_needed),
+        Argument::U32("cluster", CLUSTER, is_needed),
+        Argument::NeededIf("store", STORE, is_needed),
+        Argument::U32("turns", TURNS, false),
+        Argument::Value("control", CONTROL),
+        Argument::Value("metrics", METRICS),
+        Argument::Value("key", KEY),
+        Argument::Value("other-key", OTHER_KEY),
+        Argument::Flag("new-starts", NEW_STARTS),
+        Argument::Flag("unsealed", UNSEALED),
+        Argument::Flag("new", NEW),
+        Argument::Flag("check", CHECK),
+        Argument::Flag("quiet", QUIET),
+        Argument::Several("member", MEMBER),
+    ];
+    with_options(alloc, node, &arguments)
 }
 
 /// `ask --to ADDR --cluster C --members N --node N [--wait S]`, and pfctl's arguments.
@@ -241,9 +122,14 @@ fn ask_command<'a>(alloc: Global) -> Result<Command<'a>, AllocError>
     let ask = Command::new(alloc, "ask")
         .about("Submits a change to a node, by pfctl's options")
         .after_help(ASK_BELOW);
-    let command = with_member(alloc, ask)?;
-    let command = with_option(command, numbered(alloc, "wait", WAIT, 0, WAIT_MAX))?;
-    pfctl_args(alloc, command)
+    let arguments = [
+        Argument::Needed("to", TO),
+        Argument::U32("cluster", CLUSTER, true),
+        Argument::U8("members", MEMBERS, true),
+        Argument::U8("node", NODE, true),
+        Argument::Number("wait", WAIT, 0, WAIT_MAX),
+    ];
+    pfctl_args(alloc, with_options(alloc, ask, &arguments)?)
 }
 
 /// `key [FILE]`
@@ -251,13 +137,10 @@ fn key_command<'a>(alloc: Global) -> Result<Command<'a>, AllocError>
     ensures app { IfOk result (λ c. app_of c ≡ key_app) }
     ensures local { IfOk result (λ c. (out-Command c).has_globals ≡ false) }
 {
-    let file = Arg::new(alloc, "file")
-        .action(ArgAction::Set)
-        .help(KEY_FILE);
     let key = Command::new(alloc, "key")
         .about("Makes a new key for a cluster, from the system's random source")
         .after_help(KEY_BELOW);
-    with_option(key, file)
+    with_options(alloc, key, &[Argument::Single("file", KEY_FILE)])
 }
 
 /// A command with one subcommand more.

@@ -1,28 +1,15 @@
 -- The arguments of `show`, as `clap` has them.
-use Rattle.std.specs.Prelude.{List, Option, codes}
-use Rattle.clap.specs.Words.{App, Row, Text, new_app, with_rule}
+use Rattle.std.specs.Prelude.{List, [], ◌∷◌, Option, codes}
+use Rattle.clap.specs.Words.{App, Row, Text, new_app}
 use Rattle.pf_arguments.specs.Options.{with_pfctl}
 use Rattle.cli_io.specs.Given.{program_of, given_with}
-use Rattle.cli_io.specs.Options.{flag_rule, needed_rule, number_rule, value_rule}
+use Rattle.cli_io.specs.Options.{flag_rule, needed_rule, number_rule, value_rule, with_rules}
 
--- --store FILE [--nft --interfaces FILE] [--pf]
-abbrev pub with_store : App → App
-with_store app =
-    let store = with_rule app (needed_rule (codes "store")) in
-    let nft = with_rule store (flag_rule (codes "nft")) in
-    let interfaces = with_rule nft (value_rule (codes "interfaces")) in
-    with_rule interfaces (flag_rule (codes "pf"))
-
--- [--script] [--from P] [--count N]
-abbrev pub with_log : App → App
-with_log app =
-    let script = with_rule app (flag_rule (codes "script")) in
-    let from = with_rule script (number_rule (codes "from") 0 1000000) in
-    with_rule from (number_rule (codes "count") 0 1000000)
-
--- show --store FILE, with these options and pfctl's
+-- show --store FILE [--nft --interfaces FILE] [--pf] [--script] [--from P] [--count N], with pfctl's options
 abbrev pub show_app : App
-show_app = with_pfctl (with_log (with_store (new_app (codes "show"))))
+show_app = with_pfctl (with_rules (new_app (codes "show")) (needed_rule (codes "store")
+    ∷ flag_rule (codes "nft") ∷ value_rule (codes "interfaces") ∷ flag_rule (codes "pf") ∷ flag_rule (codes "script")
+    ∷ number_rule (codes "from") 0 1000000 ∷ number_rule (codes "count") 0 1000000 ∷ []))
 
 -- the program with this subcommand, which has to be given
 abbrev pub pfx_app : App

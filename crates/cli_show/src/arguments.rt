@@ -1,12 +1,11 @@
 //! The subcommand `show`, as `clap` reads it.
 
-ghost use Rattle.std.specs.Prelude.{◌≡◌, IfOk, false};
+ghost use Rattle.std.specs.Prelude.{◌≡◌, IfOk};
 ghost use Rattle.clap.specs.Words.{app_of};
-ghost use Rattle.clap.specs.declared.builder.command.Command.TheViews.{out-Command};
-ghost use Rattle.cli_show.specs.Arguments.{with_store, with_log, show_app, pfx_app};
+ghost use Rattle.cli_show.specs.Arguments.{pfx_app};
 
 use clap::Command;
-use cli_io::{flag, needed, numbered, program_with, valued, with_option};
+use cli_io::{Argument, program_with, with_options};
 use pf_arguments::pfctl_args;
 use std::alloc::{AllocError, Global};
 
@@ -37,45 +36,23 @@ It shows the configuration after the learned positions up to the first gap.
 A refusal is refused CODE: 70 no store, or one in use, 72 a bad row, 73 another format, 40 invalid arguments,
 20, 24, 30, 1 to 3 as for ctl, 87 to 89 as for check --nft, 91 no script gives the configuration.";
 
-/// `--store FILE [--nft --interfaces FILE] [--pf]`
-fn with_store<'a>(alloc: Global, command: Command<'a>) -> Result<Command<'a>, AllocError>
-    requires command { (out-Command command).has_globals ≡ false }
-    ensures app { IfOk result (λ c. app_of c ≡ with_store (app_of command.entry)) }
-    ensures local { IfOk result (λ c. (out-Command c).has_globals ≡ false) }
-{
-    let command = with_option(command, needed(alloc, "store", STORE))?;
-    let command = with_option(command, flag(alloc, "nft", NFT))?;
-    let command = with_option(command, valued(alloc, "interfaces", INTERFACES))?;
-    with_option(command, flag(alloc, "pf", PF))
-}
-
-/// `[--script] [--from P] [--count N]`
-fn with_log<'a>(alloc: Global, command: Command<'a>) -> Result<Command<'a>, AllocError>
-    requires command { (out-Command command).has_globals ≡ false }
-    ensures app { IfOk result (λ c. app_of c ≡ with_log (app_of command.entry)) }
-    ensures local { IfOk result (λ c. (out-Command c).has_globals ≡ false) }
-{
-    let command = with_option(command, flag(alloc, "script", SCRIPT))?;
-    let command = with_option(command, numbered(alloc, "from", FROM, 0, POSITIONS))?;
-    with_option(command, numbered(alloc, "count", COUNT, 0, POSITIONS))
-}
-
+/// The program's arguments with `show`:
 /// `show --store FILE [--nft --interfaces FILE] [--pf] [--script] [--from P] [--count N]`, and pfctl's arguments.
-fn show_command<'a>(alloc: Global) -> Result<Command<'a>, AllocError>
-    ensures app { IfOk result (λ c. app_of c ≡ show_app) }
-    ensures local { IfOk result (λ c. (out-Command c).has_globals ≡ false) }
+pub(crate) fn command<'a>(alloc: Global) -> Result<Command<'a>, AllocError>
+    ensures { IfOk result (λ c. app_of c ≡ pfx_app) }
 {
     let show = Command::new(alloc, "show")
         .about("Shows what a node's store holds")
         .after_help(BELOW);
-    let command = with_store(alloc, show)?;
-    let command = with_log(alloc, command)?;
-    pfctl_args(alloc, command)
-}
-
-/// The program's arguments with `show`.
-pub(crate) fn command<'a>(alloc: Global) -> Result<Command<'a>, AllocError>
-    ensures { IfOk result (λ c. app_of c ≡ pfx_app) }
-{
-    program_with(alloc, show_command(alloc)?)
+    let arguments = [
+        Argument::Needed("store", STORE),
+        Argument::Flag("nft", NFT),
+        Argument::Value("interfaces", INTERFACES),
+        Argument::Flag("pf", PF),
+        Argument::Flag("script", SCRIPT),
+        Argument::Number("from", FROM, 0, POSITIONS),
+        Argument::Number("count", COUNT, 0, POSITIONS),
+    ];
+    let show = with_options(alloc, show, &arguments)?;
+    program_with(alloc, pfctl_args(alloc, show)?)
 }

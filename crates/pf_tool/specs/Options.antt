@@ -1,63 +1,38 @@
 -- The command-line arguments of the program, and what they ask for.
 use Rattle.std.specs.Prelude.{ℕ, Bool, true, false, ◌||◌, List, [], ◌∷◌, Option, Some, None}
 use Rattle.std.specs.Prelude.{codes, bytes_eq, option_map, unwrap_or, if◌then◌else◌}
-use Rattle.clap.specs.Words.{App, Row, Rule, Text, new_app, new_rule, with_rule, with_subcommand, subcommand_of, all_of}
+use Rattle.clap.specs.Words.{App, Row, Rule, Text, new_app, with_rule, with_subcommand, subcommand_of, all_of}
 use Rattle.clap.specs.Words.{first_of}
 use Rattle.clap.specs.Faults.{fault_of}
 use Rattle.clap.specs.Kinds.{Kinds}
-use Rattle.clap.specs.declared.builder.action.ArgAction.TheVariants.{Append, Set, SetTrue}
-use Rattle.clap.specs.Lexer.{usize_max}
 use Rattle.pf_grammar.specs.declared.place.Place.{Place}
 use Rattle.pf_grammar.specs.declared.place.Place.TheVariants.{Main, Anchor}
 use Rattle.cli_io.specs.declared.paragraph.Explanation.{Explanation}
 use Rattle.cli_io.specs.Explained.{named}
-use Rattle.cli_io.specs.Options.{flag_rule, value_rule}
+use Rattle.cli_io.specs.Options.{flag_rule, lettered, several_rule, single_rule, value_rule, with_rules}
 
 -- ---- the arguments
 
--- -L or --NAME
-abbrev pub lettered_rule : Text → ℕ → Rule
-lettered_rule id letter = record (new_rule id) { long = Some id; short = Some letter; action = Some SetTrue }
+-- -q and -v
+abbrev pub quiet_rule : Rule
+quiet_rule = lettered 113 (flag_rule (codes "quiet"))
 
--- -L VALUE or --NAME VALUE
-abbrev pub lettered_value_rule : Text → ℕ → Rule
-lettered_value_rule id letter = record (new_rule id) { long = Some id; short = Some letter; action = Some Set }
-
--- any number of arguments
-abbrev pub several_rule : Text → Rule
-several_rule id = record (new_rule id) {
-  action = Some Append;
-  range = Some (record { start_inclusive = 0; end_inclusive = usize_max });
-}
-
--- one value, or none
-abbrev pub single_rule : Text → Rule
-single_rule id = record (new_rule id) { action = Some Set }
-
--- -v
-abbrev pub with_verbose : App → App
-with_verbose app = with_rule app (lettered_rule (codes "verbose") 118)
-
--- -q -v
-abbrev pub with_quiet : App → App
-with_quiet app = with_verbose (with_rule app (lettered_rule (codes "quiet") 113))
+abbrev pub verbose_rule : Rule
+verbose_rule = lettered 118 (flag_rule (codes "verbose"))
 
 -- test [-f FILE] [--packets FILE] [-q] [-v] PACKET..
 abbrev pub test_app : App
-test_app =
-    let filed = with_rule (new_app (codes "test")) (lettered_value_rule (codes "file") 102) in
-    let packets = with_rule filed (value_rule (codes "packets")) in
-    with_rule (with_quiet packets) (several_rule (codes "packet"))
+test_app = with_rules (new_app (codes "test")) (lettered 102 (value_rule (codes "file"))
+    ∷ value_rule (codes "packets") ∷ quiet_rule ∷ verbose_rule ∷ several_rule (codes "packet") ∷ [])
 
 -- check [--anchor] [-q] [-v] FILE..
 abbrev pub check_app : App
-check_app =
-    let anchored = with_rule (new_app (codes "check")) (flag_rule (codes "anchor")) in
-    with_rule (with_quiet anchored) (several_rule (codes "file"))
+check_app = with_rules (new_app (codes "check"))
+    (flag_rule (codes "anchor") ∷ quiet_rule ∷ verbose_rule ∷ several_rule (codes "file") ∷ [])
 
 -- ctl [-v]
 abbrev pub ctl_app : App
-ctl_app = with_verbose (new_app (codes "ctl"))
+ctl_app = with_rule (new_app (codes "ctl")) verbose_rule
 
 -- lab
 abbrev pub lab_app : App
@@ -76,16 +51,16 @@ abbrev pub scripts_app : App
 scripts_app = with_subcommand (with_subcommand (with_subcommand texts_app ctl_app.top) lab_app.top) explain_app.top
 
 -- subcommands whose options are other crates' are named alone
-abbrev pub with_named : Text → App → App
-with_named name app = with_subcommand app (new_app name).top
+abbrev pub with_named : App → (names : List Text) → App
+with_named app [] = app
+with_named app (name ∷ names) = with_named (with_subcommand app (new_app name).top) names
 
 -- the program: one of its subcommands has to be named
 abbrev pub pfx_app : App
 pfx_app =
-    let node = with_named (codes "node") scripts_app in
-    let key = with_named (codes "key") (with_named (codes "ask") node) in
-    let named = with_named (codes "batch") (with_named (codes "follow") (with_named (codes "show") key)) in
-    record named { top = record named.top { subcommand_required = true } }
+    let app = with_named scripts_app (codes "node" ∷ codes "ask" ∷ codes "key" ∷ codes "show" ∷ codes "follow"
+    ∷ codes "batch" ∷ []) in
+    record app { top = record app.top { subcommand_required = true } }
 
 -- ---- what they ask for
 

@@ -1,15 +1,13 @@
 //! The command-line arguments of the program, as `clap` reads them.
 
-ghost use Rattle.std.specs.Prelude.{◌≡◌, IfOk, false, codes};
-ghost use Rattle.clap.specs.Words.{app_of, rule_of};
+ghost use Rattle.std.specs.Prelude.{◌≡◌, IfOk, false, map};
+ghost use Rattle.clap.specs.Words.{app_of};
 ghost use Rattle.clap.specs.declared.builder.command.Command.TheViews.{out-Command};
-ghost use Rattle.pf_tool.specs.Options.{lettered_rule, lettered_value_rule, several_rule, single_rule};
-ghost use Rattle.pf_tool.specs.Options.{with_verbose, with_quiet, with_named};
 ghost use Rattle.pf_tool.specs.Options.{check_app, test_app, ctl_app, lab_app, explain_app};
-ghost use Rattle.pf_tool.specs.Options.{texts_app, scripts_app, pfx_app};
+ghost use Rattle.pf_tool.specs.Options.{texts_app, scripts_app, with_named, pfx_app};
 
-use clap::{Arg, ArgAction, Command};
-use cli_io::{flag, valued, with_option};
+use clap::Command;
+use cli_io::{Argument, with_options};
 use std::alloc::{AllocError, Global};
 
 /// What help shows below its options.
@@ -59,6 +57,25 @@ const LAB_BELOW: &str =
 
 const NAMED_BELOW: &str = "pfx SUBCOMMAND --help, with this subcommand, describes its options.";
 
+/// The subcommands whose options are other crates', and what each does.
+const NAMED: [(&str, &str); 6] = [
+    ("node", "Runs a node over UDP on its store"),
+    (
+        "ask",
+        "Submits a change to a node, or asks it at its control socket",
+    ),
+    ("key", "Makes a cluster's key"),
+    ("show", "Shows what a node's store holds"),
+    (
+        "follow",
+        "Follows what a node applies, as rules for a kernel",
+    ),
+    (
+        "batch",
+        "Runs the command lines of a file, each with its input",
+    ),
+];
+
 /// The help of each option.
 const ANCHOR: &str = "The ruleset is for an anchor: set is refused";
 
@@ -77,80 +94,22 @@ const PACKET: &str = "Packets, each as one argument";
 
 const CODE: &str = "The number of a refusal; without one all are explained";
 
-/// An option without a value, and the letter for it.
-fn lettered<'a>(alloc: Global, id: &'a str, letter: char, help: &'a str) -> Arg<'a>
-    ensures rule { rule_of result ≡ lettered_rule id.entry.now letter }
-    ensures local { result.global ≡ false }
-{
-    Arg::new(alloc, id)
-        .long(id)
-        .short(letter)
-        .action(ArgAction::SetTrue)
-        .help(help)
-}
-
-/// `-f FILE`
-fn rules_file<'a>(alloc: Global) -> Arg<'a>
-    ensures rule { rule_of result ≡ lettered_value_rule (codes "file") 102 }
-    ensures local { result.global ≡ false }
-{
-    Arg::new(alloc, "file")
-        .long("file")
-        .short('f')
-        .action(ArgAction::Set)
-        .help(RULES)
-}
-
-/// Any number of arguments.
-fn several<'a>(alloc: Global, id: &'a str, help: &'a str) -> Arg<'a>
-    ensures rule { rule_of result ≡ several_rule id.entry.now }
-    ensures local { result.global ≡ false }
-{
-    Arg::new(alloc, id)
-        .action(ArgAction::Append)
-        .num_args(0..)
-        .help(help)
-}
-
-/// The number of a refusal.
-fn code<'a>(alloc: Global) -> Arg<'a>
-    ensures rule { rule_of result ≡ single_rule (codes "code") }
-    ensures local { result.global ≡ false }
-{
-    Arg::new(alloc, "code").action(ArgAction::Set).help(CODE)
-}
-
-/// Adds `-v`.
-fn with_verbose<'a>(alloc: Global, command: Command<'a>) -> Result<Command<'a>, AllocError>
-    requires { (out-Command command).has_globals ≡ false }
-    ensures app { IfOk result (λ c. app_of c ≡ with_verbose (app_of command.entry)) }
-    ensures local { IfOk result (λ c. (out-Command c).has_globals ≡ false) }
-{
-    with_option(command, lettered(alloc, "verbose", 'v', VERBOSE))
-}
-
-/// Adds `-q` and `-v`.
-fn with_quiet<'a>(alloc: Global, command: Command<'a>) -> Result<Command<'a>, AllocError>
-    requires { (out-Command command).has_globals ≡ false }
-    ensures app { IfOk result (λ c. app_of c ≡ with_quiet (app_of command.entry)) }
-    ensures local { IfOk result (λ c. (out-Command c).has_globals ≡ false) }
-{
-    let command = with_option(command, lettered(alloc, "quiet", 'q', QUIET))?;
-    with_verbose(alloc, command)
-}
-
 /// `test [-f FILE] [--packets FILE] [-q] [-v] PACKET..`
 fn test_command<'a>(alloc: Global) -> Result<Command<'a>, AllocError>
     ensures app { IfOk result (λ c. app_of c ≡ test_app) }
     ensures local { IfOk result (λ c. (out-Command c).has_globals ≡ false) }
 {
-    let command = Command::new(alloc, "test")
+    let test = Command::new(alloc, "test")
         .about("Prints the verdicts of a ruleset for packets")
         .after_help(TEST_BELOW);
-    let command = with_option(command, rules_file(alloc))?;
-    let command = with_option(command, valued(alloc, "packets", PACKETS))?;
-    let command = with_quiet(alloc, command)?;
-    with_option(command, several(alloc, "packet", PACKET))
+    let arguments = [
+        Argument::ShortValue("file", RULES, 'f'),
+        Argument::Value("packets", PACKETS),
+        Argument::ShortFlag("quiet", QUIET, 'q'),
+        Argument::ShortFlag("verbose", VERBOSE, 'v'),
+        Argument::Several("packet", PACKET),
+    ];
+    with_options(alloc, test, &arguments)
 }
 
 /// `check [--anchor] [-q] [-v] FILE..`
@@ -158,12 +117,16 @@ fn check_command<'a>(alloc: Global) -> Result<Command<'a>, AllocError>
     ensures app { IfOk result (λ c. app_of c ≡ check_app) }
     ensures local { IfOk result (λ c. (out-Command c).has_globals ≡ false) }
 {
-    let command = Command::new(alloc, "check")
+    let check = Command::new(alloc, "check")
         .about("Shows the rules that a ruleset expands to, or why it is refused")
         .after_help(CHECK_BELOW);
-    let command = with_option(command, flag(alloc, "anchor", ANCHOR))?;
-    let command = with_quiet(alloc, command)?;
-    with_option(command, several(alloc, "file", FILES))
+    let arguments = [
+        Argument::Flag("anchor", ANCHOR),
+        Argument::ShortFlag("quiet", QUIET, 'q'),
+        Argument::ShortFlag("verbose", VERBOSE, 'v'),
+        Argument::Several("file", FILES),
+    ];
+    with_options(alloc, check, &arguments)
 }
 
 /// `ctl [-v]`
@@ -171,10 +134,10 @@ fn ctl_command<'a>(alloc: Global) -> Result<Command<'a>, AllocError>
     ensures app { IfOk result (λ c. app_of c ≡ ctl_app) }
     ensures local { IfOk result (λ c. (out-Command c).has_globals ≡ false) }
 {
-    let command = Command::new(alloc, "ctl")
+    let ctl = Command::new(alloc, "ctl")
         .about("Runs a script of pfctl commands over one configuration, empty at first")
         .after_help(CTL_BELOW);
-    with_verbose(alloc, command)
+    with_options(alloc, ctl, &[Argument::ShortFlag("verbose", VERBOSE, 'v')])
 }
 
 /// `lab`
@@ -192,10 +155,10 @@ fn explain_command<'a>(alloc: Global) -> Result<Command<'a>, AllocError>
     ensures app { IfOk result (λ c. app_of c ≡ explain_app) }
     ensures local { IfOk result (λ c. (out-Command c).has_globals ≡ false) }
 {
-    let command = Command::new(alloc, "explain").about(
+    let explain = Command::new(alloc, "explain").about(
         "Explains a refusal: its cause, its effect, and the remedy",
     );
-    with_option(command, code(alloc))
+    with_options(alloc, explain, &[Argument::Single("code", CODE)])
 }
 
 /// The program with the subcommands that read a ruleset's text.
@@ -223,46 +186,27 @@ fn scripts_command<'a>(alloc: Global) -> Result<Command<'a>, AllocError>
         .subcommand(explain)
 }
 
-/// Names a subcommand whose options are another crate's, so that help lists it.
+/// Names subcommands whose options are other crates', so that help lists them.
 fn with_named<'a>(
     alloc: Global,
-    command: Command<'a>,
-    name: &'a str,
-    about: &'a str,
+    mut command: Command<'a>,
+    subcommands: &[(&'a str, &'a str)],
 ) -> Result<Command<'a>, AllocError>
-    ensures { IfOk result (λ c. app_of c ≡ with_named name.entry.now (app_of command.entry)) }
+    ensures { IfOk result (λ c. app_of c ≡ with_named (app_of command.entry) (map (λ s. s.0.now) subcommands.entry.now)) }
 {
-    let named = Command::new(alloc, name)
-        .about(about)
-        .after_help(NAMED_BELOW);
-    command.subcommand(named)
+    for subcommand in subcommands {
+        let named = Command::new(alloc, subcommand.0)
+            .about(subcommand.1)
+            .after_help(NAMED_BELOW);
+        command = command.subcommand(named)?;
+    }
+    Ok(command)
 }
 
 /// The program with all its subcommands.
 pub(crate) fn command<'a>(alloc: Global) -> Result<Command<'a>, AllocError>
     ensures { IfOk result (λ c. app_of c ≡ pfx_app) }
 {
-    let command = scripts_command(alloc)?;
-    let command = with_named(alloc, command, "node", "Runs a node over UDP on its store")?;
-    let command = with_named(
-        alloc,
-        command,
-        "ask",
-        "Submits a change to a node, or asks it at its control socket",
-    )?;
-    let command = with_named(alloc, command, "key", "Makes a cluster's key")?;
-    let command = with_named(alloc, command, "show", "Shows what a node's store holds")?;
-    let command = with_named(
-        alloc,
-        command,
-        "follow",
-        "Follows what a node applies, as rules for a kernel",
-    )?;
-    let command = with_named(
-        alloc,
-        command,
-        "batch",
-        "Runs the command lines of a file, each with its input",
-    )?;
+    let command = with_named(alloc, scripts_command(alloc)?, &NAMED)?;
     Ok(command.subcommand_required(true))
 }
