@@ -35,8 +35,5 @@ pub fn cluster_key_from<R: Read>(
         return Err(KeyFault::Open);
     }
     let secret = key_from(alloc, reader)?;
-    match group_key(alloc, &secret, cluster, members) {
-        Ok(key) => Ok(key),
-        Err(_) => Err(KeyFault::Memory),
-    }
+    group_key(alloc, &secret, cluster, members).map_err(|_| KeyFault::Memory)
 }

@@ -29,10 +29,7 @@ impl<T: OpenFile + Read> SecretFile for T {
     ghost has_mode = { λ _ mode. (about : Metadata) × (mode ≡ metadata_mode about) };
 
     fn mode(&self) -> Option<u32> {
-        match self.metadata() {
-            Ok(about) => Some(about.permissions().mode()),
-            Err(_) => None,
-        }
+        Some(self.metadata().ok()?.permissions().mode())
     }
 }
 
@@ -51,9 +48,7 @@ pub fn cluster_key_in<F: SecretFile>(
     ensures private { IfOk result (λ k. (mode : ℕ) × F.has_mode file.old mode × IsPrivate mode) }
     ensures open { result ≡ Err KeyFault.Open → (mode : ℕ) × F.has_mode file.old mode × (IsPrivate mode → ⊥) }
 {
-    let Some(mode) = file.mode() else {
-        return Err(KeyFault::Unread);
-    };
+    let mode = file.mode().ok_or(KeyFault::Unread)?;
     cluster_key_from(alloc, file, mode, cluster, members)
 }
 
@@ -70,8 +65,6 @@ pub fn read_cluster_key<F: Files>(
         IsClusterKey text cluster (map (λ t. t.now) members.now) k) }
     ensures read { IfOk result (IsKeyOfFile F.File.remaining cluster (map (λ t. t.now) members.now)) }
 {
-    let Ok(mut file) = open_regular(files, path) else {
-        return Err(KeyFault::Unread);
-    };
+    let mut file = open_regular(files, path).map_err(|_| KeyFault::Unread)?;
     cluster_key_in(alloc, &mut file, cluster, members)
 }

@@ -30,9 +30,7 @@ fn read_some<R: Read>(reader: &mut R, room: &mut [u8], text: &mut Vec<u8>) -> Re
         IfSome first (λ input. TEXT_MAX < length input)) }
     ensures private { result ≢ Err KeyFault.Open }
 {
-    let Ok(n) = reader.read(room) else {
-        return Err(KeyFault::Unread);
-    };
+    let n = reader.read(room).map_err(|_| KeyFault::Unread)?;
     if n == 0 {
         return Ok(false);
     }
@@ -71,8 +69,5 @@ pub fn key_from<R: Read>(alloc: Global, reader: &mut R) -> Result<[u8; 32], KeyF
     ensures private { result ≢ Err KeyFault.Open }
 {
     let text = read_text(alloc, reader)?;
-    match parse_key(text.as_slice()) {
-        Some(key) => Ok(key),
-        None => Err(KeyFault::NoKey),
-    }
+    parse_key(text.as_slice()).ok_or(KeyFault::NoKey)
 }

@@ -2,8 +2,7 @@
 
 ghost use Rattle.std.specs.Prelude.{◌≡◌};
 ghost use Rattle.toml.specs.View.{view, items_view};
-ghost use Rattle.cli_files.specs.declared.kinds.Kind.TheVariants.{Texts};
-ghost use Rattle.cli_files.specs.Settings.{kind_of, number_of, is_number, are_texts, fits, is_setting};
+ghost use Rattle.cli_files.specs.Settings.{kind_of, number_of, are_texts, fits, is_setting};
 
 use toml::Value;
 
@@ -43,20 +42,7 @@ pub(crate) fn kind_of(key: &str) -> Option<Kind>
 pub(crate) fn number_of(value: &Value) -> Option<u64>
     ensures { result ≡ number_of (view value.now) }
 {
-    match value.as_integer() {
-        Some(number) => u64::try_from(number).ok(),
-        None => None,
-    }
-}
-
-/// Whether a value is a whole number from 0 to this one.
-fn is_number(value: &Value, most: u32) -> bool
-    ensures { result ≡ is_number (view value.now) most }
-{
-    match number_of(value) {
-        Some(number) => number <= u64::from(most),
-        None => false,
-    }
+    u64::try_from(value.as_integer()?).ok()
 }
 
 /// Whether all values are strings.
@@ -71,25 +57,17 @@ fn are_texts(values: &[Value]) -> bool
     true
 }
 
-/// Whether a value is a list of strings.
-fn is_list(value: &Value) -> bool
-    ensures { result ≡ fits Texts (view value.now) }
-{
-    match value.as_array() {
-        Some(values) => are_texts(values.as_slice()),
-        None => false,
-    }
-}
-
 /// Whether a value is of a kind.
 fn fits(kind: Kind, value: &Value) -> bool
     ensures { result ≡ fits kind (view value.now) }
 {
     match kind {
         Kind::Text => value.is_str(),
-        Kind::Number(most) => is_number(value, most),
+        Kind::Number(most) => number_of(value).is_some_and(|number| number <= u64::from(most)),
         Kind::Flag => value.is_bool(),
-        Kind::Texts => is_list(value),
+        Kind::Texts => value
+            .as_array()
+            .is_some_and(|values| are_texts(values.as_slice())),
     }
 }
 
@@ -97,8 +75,5 @@ fn fits(kind: Kind, value: &Value) -> bool
 pub(crate) fn is_setting(key: &str, value: &Value) -> bool
     ensures { result ≡ is_setting key.now (view value.now) }
 {
-    match kind_of(key) {
-        Some(kind) => fits(kind, value),
-        None => false,
-    }
+    kind_of(key).is_some_and(|kind| fits(kind, value))
 }

@@ -18,10 +18,7 @@ pub(crate) fn line_behind(front: &[u8]) -> u64
 
 /// The number of the line, from 1, that has the byte behind that many others; that of the end past it.
 pub(crate) fn line_at(text: &[u8], before: usize) -> u64 {
-    match text.get(..before) {
-        Some(front) => line_behind(front),
-        None => line_behind(text),
-    }
+    line_behind(text.get(..before).unwrap_or(text))
 }
 
 /// Whether a byte may be before a key in its line: a blank, a header's bracket, a quote.
@@ -36,16 +33,9 @@ fn is_of_key(byte: u8) -> bool {
 
 /// Whether the key is at this place, and ends there.
 fn stands_at(text: &[u8], at: usize, key: &[u8]) -> bool {
-    let Some(rest) = text.get(at..) else {
-        return false;
-    };
-    match rest.strip_prefix(key) {
-        Some(after) => match after.first() {
-            Some(byte) => !is_of_key(*byte),
-            None => true,
-        },
-        None => false,
-    }
+    text.get(at..)
+        .and_then(|rest| rest.strip_prefix(key))
+        .is_some_and(|after| !after.first().is_some_and(|byte| is_of_key(*byte)))
 }
 
 /// The line, from 1, that begins with a key, blanks, brackets and quotes before it aside; none where no line does.

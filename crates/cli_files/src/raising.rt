@@ -62,11 +62,8 @@ pub(crate) fn known_in(
 {
     match text {
         Some(text) => known_in_text(alloc, text.as_slice(), members),
-        None => if may_be_made {
-            Ok(blank(alloc, members)?)
-        } else {
-            Err(RaiseFault::Missing)
-        },
+        None if may_be_made => Ok(blank(alloc, members)?),
+        None => Err(RaiseFault::Missing),
     }
 }
 

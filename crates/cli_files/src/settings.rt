@@ -1,11 +1,11 @@
 //! A file of settings that was read.
 
 ghost use Rattle.std.specs.Prelude.{◌≡◌, Some, None, map, option_map, option_and_then, IfOk, IfErr, IfSome, IsUtf8};
-ghost use Rattle.toml.specs.Data.{Members, no_members, as_str, as_bool, get_member};
+ghost use Rattle.toml.specs.Data.{Members, no_members, as_str, get_member};
 ghost use Rattle.toml.specs.Errors.{IsMemory};
 ghost use Rattle.toml.specs.Parse.{parse_document};
 ghost use Rattle.toml.specs.View.{view, table_view, items_view};
-ghost use Rattle.cli_files.specs.Settings.{first_wrong, number_of, is_true, flag_at, texts_of, texts_at, IsRefused};
+ghost use Rattle.cli_files.specs.Settings.{first_wrong, number_of, flag_at, texts_of, texts_at, IsRefused};
 ghost use Rattle.cli_files.specs.Files.{settings_of};
 
 use crate::kinds::{is_setting, kind_of, number_of};
@@ -62,10 +62,7 @@ fn table_fault(text: &[u8], table: &Table) -> Option<FileFault>
     ensures none { result ≡ None → first_wrong (table_view table.now) ≡ None }
     ensures some { IfSome result (λ fault. IsRefused fault text.now) }
 {
-    match first_wrong(table) {
-        Some(key) => Some(key_fault(text, key)),
-        None => None,
-    }
+    first_wrong(table).map(|key| key_fault(text, key))
 }
 
 impl NodeFile {
@@ -85,10 +82,7 @@ impl NodeFile {
         ensures all { IfOk result (λ f. first_wrong (settings_of f) ≡ None) }
         ensures refused { IfErr result (λ fault. IsRefused fault text.now) }
     {
-        let table = match table_from_slice(alloc, text) {
-            Ok(table) => table,
-            Err(error) => return Err(syntax_fault(text, error)),
-        };
+        let table = table_from_slice(alloc, text).map_err(|error| syntax_fault(text, error))?;
         match table_fault(text, &table) {
             None => Ok(NodeFile { table }),
             Some(fault) => {
@@ -102,38 +96,29 @@ impl NodeFile {
     pub fn text(&self, name: &str) -> Option<&str>
         ensures { option_map (λ s. s.now) result ≡ option_and_then as_str (get_member name.now (settings_of self.now)) }
     {
-        match value_at(&self.table, name) {
-            Some(value) => value.as_str(),
-            None => None,
-        }
+        value_at(&self.table, name)?.as_str()
     }
 
     /// The number of a setting, if the file has one.
     pub fn number(&self, name: &str) -> Option<u64>
         ensures { result ≡ option_and_then number_of (get_member name.now (settings_of self.now)) }
     {
-        match value_at(&self.table, name) {
-            Some(value) => number_of(value),
-            None => None,
-        }
+        number_of(value_at(&self.table, name)?)
     }
 
     /// Whether a setting is `true`.
     pub fn flag(&self, name: &str) -> bool
         ensures { result ≡ flag_at (get_member name.now (settings_of self.now)) }
     {
-        match value_at(&self.table, name) {
-            Some(value) => flag_of(value),
-            None => false,
-        }
+        value_at(&self.table, name).is_some_and(|value| matches!(value.as_bool(), Some(true)))
     }
 
     /// The strings of a setting's list; none where the file doesn't have it.
     pub fn texts(&self, alloc: Global, name: &str) -> Result<Vec<&str>, AllocError>
         ensures { IfOk result (λ v. map (λ s. s.now) v.items ≡ texts_at (get_member name.now (settings_of self.now))) }
     {
-        match value_at(&self.table, name) {
-            Some(value) => texts_of(alloc, value),
+        match value_at(&self.table, name).and_then(|value| value.as_array()) {
+            Some(values) => texts_in(alloc, values.as_slice()),
             None => Ok(Vec::new(alloc)),
         }
     }
@@ -144,16 +129,6 @@ fn value_at<'t>(table: &'t Table, key: &str) -> Option<&'t Value>
     ensures { option_map (λ v. view v.now) result ≡ get_member key.now (table_view table.now) }
 {
     table.get(key)
-}
-
-/// Whether a value is `true`.
-fn flag_of(value: &Value) -> bool
-    ensures { result ≡ is_true (as_bool (view value.now)) }
-{
-    match value.as_bool() {
-        Some(flag) => flag,
-        None => false,
-    }
 }
 
 /// The strings among values.
@@ -167,14 +142,4 @@ fn texts_in(alloc: Global, values: &[Value]) -> Result<Vec<&str>, AllocError>
         }
     }
     Ok(texts)
-}
-
-/// The strings of a value that is a list.
-fn texts_of(alloc: Global, value: &Value) -> Result<Vec<&str>, AllocError>
-    ensures { IfOk result (λ v. map (λ s. s.now) v.items ≡ texts_at (Some (view value.now))) }
-{
-    match value.as_array() {
-        Some(values) => texts_in(alloc, values.as_slice()),
-        None => Ok(Vec::new(alloc)),
-    }
 }

@@ -30,8 +30,7 @@ impl FileFault {
         match self {
             FileFault::Memory => None,
             FileFault::Syntax(line) => Some(line),
-            FileFault::Unknown(line) => line,
-            FileFault::Value(line) => line,
+            FileFault::Unknown(line) | FileFault::Value(line) => line,
         }
     }
 }

@@ -62,13 +62,11 @@ impl<C: Clock> Seconds for C {
     ghost reports = { λ _ _. ⊤ };
 
     fn seconds(&self) -> u64 {
-        match SystemTime::now(self) {
-            Ok(now) => match now.duration_since(SystemTime::UNIX_EPOCH) {
-                Ok(since) => since.as_secs(),
-                Err(_) => 0,
-            },
-            Err(_) => 0,
-        }
+        let Ok(now) = SystemTime::now(self) else {
+            return 0;
+        };
+        now.duration_since(SystemTime::UNIX_EPOCH)
+            .map_or(0, |since| since.as_secs())
     }
 }
 

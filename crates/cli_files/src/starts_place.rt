@@ -37,12 +37,8 @@ pub(crate) struct StartsFile<'a, F: Files> {
 /// The folder that a file is in.
 fn folder_of(path: &str) -> &str {
     match Path::new(path).parent() {
-        Some(folder) => if folder.as_os_str().is_empty() {
-            "."
-        } else {
-            folder.as_os_str()
-        },
-        None => ".",
+        Some(folder) if !folder.as_os_str().is_empty() => folder.as_os_str(),
+        _ => ".",
     }
 }
 
@@ -68,13 +64,8 @@ impl<F: Files> StartsPlace for StartsFile<'_, F> {
     fn read(&self, alloc: Global) -> Result<Option<Vec<u8>>, RaiseFault> {
         let mut file = match open_regular(self.files, self.path) {
             Ok(file) => file,
-            Err(error) => {
-                return if error.kind() == ErrorKind::NotFound {
-                    Ok(None)
-                } else {
-                    Err(RaiseFault::Unread)
-                };
-            }
+            Err(error) if error.kind() == ErrorKind::NotFound => return Ok(None),
+            Err(_) => return Err(RaiseFault::Unread),
         };
         match read_all(alloc, &mut file) {
             Ok(text) => Ok(Some(text)),
