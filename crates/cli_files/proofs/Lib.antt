@@ -1,2 +1,3 @@
 pub mod KeyLines
 mod StartsLines
+pub mod Newlines

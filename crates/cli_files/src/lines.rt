@@ -4,16 +4,11 @@ ghost use Rattle.std.specs.Prelude.{◌≡◌};
 ghost use Rattle.cli_files.specs.inner.Settings.{line_behind};
 
 /// The number of the line, from 1, that begins behind the last newline of a front of the text.
+#[tactic(auto, using(crate::proofs::Newlines::few))]
 pub(crate) fn line_behind(front: &[u8]) -> u64
     ensures { result ≡ line_behind front.now }
 {
-    let mut line = 1u64;
-    for byte in front {
-        if *byte == b'\n' {
-            line += 1;
-        }
-    }
-    line
+    front.iter().filter(|byte| **byte == b'\n').count() as u64 + 1
 }
 
 /// The number of the line, from 1, that has the byte behind that many others; that of the end past it.
