@@ -1,5 +1,5 @@
 -- The command-line arguments of the program, and what they ask for.
-use Rattle.std.specs.Prelude.{ℕ, Bool, true, false, ◌||◌, List, [], ◌∷◌, Option, Some, None}
+use Rattle.std.specs.Prelude.{Bool, true, false, ◌||◌, List, [], ◌∷◌, Option, Some, None}
 use Rattle.std.specs.Prelude.{codes, bytes_eq, option_map, unwrap_or, if◌then◌else◌}
 use Rattle.clap.specs.Words.{App, Row, Rule, Text, new_app, with_rule, with_subcommand, subcommand_of, all_of}
 use Rattle.clap.specs.Words.{first_of}
