@@ -26,7 +26,7 @@ fn text_of(alloc: Global, printed: &[Printed]) -> Result<String, AllocError>
     Ok(text)
 }
 
-/// Puts a mark for each line of a text behind the others: it is no refusal.
+/// Puts a mark for each of these lines behind the others: it is no refusal.
 fn push_unmarked(marks: &mut Vec<Option<u8>>, text: &str) -> Result<(), AllocError>
     ensures { OnOk result (marks.new.items ≡ marks.old.items ++ map (λ (l : ScriptLine). None) (lines text.now)) }
 {
