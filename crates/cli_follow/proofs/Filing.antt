@@ -98,7 +98,7 @@ written_left f (Some old) acts (Some new) h =
     let all = with_gone (files_of f.followed.configuration) old.written.items in
     elim h [
       | inl still ↦ rw still.1 ([], all, [], refl, NoFile)
-      | inr put ↦ (all, [], new.written.items, sym (append-nil all), put.2)
+      | inr put ↦ (all, [], new.written.items, sym (append-nil all), put.3)
     ]
 
 nothing_left : (f : Follower) (old : Option TextFiles) → FilesLeft f.followed.configuration old []
