@@ -14,7 +14,7 @@ const ASK_STAYS: &str = "The command isn't accepted, and the node goes on.";
 const STORE_STAYS: &str = "The node isn't started, and the store stays as it was.";
 
 /// Each refusal once, by number. `scripts/refusals` compares it with the list in pfx(8).
-pub static REFUSALS: [Explanation; 45] = [
+pub const REFUSALS: [Explanation; 44] = [
     Explanation {
         code: 1,
         name: "no number in an address",
@@ -177,13 +177,6 @@ pub static REFUSALS: [Explanation; 45] = [
         after: COMMAND_STAYS,
         remedy: "Divide the change: a ruleset into anchors, addresses into several\n         \
             commands.",
-    },
-    Explanation {
-        code: 42,
-        name: "no entry",
-        meaning: "bytes for a control socket, as an entry, that are none",
-        after: ASK_STAYS,
-        remedy: "Send changes by pfx ask, or their arguments to /v1/changes.",
     },
     Explanation {
         code: WAITING_FULL,
