@@ -1,6 +1,6 @@
 //! The calls of a node.
 
-ghost use Rattle.std.specs.Prelude.{◌≡◌, ◌≢◌, ◌⊎◌, ◌<◌, ◌≤◌, ◌+◌, ◌↔◌, true, false, Err, IfOk, OnOk, IsTrue, Some, []};
+ghost use Rattle.std.specs.Prelude.{◌≡◌, ◌≢◌, ◌⊎◌, ◌<◌, ◌≤◌, ◌+◌, ◌↔◌, true, false, Err, IfOk, OnOk, OnErr, IsTrue, Some, []};
 ghost use Rattle.std.specs.Prelude.{option_map, length, is_some, IsSome, IfSome};
 ghost use Rattle.pf_entry.specs.Owned.{is_over};
 ghost use Rattle.pf_eval.specs.Seen.{judgement_of};
@@ -117,6 +117,8 @@ impl<R: Records> Node<R> {
             result }
         ensures ignored { IfOk result (λ r. MatchReceived r (Unit {0})
             ((config_of self.new ≡ config_of self.old) × (applied_of self.new ≡ applied_of self.old))) }
+        ensures refused { OnErr result
+            ((config_of self.new ≡ config_of self.old) × (applied_of self.new ≡ applied_of self.old)) }
         ensures grows { applied_of self.old ≤ applied_of self.new }
     {
         match self.replica.receive(bytes, out) {
