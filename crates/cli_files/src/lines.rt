@@ -27,7 +27,7 @@ fn is_of_key(byte: u8) -> bool {
 }
 
 /// Whether the key is at this place, and ends there.
-fn stands_at(text: &[u8], at: usize, key: &[u8]) -> bool {
+fn is_key_at(text: &[u8], at: usize, key: &[u8]) -> bool {
     text.get(at..)
         .and_then(|rest| rest.strip_prefix(key))
         .is_some_and(|after| !after.first().is_some_and(|byte| is_of_key(*byte)))
@@ -37,7 +37,7 @@ fn stands_at(text: &[u8], at: usize, key: &[u8]) -> bool {
 pub(crate) fn line_of(text: &[u8], key: &str) -> Option<u64> {
     let mut is_start = true;
     for (at, byte) in text.iter().enumerate() {
-        if is_start && stands_at(text, at, key.as_bytes()) {
+        if is_start && is_key_at(text, at, key.as_bytes()) {
             return Some(line_at(text, at));
         }
         is_start = *byte == b'\n' || (is_start && may_precede(*byte));

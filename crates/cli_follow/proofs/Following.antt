@@ -22,7 +22,7 @@ use Rattle.cli_follow.specs.Following.{after_decoded, after_line, after_lines, A
 use Rattle.cli_follow.proofs.Texts.{line_of, IsWhole, whole_nothing, lines_more, whole_more}
 
 -- a string is whole lines, and leads from a configuration at a place of a log to the one at p
-record Stands (log : Log Bytes) (first : ℕ) (c : Configuration) (text : List ℕ) (p : ℕ) : Type 0 where
+record IsReachedBy (log : Log Bytes) (first : ℕ) (c : Configuration) (text : List ℕ) (p : ℕ) : Type 0 where
   whole : IsWhole text
   place : first + length (lines text) ≡ p
   configured : after log p ≡ Some (after_lines c text)
@@ -31,14 +31,14 @@ record Stands (log : Log Bytes) (first : ℕ) (c : Configuration) (text : List �
 abbrev Reaches : Log Bytes → ℕ → Configuration → List ℕ → Type 0
 Reaches log first c text = after log (first + length (lines text)) ≡ Some (after_lines c text)
 
-reached : (log : Log Bytes) (first : ℕ) (c : Configuration) (text : List ℕ) (p : ℕ) → Stands log first c text p →
+reached : (log : Log Bytes) (first : ℕ) (c : Configuration) (text : List ℕ) (p : ℕ) → IsReachedBy log first c text p →
     Reaches log first c text
 reached log first c text p s = ap (λ (k : ℕ). after log k) s.place ∙ s.configured
 
 -- one entry more
 more : (log : Log Bytes) (first : ℕ) (c : Configuration) (text : List ℕ) (p : ℕ) (e : node.Entry Bytes) →
-    IsBytes (spelled e) → log p ≡ Some e → Stands log first c text p →
-    Stands log first c (text ++ digits_line (Some (spelled e))) (p + 1)
+    IsBytes (spelled e) → log p ≡ Some e → IsReachedBy log first c text p →
+    IsReachedBy log first c (text ++ digits_line (Some (spelled e))) (p + 1)
 more log first c text p e h is s =
     let b = spelled e in
     let ls : lines (text ++ digits_line (Some b)) ≡ lines text ++ (line_of (encode_lower b) ∷ []) = lines_more text b h s.whole in
@@ -60,15 +60,15 @@ line_at log p e is = ap (λ (o : Option (node.Entry Bytes)). digits_line (option
 
 -- the lines of the places before an end
 steps : (log : Log Bytes) (first : ℕ) (c : Configuration) (end n : ℕ) (text : List ℕ) → AreBytes log → n ≤ end →
-    end ≤ front log → Stands log first c text (end - n) → Reaches log first c (entries_before log end n text)
+    end ≤ front log → IsReachedBy log first c text (end - n) → Reaches log first c (entries_before log end n text)
 steps log first c end zero text h within known s = reached log first c text (end - 0) s
 steps log first c end (suc n) text h within known s =
     let p : ℕ = end - suc n in
     let here = below_front log p (omega arith) in
     let next : p + 1 ≡ end - n = omega arith in
-    let on : Stands log first c (text ++ entry_line log p) (end - n) =
-    subst (λ (k : ℕ). Stands log first c (text ++ entry_line log p) k) next
-    (subst (λ (l : List ℕ). Stands log first c (text ++ l) (p + 1)) (line_at log p here.0 here.1)
+    let on : IsReachedBy log first c (text ++ entry_line log p) (end - n) =
+    subst (λ (k : ℕ). IsReachedBy log first c (text ++ entry_line log p) k) next
+    (subst (λ (l : List ℕ). IsReachedBy log first c (text ++ l) (p + 1)) (line_at log p here.0 here.1)
     (more log first c text p here.0 (h p here.0 here.1) here.1 s)) in
     elim (nat_lt (length text) 262144) as (λ q. Reaches log first c
     (if q then entries_before log end n (text ++ entry_line log p) else text)) [

@@ -31,14 +31,14 @@ put_if true folder name text acts put e h = absurd cc
 put_if false folder name text acts put e h = h
 
 -- it is there
-pub stands_there : (x : List Act → Type 0) (folder : List ℕ) (old : List TextFile) (name text : List ℕ) → list_any (is_there name text) old ≡ true → Acted x x (λ acts. PutsOnce folder old name text acts true)
-stands_there x folder old name text e = ([], (adds_nothing x, there_if (list_any (is_there name text) old) folder name text e))
+pub already_there : (x : List Act → Type 0) (folder : List ℕ) (old : List TextFile) (name text : List ℕ) → list_any (is_there name text) old ≡ true → Acted x x (λ acts. PutsOnce folder old name text acts true)
+already_there x folder old name text e = ([], (adds_nothing x, there_if (list_any (is_there name text) old) folder name text e))
 
 -- it isn't, and is put
-pub stands_put : {E : Type 0} (r : Result Bool E) (x y : List Act → Type 0) (folder : List ℕ) (old : List TextFile) (name text : List ℕ) → list_any (is_there name text) old ≡ false →
+pub put_there : {E : Type 0} (r : Result Bool E) (x y : List Act → Type 0) (folder : List ℕ) (old : List TextFile) (name text : List ℕ) → list_any (is_there name text) old ≡ false →
     IfOk r (λ put. Acted x y (λ acts. IsPut folder name text acts put)) → IfOk r (λ put. Acted x y (λ acts. PutsOnce folder old name text acts put))
-stands_put (Ok put) x y folder old name text e (acts, (adds, h)) = (acts, (adds, put_if (list_any (is_there name text) old) folder name text acts put e h))
-stands_put (Err fault) x y folder old name text e h = tt
+put_there (Ok put) x y folder old name text e (acts, (adds, h)) = (acts, (adds, put_if (list_any (is_there name text) old) folder name text acts put e h))
+put_there (Err fault) x y folder old name text e h = tt
 
 -- ---- one after the other
 
@@ -53,9 +53,9 @@ puts_none x folder old fs e = subst (λ (all : List TextFile). Acted x x (λ act
 pub puts_more : (x y z : List Act → Type 0) (folder : List ℕ) (old fs after : List TextFile) (f : TextFile) (name text : List ℕ) → name ≡ string_bytes f.name → text ≡ string_bytes f.text →
     after ≡ fs ++ f ∷ [] → Acted x y (λ acts. Puts folder old (map file_value fs) acts fs) → Acted y z (λ acts. PutsOnce folder old name text acts f.is_put) →
     Acted x z (λ acts. Puts folder old (map file_value after) acts after)
-puts_more x y z folder old fs after f name text n t pushed (acts, (p, puts)) (more, (q, stands)) =
+puts_more x y z folder old fs after f name text n t pushed (acts, (p, puts)) (more, (q, held)) =
     let here : PutsOnce folder old (string_bytes f.name) (string_bytes f.text) more f.is_put =
-    subst (λ (b : List ℕ). PutsOnce folder old (string_bytes f.name) b more f.is_put) t (subst (λ (b : List ℕ). PutsOnce folder old b text more f.is_put) n stands) in
+    subst (λ (b : List ℕ). PutsOnce folder old (string_bytes f.name) b more f.is_put) t (subst (λ (b : List ℕ). PutsOnce folder old b text more f.is_put) n held) in
     let all : Puts folder old (map file_value (fs ++ f ∷ [])) (acts ++ more) (fs ++ f ∷ []) =
     subst (λ (vs : List FileValue). Puts folder old vs (acts ++ more) (fs ++ f ∷ [])) (sym (map-append file_value fs (f ∷ []))) (File f more puts here) in
     (acts ++ more, (adds_more x y z acts more p q, subst (λ (all : List TextFile). Puts folder old (map file_value all) (acts ++ more) all) (sym pushed) all))

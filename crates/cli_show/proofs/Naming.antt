@@ -23,7 +23,7 @@ use Rattle.px_store.specs.Tables.{schema_3}
 use Rattle.px_store.specs.Seen.{shown, seen, meta_columns, floor_columns, number_in}
 use Rattle.px_store.specs.Formats.{trees_at}
 use Rattle.px_store.specs.Adopting.{Began, IsSame}
-use Rattle.px_store.specs.Judging.{is_owner, says_format, says_member, says_numbers, says_owner, are_floor_rows, row_refusal, refusal_of, reopen_refusal, has_rows}
+use Rattle.px_store.specs.Judging.{is_owner, has_format, names_member, has_numbers, has_owner, are_floor_rows, row_refusal, refusal_of, reopen_refusal, has_rows}
 use Rattle.px_store.specs.declared.calls.Identity.{Identity}
 use Rattle.px_store.specs.declared.fault.AdoptFault.{AdoptFault}
 use Rattle.px_store.specs.declared.fault.AdoptFault.TheVariants.{StoreVersion, BadStore, WrongNode}
@@ -107,9 +107,9 @@ never true true false is e = cc
 never true true true is e = cc
 
 judged : (x : Row) (floor : List Row) → row_refusal 3 (identity_in (shown owner_columns x)) floor (shown meta_columns x) ≡ Some WrongNode → ⊥
-judged x floor = never (says_format 3 (shown meta_columns x))
-    (says_member (shown meta_columns x) && says_numbers (shown meta_columns x) && are_floor_rows (number_in (column (shown meta_columns x) 3)) floor)
-    (says_owner (identity_in (shown owner_columns x)) (shown meta_columns x)) (owned (number_in (column x 3)) (number_in (column x 4)) (number_in (column x 5)))
+judged x floor = never (has_format 3 (shown meta_columns x))
+    (names_member (shown meta_columns x) && has_numbers (shown meta_columns x) && are_floor_rows (number_in (column (shown meta_columns x) 3)) floor)
+    (has_owner (identity_in (shown owner_columns x)) (shown meta_columns x)) (owned (number_in (column x 3)) (number_in (column x 4)) (number_in (column x 5)))
 
 -- the rows that there are, of which those with the key of the row for the whole node are judged
 abbrev refused_of : (id : Identity) → (rows floor : List Row) → (more : Bool) → Option AdoptFault

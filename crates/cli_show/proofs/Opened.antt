@@ -25,10 +25,10 @@ pub shows_record : {R : Type 0} {G : Ghosts R} (members : ℕ) (given back : R) 
     Shows (learned_by n) (applied_of n) (kept_of n) (config_of n) w s →
     (G.is_honest (records_of n) → HasBadEntry G given members → ⊥) →
     G.is_honest back → ShowsRecord G members given back w s
-shows_record {R} {G} members given back n w s was stands learned applied configured is shows good honest =
+shows_record {R} {G} members given back n w s was began_so learned applied configured is shows good honest =
     let own : G.is_honest (records_of n) = subst G.is_honest is honest in
     let log : learned_by n ≡ (G.stored given).learned = learned own in
-    let same : G.stored (records_of n) ≡ G.stored given = ap (λ (x : NodeState Bytes). x.stored) (stands own) in
+    let same : G.stored (records_of n) ≡ G.stored given = ap (λ (x : NodeState Bytes). x.stored) (began_so own) in
     let end : applied_of n ≡ front (G.stored given).learned = applied ∙ ap front log in
     let first = ap (λ (k : ℕ). after (G.stored given).learned k) (sym end) in
     let second = ap (λ (x : Log Bytes). after x (applied_of n)) (sym log) in
@@ -51,11 +51,11 @@ pub not_shown : {R : Type 0} {G : Ghosts R} (members : ℕ) (given back : R) (n 
     (G.is_honest (records_of n) → state_in n ≡ started (G.stored given)) →
     back ≡ records_of n →
     IsRefused G members given fault.Memory back
-not_shown {R} {G} members given back n was stands is =
+not_shown {R} {G} members given back n was began_so is =
     inl (record {
       memory = refl;
       was = λ honest. was (subst G.is_honest is honest);
-      same = λ honest. ap G.stored is ∙ ap (λ (x : NodeState Bytes). x.stored) (stands (subst G.is_honest is honest));
+      same = λ honest. ap G.stored is ∙ ap (λ (x : NodeState Bytes). x.stored) (began_so (subst G.is_honest is honest));
     })
 
 -- it was honest if it is, and what the next open may find is what it could find before

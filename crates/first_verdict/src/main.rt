@@ -48,7 +48,7 @@ fn loaded(alloc: Global, rules: Ruleset) -> Result<Config, Fault> {
 }
 
 /// Writes the rules as they are understood.
-fn tell_rules(rt: &HostRuntime, rules: &Ruleset) -> Result<(), Fault> {
+fn report_rules(rt: &HostRuntime, rules: &Ruleset) -> Result<(), Fault> {
     let Ok(text) = show(rt.alloc(), rules) else {
         return Err(Fault::Failed);
     };
@@ -59,7 +59,7 @@ fn tell_rules(rt: &HostRuntime, rules: &Ruleset) -> Result<(), Fault> {
 }
 
 /// Writes the verdict for the packet that an argument spells.
-fn tell_verdict(rt: &HostRuntime, config: &Config, word: &str) -> Result<(), Fault> {
+fn report_verdict(rt: &HostRuntime, config: &Config, word: &str) -> Result<(), Fault> {
     let packet = match parse_packet(rt.alloc(), word) {
         Ok(packet) => packet,
         Err(PacketFault::BadPacket) => return Err(Fault::Refused(NO_PACKET)),
@@ -88,11 +88,11 @@ fn run(rt: &HostRuntime) -> Result<(), Fault> {
     };
     let rules = rules_of(rt.alloc(), text.as_bytes())?;
     if words.len() < 2 {
-        return tell_rules(rt, &rules);
+        return report_rules(rt, &rules);
     }
     let config = loaded(rt.alloc(), rules)?;
     for word in words.iter().skip(1) {
-        tell_verdict(rt, &config, word.as_str())?;
+        report_verdict(rt, &config, word.as_str())?;
     }
     Ok(())
 }

@@ -18,7 +18,7 @@ use Rattle.nft_rules.specs.Subset.{Source, Destination, Decision, Base, NftRules
 use Rattle.nft_rules.specs.Evaluation.{run}
 use Rattle.nft_rules.specs.Rendering.{Machine}
 use Rattle.nft_rules.specs.Deciding.{DecidesAs, DecidesBehindGuard}
-use Rattle.nft_rules.specs.Guard.{Member, HookPacket, is_home, is_end, has_family, is_members, is_neighbour, says_too_big, says_neighbour, GuardMatch, AtMember, AtHome, OfUdp, IsLater, IsTooBig, IsNeighbour, guard_holds, family_rules, link_rules, guard_of, is_passed, let_through, at_hook, hook_of, GuardPasses}
+use Rattle.nft_rules.specs.Guard.{Member, HookPacket, is_home, is_end, has_family, is_members, is_neighbour, reports_too_big, is_neighbour_discovery, GuardMatch, AtMember, AtHome, OfUdp, IsLater, IsTooBig, IsNeighbour, guard_holds, family_rules, link_rules, guard_of, is_passed, let_through, at_hook, hook_of, GuardPasses}
 
 -- ---- tests
 
@@ -82,14 +82,14 @@ abbrev of_family_all : Family → List Member → HookPacket → Bool
 of_family_all f ms h =
     datagrams f ms h.packet.source h.packet.destination (h.packet.protocol == 17) h.packet.source_port h.packet.destination_port
     || (fragments f ms h.packet.source h.packet.destination (h.packet.protocol == 17) h.is_later
-    || too_bigs f ms h.packet.destination (says_too_big f h))
+    || too_bigs f ms h.packet.destination (reports_too_big f h))
 
 of_family_rules : (f : Family) (ms : List Member) (h : HookPacket) →
     list_any (list_all (guard_holds h)) (family_rules f ms) ≡ (has_family f ms && of_family_all f ms h)
 of_family_rules f ms h =
     let d = datagrams f ms h.packet.source h.packet.destination (h.packet.protocol == 17) h.packet.source_port h.packet.destination_port in
     let g = fragments f ms h.packet.source h.packet.destination (h.packet.protocol == 17) h.is_later in
-    let t = too_bigs f ms h.packet.destination (says_too_big f h) in
+    let t = too_bigs f ms h.packet.destination (reports_too_big f h) in
     elim (has_family f ms) as (λ v. list_any (list_all (guard_holds h)) (if v then (AtMember Source f ms ∷ AtMember Destination f ms ∷ [])
     ∷ (IsLater f ∷ OfUdp ∷ AtHome Source f ms ∷ AtHome Destination f ms ∷ []) ∷ (IsTooBig f ∷ AtHome Destination f ms ∷ []) ∷ [] else []) ≡ (v && (d || (g || t)))) [
       | true ↦ ap (λ v. d || (g || v)) (or_false t)
@@ -98,8 +98,8 @@ of_family_rules f ms h =
 
 of_link_rules : (ms : List Member) (h : HookPacket) → list_any (list_all (guard_holds h)) (link_rules ms) ≡ is_neighbour ms h
 of_link_rules ms h =
-    elim (has_family Inet6 ms) as (λ v. list_any (list_all (guard_holds h)) (if v then (IsNeighbour ∷ []) ∷ [] else []) ≡ (v && says_neighbour h)) [
-      | true ↦ or_false (says_neighbour h && true) ∙ and_true (says_neighbour h)
+    elim (has_family Inet6 ms) as (λ v. list_any (list_all (guard_holds h)) (if v then (IsNeighbour ∷ []) ∷ [] else []) ≡ (v && is_neighbour_discovery h)) [
+      | true ↦ or_false (is_neighbour_discovery h && true) ∙ and_true (is_neighbour_discovery h)
       | false ↦ refl
     ]
 
@@ -184,7 +184,7 @@ families ms (V6 s) (V4 d) p l t4 t6 sp dp =
     ∙ or_false (of_ends Inet ms (V6 s) (V4 d) p l t4 sp dp)
     ∙ to_home (has_family Inet ms) (is_home ms (V4 d)) t4 (no_home Inet (V4 d) ms refl)
 
-too_big_to : (d : Addr) (h : HookPacket) → of_family_of d (says_too_big Inet h) (says_too_big Inet6 h) ≡ says_too_big (family_of d) h
+too_big_to : (d : Addr) (h : HookPacket) → of_family_of d (reports_too_big Inet h) (reports_too_big Inet6 h) ≡ reports_too_big (family_of d) h
 too_big_to (V4 a) h = refl
 too_big_to (V6 a) h = refl
 
@@ -203,7 +203,7 @@ passes_members ms h =
     ∙ ap (λ v. (v || six) || link) (of_family_rules Inet ms h)
     ∙ ap (λ v. ((has_family Inet ms && of_family_all Inet ms h) || v) || link) (of_family_rules Inet6 ms h)
     ∙ ap (λ v. ((has_family Inet ms && of_family_all Inet ms h) || (has_family Inet6 ms && of_family_all Inet6 ms h)) || v) (of_link_rules ms h)
-    ∙ ap (λ v. v || is_neighbour ms h) (families ms h.packet.source h.packet.destination (h.packet.protocol == 17) h.is_later (says_too_big Inet h) (says_too_big Inet6 h) h.packet.source_port h.packet.destination_port)
+    ∙ ap (λ v. v || is_neighbour ms h) (families ms h.packet.source h.packet.destination (h.packet.protocol == 17) h.is_later (reports_too_big Inet h) (reports_too_big Inet6 h) h.packet.source_port h.packet.destination_port)
     ∙ ap (λ v. ((((udp && if_there (is_end ms h.packet.source) h.packet.source_port) && if_there (is_end ms h.packet.destination) h.packet.destination_port)
     || (((udp && h.is_later) && is_home ms h.packet.source) && is_home ms h.packet.destination))
     || (v && is_home ms h.packet.destination)) || is_neighbour ms h) (too_big_to h.packet.destination h)

@@ -66,23 +66,23 @@ abbrev pub is_fragment : List Member → HookPacket → Bool
 is_fragment ms h = is_udp h.packet && h.is_later && is_home ms h.packet.source && is_home ms h.packet.destination
 
 -- it reports that a packet was too big: in IPv4 that it would have to be fragmented (RFC 792; RFC 4443, 3.2)
-abbrev pub says_too_big : Family → HookPacket → Bool
-says_too_big Inet h = if_there (λ n. n == 3) h.packet.icmp_type && if_there (λ n. n == 4) h.icmp_code
-says_too_big Inet6 h = if_there (λ n. n == 2) h.icmp6_type
+abbrev pub reports_too_big : Family → HookPacket → Bool
+reports_too_big Inet h = if_there (λ n. n == 3) h.packet.icmp_type && if_there (λ n. n == 4) h.icmp_code
+reports_too_big Inet6 h = if_there (λ n. n == 2) h.icmp6_type
 
 -- the same to a member
 -- Source: RFC 792, 4443.
 abbrev pub is_too_big : List Member → HookPacket → Bool
-is_too_big ms h = says_too_big (family_of h.packet.destination) h && is_home ms h.packet.destination
+is_too_big ms h = reports_too_big (family_of h.packet.destination) h && is_home ms h.packet.destination
 
 -- a neighbour solicitation or advertisement from the link itself, since a router would have lowered its hop limit
 -- (RFC 4861, 4.3, 4.4, 7.1)
-abbrev pub says_neighbour : HookPacket → Bool
-says_neighbour h = if_there (λ n. n == 135 || n == 136) h.icmp6_type && if_there (λ n. n == 255) h.hop_limit
+abbrev pub is_neighbour_discovery : HookPacket → Bool
+is_neighbour_discovery h = if_there (λ n. n == 135 || n == 136) h.icmp6_type && if_there (λ n. n == 255) h.hop_limit
 
 -- the same where a member has an IPv6 address
 abbrev pub is_neighbour : List Member → HookPacket → Bool
-is_neighbour ms h = has_family Inet6 ms && says_neighbour h
+is_neighbour ms h = has_family Inet6 ms && is_neighbour_discovery h
 
 -- one of these four
 abbrev pub is_members : List Member → HookPacket → Bool
@@ -113,8 +113,8 @@ guard_holds h (AtMember side f ms) =
 guard_holds h (AtHome side f ms) = of_family (address_at side h.packet) f && is_home ms (address_at side h.packet)
 guard_holds h OfUdp = h.packet.protocol == 17
 guard_holds h (IsLater f) = of_family h.packet.source f && h.is_later
-guard_holds h (IsTooBig f) = says_too_big f h
-guard_holds h IsNeighbour = says_neighbour h
+guard_holds h (IsTooBig f) = reports_too_big f h
+guard_holds h IsNeighbour = is_neighbour_discovery h
 
 -- a rule of the guard accepts packets of which all this holds
 abbrev pub GuardRule : Type 0

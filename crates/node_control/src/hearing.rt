@@ -3,7 +3,7 @@
 ghost use Rattle.std.specs.Prelude.{◌≡◌, ◌||◌};
 ghost use Rattle.node_control.specs.Observers.{unheard};
 ghost use Rattle.node_control.specs.inner.Hearing.{after_round, all_heard, count_heard, heard_by, is_within, judged};
-ghost use Rattle.node_control.specs.inner.Hearing.{said_at, says_caught_up, says_end, with_end, with_lack};
+ghost use Rattle.node_control.specs.inner.Hearing.{said_at, logs_caught_up, logs_end, with_end, with_lack};
 
 use node_loop::RoundCounts;
 use px_wire::{Head, Membership};
@@ -149,7 +149,7 @@ impl Hearing {
 
     /// Whether it is to be written that a member's message is of a position near the end of the log, which is noted.
     fn nears_end(&mut self, head: &Head) -> bool
-        ensures said { result ≡ says_end head.now self.old }
+        ensures said { result ≡ logs_end head.now self.old }
         ensures noted { self.new ≡ with_end head.now self.old }
     {
         if head.from == self.m.me() || head.from >= self.m.members() || self.is_ending {
@@ -215,7 +215,7 @@ impl Hearing {
     /// Whether it is to be written that the node has caught up, since it lacked for long what others have. Since when
     /// it lacks that is noted.
     fn catches_up(&mut self, is_lacking: bool, now: u64) -> bool
-        ensures said { result ≡ says_caught_up is_lacking now self.old.lacking self.old.is_quiet }
+        ensures said { result ≡ logs_caught_up is_lacking now self.old.lacking self.old.is_quiet }
         ensures noted { self.new ≡ with_lack is_lacking now self.old }
     {
         let Some(since) = self.lacking else {

@@ -9,7 +9,7 @@ ghost use Rattle.node_requests.specs.Answers.{answer_value};
 ghost use Rattle.node_requests.specs.Routing.{routed_value};
 ghost use Rattle.node_control.specs.inner.Answering.{node_fields, answer_fields, content_type};
 ghost use Rattle.node_control.specs.inner.Asking.{accepts_json, asked_for, is_of_figures};
-ghost use Rattle.node_control.specs.inner.Handling.{Says, IsAnswered, IsKept, IsTurnedAway, IsPassedOn, HandledAs};
+ghost use Rattle.node_control.specs.inner.Handling.{Carries, IsAnswered, IsKept, IsTurnedAway, IsPassedOn, HandledAs};
 ghost use Rattle.node_control.specs.inner.Handling.{AnswersRequest, IsHandled, counted_as};
 ghost use Rattle.node_control.specs.inner.Handling.{is_served, is_urgent, is_change, is_read};
 ghost use Rattle.node_control.specs.inner.Handling.{waiting, no_text, not_found};
@@ -241,7 +241,7 @@ impl<R: Records> HttpService<R> {
     /// Writes an answer; when out of memory it is 503 alone, since what was asked may be done.
     fn write(&self, answer: &Answer, kind: &str, response: &mut Response)
         requires { IsBlank response.old }
-        ensures says { Says response.new (answer_value answer.now) }
+        ensures carries { Carries response.new (answer_value answer.now) }
         ensures fields { (fields_of response.new ≡ answer_fields self.now.handler.node answer.now.code kind.now)
             ⊎ (fields_of response.new ≡ []) }
     {

@@ -56,16 +56,16 @@ pub hosted_asked : {R : Type 0} {G : Ghosts R} (n : ℕ) (x : LoopState G) (t : 
 hosted_asked n x t a = record { steps = n; then = record x { replica = t }; made = asked_steps n x t a; last = refl }
 
 -- the wire and the buffers are as they were
-stand_is : {R : Type 0} {G : Ghosts R} (y z : LoopState G) → z.traffic ≡ y.traffic → z.kept ≡ y.kept →
+unchanged : {R : Type 0} {G : Ghosts R} (y z : LoopState G) → z.traffic ≡ y.traffic → z.kept ≡ y.kept →
     z.requests ≡ y.requests → z.hears_asks ≡ y.hears_asks → z ≡ record y { replica = z.replica }
-stand_is y z t k q e =
+unchanged y z t k q e =
     same_is (record y { replica = z.replica }) z (record { replica = refl; traffic = t; kept = k; requests = q; hears = e })
 
 -- and then asks, with a wire and buffers that are left alone
 pub hosted_on : {R : Type 0} {G : Ghosts R} (x y z : LoopState G) (n : ℕ) → Hosted x y None → AskedTimes n y.replica z.replica →
     z.traffic ≡ y.traffic → z.kept ≡ y.kept → z.requests ≡ y.requests → z.hears_asks ≡ y.hears_asks → Hosted x z None
 hosted_on {R} {G} x y z n a b t k q e =
-    subst (λ (w : LoopState G). Hosted x w None) (sym (stand_is y z t k q e))
+    subst (λ (w : LoopState G). Hosted x w None) (sym (unchanged y z t k q e))
     (hosted_then x y (record y { replica = z.replica }) None a (hosted_asked n y z.replica b))
 
 once_before : {R : Type 0} {G : Ghosts R} (s t : Replica R G) → AskedOnce s t → G.is_honest (records_of t) → G.is_honest (records_of s)

@@ -166,8 +166,8 @@ digit_graphic : (b : ℕ) → IsDigit b → is_ascii_graphic b ≡ true
 digit_graphic b digit = grind (arith, nat_tests)
 
 all_graphic : (P : ℕ → Type 0) → ((b : ℕ) → P b → is_ascii_graphic b ≡ true) → (text : List ℕ) → AllByRecursion P text → list_all is_ascii_graphic text ≡ true
-all_graphic P tells [] plain = refl
-all_graphic P tells (b ∷ text) plain = rw (tells b plain.0, all_graphic P tells text plain.1) refl
+all_graphic P each [] plain = refl
+all_graphic P each (b ∷ text) plain = rw (each b plain.0, all_graphic P each text plain.1) refl
 
 port_graphic : (port : ℕ) → port ≤ 65535 → list_all is_ascii_graphic (decimal port) ≡ true
 port_graphic port few = all_graphic IsDigit digit_graphic (decimal port) (digits_decimal model port (omega (arith, few)))

@@ -22,7 +22,7 @@ use Rattle.pf_config.specs.inner.TableChanges.{edited_in, Takes, Changing, OwnCh
 use Rattle.pf_config.proofs.Treed.{child_is, at_own, none_below, own_rules, own_tables}
 use Rattle.pf_config.proofs.Entries.{own_placed, main_placed}
 use Rattle.pf_config.proofs.KidHalves.{kids_in_order}
-use Rattle.pf_config.proofs.KidPlaces.{PutBack, stands, parted, listed, found_names, left_whole, put_in, around, back_kids, back_placed}
+use Rattle.pf_config.proofs.KidPlaces.{PutBack, stored_at, parted, listed, found_names, left_whole, put_in, around, back_kids, back_placed}
 use Rattle.pf_config.proofs.Descents.{main_down, found_at, nothing_found, own_at}
 
 -- ---- at the anchor's own path
@@ -93,7 +93,7 @@ got_shared (j ∷ ks) (suc at) k n g = got_shared ks at k (omega (arith, n)) g
 -- the anchor of a name gets another value
 kid_set : {Z : Type 0} (n : Name) (at : ℕ) (ks : List (Rc AnchorTree Z)) (k x : Rc AnchorTree Z) → AreInOrder (shared ks) → at ≡ length (kids_before n (shared ks)) → at < length ks → k ≡ get_or ks at k → is_some (find (is_named n) (shared ks)) ≡ true → (find (is_named n) (shared ks) ≡ Some k.value) × (shared (set ks at x) ≡ kids_before n (shared ks) ++ x.value ∷ kids_behind n (shared ks))
 kid_set n at ks k x s e w g h =
-    let there = stands n at (shared ks) s e in
+    let there = stored_at n at (shared ks) s e in
     let d = got_shared ks at k w g in
     (elim (is_named n k.value) as (λ b. is_named n k.value ≡ b → (find (is_named n) (shared ks) ≡ Some k.value) × (shared (set ks at x) ≡ kids_before n (shared ks) ++ x.value ∷ kids_behind n (shared ks))) [
       | true ↦ λ m.

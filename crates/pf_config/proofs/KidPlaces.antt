@@ -134,14 +134,14 @@ behind_not_named n (j ∷ ks) k rest h =
     ]) refl h
 
 -- what stands where the name has its place
-pub record Stands (n : Name) (at : ℕ) (ks : List AnchorTree) : Type 0 where
+pub record Placed (n : Name) (at : ℕ) (ks : List AnchorTree) : Type 0 where
   pub front : take at ks ≡ kids_before n ks
   pub here : (k : AnchorTree) (rest : List AnchorTree) → drop at ks ≡ k ∷ rest → is_named n k ≡ true → (find (is_named n) ks ≡ Some k) × (rest ≡ kids_behind n ks)
   pub none : drop at ks ≡ [] → (find (is_named n) ks ≡ None) × (ks ≡ kids_before n ks ++ kids_behind n ks)
   pub other : (k : AnchorTree) (rest : List AnchorTree) → drop at ks ≡ k ∷ rest → is_named n k ≡ false → (find (is_named n) ks ≡ None) × (ks ≡ kids_before n ks ++ kids_behind n ks)
 
-pub stands : (n : Name) (at : ℕ) (ks : List AnchorTree) → AreInOrder ks → at ≡ length (kids_before n ks) → Stands n at ks
-stands n at ks s e = go (find (is_named n) ks) refl
+pub stored_at : (n : Name) (at : ℕ) (ks : List AnchorTree) → AreInOrder ks → at ≡ length (kids_before n ks) → Placed n at ks
+stored_at n at ks s e = go (find (is_named n) ks) refl
   where
     before : List AnchorTree
     before = kids_before n ks
@@ -149,7 +149,7 @@ stands n at ks s e = go (find (is_named n) ks) refl
     behind : List AnchorTree
     behind = kids_behind n ks
 
-    go : (o : Option AnchorTree) → find (is_named n) ks ≡ o → Stands n at ks
+    go : (o : Option AnchorTree) → find (is_named n) ks ≡ o → Placed n at ks
     go None f =
         let whole : before ++ behind ≡ ks = ap (λ r. before ++ (listed r ++ behind)) (sym f) ∙ parted n ks s in
         let tail : drop at ks ≡ behind = ap (λ r. drop at r) (sym whole) ∙ ap (λ i. drop i (before ++ behind)) e ∙ drop-append_seam before behind in
@@ -182,17 +182,17 @@ got_some {X} (x ∷ xs) zero k h = let s : x ≡ k = cc in ap (λ (y : X). y ∷
 got_some (x ∷ xs) (suc i) k h = got_some xs i k h
 
 -- whether it is there is seen at its place
-pub stands_some : {Z : Type 0} (n : Name) (at : ℕ) (ks : List (Rc AnchorTree Z)) (k : Rc AnchorTree Z) → AreInOrder (shared ks) → at ≡ length (kids_before n (shared ks)) → slice_get ks at ≡ Some k → is_named n k.value ≡ is_some (find (is_named n) (shared ks))
-stands_some n at ks k s e g =
-    let there = stands n at (shared ks) s e in
+pub some_placed : {Z : Type 0} (n : Name) (at : ℕ) (ks : List (Rc AnchorTree Z)) (k : Rc AnchorTree Z) → AreInOrder (shared ks) → at ≡ length (kids_before n (shared ks)) → slice_get ks at ≡ Some k → is_named n k.value ≡ is_some (find (is_named n) (shared ks))
+some_placed n at ks k s e g =
+    let there = stored_at n at (shared ks) s e in
     let d : drop at (shared ks) ≡ k.value ∷ shared (drop (suc at) ks) = drop-map (λ k. k.value) at ks ∙ ap shared (got_some ks at k g) in
     (elim (is_named n k.value) as (λ b. is_named n k.value ≡ b → b ≡ is_some (find (is_named n) (shared ks))) [
       | true ↦ λ t. sym (ap is_some (there.here k.value (shared (drop (suc at) ks)) d t).0)
       | false ↦ λ t. sym (ap is_some (there.other k.value (shared (drop (suc at) ks)) d t).0)
     ]) refl
 
-pub stands_none : {Z : Type 0} (n : Name) (at : ℕ) (ks : List (Rc AnchorTree Z)) → AreInOrder (shared ks) → at ≡ length (kids_before n (shared ks)) → slice_get ks at ≡ None → false ≡ is_some (find (is_named n) (shared ks))
-stands_none n at ks s e g = sym (ap is_some ((stands n at (shared ks) s e).none (drop-map (λ k. k.value) at ks ∙ ap shared (got_none ks at g))).0)
+pub none_placed : {Z : Type 0} (n : Name) (at : ℕ) (ks : List (Rc AnchorTree Z)) → AreInOrder (shared ks) → at ≡ length (kids_before n (shared ks)) → slice_get ks at ≡ None → false ≡ is_some (find (is_named n) (shared ks))
+none_placed n at ks s e g = sym (ap is_some ((stored_at n at (shared ks) s e).none (drop-map (λ k. k.value) at ks ∙ ap shared (got_none ks at g))).0)
 
 -- where it isn't there, nothing is taken out
 pub left_whole : (n : Name) (ks : List AnchorTree) → AreInOrder ks → is_some (find (is_named n) ks) ≡ false → (find (is_named n) ks ≡ None) × (ks ≡ kids_before n ks ++ kids_behind n ks)
@@ -217,7 +217,7 @@ has_place n at ks s e h = go (find (is_named n) (shared ks)) refl h
 -- it is taken out, and the others close up
 pub removed_at : {Z : Type 0} (n : Name) (at : ℕ) (ks rest : List (Rc AnchorTree Z)) (k : Rc AnchorTree Z) → AreInOrder (shared ks) → at ≡ length (kids_before n (shared ks)) → is_some (find (is_named n) (shared ks)) ≡ true → drop at ks ≡ k ∷ rest → (Some k.value ≡ find (is_named n) (shared ks)) × (shared (take at ks ++ rest) ≡ kids_before n (shared ks) ++ kids_behind n (shared ks))
 removed_at {Z} n at ks rest k s e h c =
-    let there = stands n at (shared ks) s e in
+    let there = stored_at n at (shared ks) s e in
     let d : drop at (shared ks) ≡ k.value ∷ shared rest = drop-map (λ k. k.value) at ks ∙ ap shared c in
     (elim (is_named n k.value) as (λ b. is_named n k.value ≡ b → (Some k.value ≡ find (is_named n) (shared ks)) × (shared (take at ks ++ rest) ≡ kids_before n (shared ks) ++ kids_behind n (shared ks))) [
       | true ↦ λ t.

@@ -18,7 +18,7 @@ use Rattle.pf_tables.specs.Tables.{TableValue}
 use Rattle.pf_config.specs.Map.{named}
 use Rattle.pf_config.specs.Changes.{with_table, with_contents, tables_before, tables_behind}
 use Rattle.pf_config.specs.Ordered.{AreOrdered}
-use Rattle.pf_config.specs.inner.TableChanges.{has_room, edited_table, edited_in, IsTableIf, Takes, ChangesIf, StandsAt, BelongsAt}
+use Rattle.pf_config.specs.inner.TableChanges.{has_room, edited_table, edited_in, IsTableIf, Takes, ChangesIf, IsStoredAt, BelongsAt}
 use Rattle.pf_config.proofs.Treed.{both_true, append_nil, is_less, name_chain, before_other, never}
 use Rattle.pf_config.proofs.Ordered.{above, back, none_before, all_behind, named_append, none_above, put, with_is_put, found_here, ordered_with, turned}
 
@@ -90,7 +90,7 @@ kept (u ∷ ts) zero t v w g c = ap (λ (x : TableValue). (t.0, x) ∷ ts) c ∙
 kept (u ∷ ts) (suc at) t v w g c = ap (λ (us : List (Name × TableValue)). u ∷ us) (kept ts at t v (omega (arith, w)) g c)
 
 -- a table takes the place of the one of its name
-pub put_there : (ts : List (Name × TableValue)) (n : Name) (at : ℕ) (t : Name × TableValue) (own v : TableValue) → AreOrdered ts → StandsAt ts n at → t ≡ get_or ts at t → own ≡ v → AreOrdered (set ts at (t.0, own)) × (set ts at (t.0, own) ≡ with_table ts n v)
+pub put_there : (ts : List (Name × TableValue)) (n : Name) (at : ℕ) (t : Name × TableValue) (own v : TableValue) → AreOrdered ts → IsStoredAt ts n at → t ≡ get_or ts at t → own ≡ v → AreOrdered (set ts at (t.0, own)) × (set ts at (t.0, own) ≡ with_table ts n v)
 put_there ts n at t own v s b g e =
     let put = replaced ts n own at t s b.within g (b.is t g) ∙ ap (with_table ts n) e in
     (subst AreOrdered (sym put) (ordered_with ts n v s), put)
@@ -102,7 +102,7 @@ put_new ts n key at own v s b k e =
     (subst AreOrdered (sym put) (ordered_with ts n v s), put)
 
 -- an entry of the table of a name is edited
-pub edit_among : {X : Type 0} (res : Result Bool X) (edit : Edit) (e : TableEntry) (ts : List (Name × TableValue)) (n : Name) (at : ℕ) (t : Name × TableValue) (v : TableValue) → AreOrdered ts → StandsAt ts n at → t ≡ get_or ts at t → MatchResult res (λ done. IsTableIf done (edited_table edit e t.1) t.1 v) (λ x. v ≡ t.1) →
+pub edit_among : {X : Type 0} (res : Result Bool X) (edit : Edit) (e : TableEntry) (ts : List (Name × TableValue)) (n : Name) (at : ℕ) (t : Name × TableValue) (v : TableValue) → AreOrdered ts → IsStoredAt ts n at → t ≡ get_or ts at t → MatchResult res (λ done. IsTableIf done (edited_table edit e t.1) t.1 v) (λ x. v ≡ t.1) →
     AreOrdered (set ts at (t.0, v)) × MatchResult res (λ done. ChangesIf done (edited_in edit e (named n ts)) n ts (set ts at (t.0, v))) (λ x. set ts at (t.0, v) ≡ ts)
 edit_among (Err x) edit e ts n at t v s b g c = let same = kept ts at t v b.within g c in (subst AreOrdered (sym same) s, same)
 edit_among (Ok false) edit e ts n at t v s b g c = let same = kept ts at t v b.within g c in (subst AreOrdered (sym same) s, same)
@@ -133,7 +133,7 @@ rises n (t ∷ ts) s zero (suc j) d h k = steps_up t.0 (get_or ts j d).0 n (abov
 rises n (t ∷ ts) s (suc i) zero d h k = absurd (omega (arith, h))
 rises n (t ∷ ts) s (suc i) (suc j) d h k = rises n ts s.1 i j d (omega (arith, h)) (omega (arith, k))
 
-pub place_is : (ts : List (Name × TableValue)) (n : Name) (r : Result ℕ ℕ) → AreOrdered ts → IsSearchInRange r (length ts) → IsBinarySearchResult (λ (t : Name × TableValue). slice_cmp nat_cmp t.0 n) ts r → MatchResult r (λ at. StandsAt ts n at) (λ at. BelongsAt ts n at)
+pub place_is : (ts : List (Name × TableValue)) (n : Name) (r : Result ℕ ℕ) → AreOrdered ts → IsSearchInRange r (length ts) → IsBinarySearchResult (λ (t : Name × TableValue). slice_cmp nat_cmp t.0 n) ts r → MatchResult r (λ at. IsStoredAt ts n at) (λ at. BelongsAt ts n at)
 place_is ts n (Ok at) s w h = record { within = w; is = λ t g. exact_bytes t.0 n (subst (λ (x : Name × TableValue). slice_cmp nat_cmp x.0 n ≡ Equal) (sym g) (h t)) }
 place_is ts n (Err at) s w h =
     let sides = h (rises n ts s) in

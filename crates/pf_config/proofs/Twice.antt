@@ -82,18 +82,18 @@ none_behind p (a ∷ es) =
       | false ↦ λ h. none_behind p es
     ]) refl
 
-stands : (p : Path) (rules : List AnyRule) (tables : List (Name × TableValue)) (es : List AnchorValue) → anchor_at p (with_anchor (record { path = p; rules = rules; tables = tables }) es) ≡ (if is_empty rules && is_empty tables then None else Some (record { path = p; rules = rules; tables = tables }))
+stored_at : (p : Path) (rules : List AnyRule) (tables : List (Name × TableValue)) (es : List AnchorValue) → anchor_at p (with_anchor (record { path = p; rules = rules; tables = tables }) es) ≡ (if is_empty rules && is_empty tables then None else Some (record { path = p; rules = rules; tables = tables }))
 unfolding with_anchor
-stands p rules tables es =
+stored_at p rules tables es =
     ap (anchor_at p) (append_assoc (anchors_before p es) (own_entry p rules tables) (anchors_behind p es))
     ∙ at_append p (anchors_before p es) (own_entry p rules tables ++ anchors_behind p es) (none_before p es)
     ∙ at_own p rules tables (anchors_behind p es) (none_behind p es)
 
-rules_stand : (p : Path) (rules : List AnyRule) (tables : List (Name × TableValue)) (es : List AnchorValue) → rules_in (anchor_at p (with_anchor (record { path = p; rules = rules; tables = tables }) es)) ≡ rules
-rules_stand p rules tables es = ap rules_in (stands p rules tables es) ∙ (elim (is_empty rules && is_empty tables) as (λ b. is_empty rules && is_empty tables ≡ b → rules_in (if b then None else Some (record { path = p; rules = rules; tables = tables })) ≡ rules) [ true ↦ λ e. sym (empty_is rules (both_true (is_empty rules) (is_empty tables) e).0) | false ↦ λ e. refl ]) refl
+rules_stored : (p : Path) (rules : List AnyRule) (tables : List (Name × TableValue)) (es : List AnchorValue) → rules_in (anchor_at p (with_anchor (record { path = p; rules = rules; tables = tables }) es)) ≡ rules
+rules_stored p rules tables es = ap rules_in (stored_at p rules tables es) ∙ (elim (is_empty rules && is_empty tables) as (λ b. is_empty rules && is_empty tables ≡ b → rules_in (if b then None else Some (record { path = p; rules = rules; tables = tables })) ≡ rules) [ true ↦ λ e. sym (empty_is rules (both_true (is_empty rules) (is_empty tables) e).0) | false ↦ λ e. refl ]) refl
 
-tables_stand : (p : Path) (rules : List AnyRule) (tables : List (Name × TableValue)) (es : List AnchorValue) → tables_in (anchor_at p (with_anchor (record { path = p; rules = rules; tables = tables }) es)) ≡ tables
-tables_stand p rules tables es = ap tables_in (stands p rules tables es) ∙ (elim (is_empty rules && is_empty tables) as (λ b. is_empty rules && is_empty tables ≡ b → tables_in (if b then None else Some (record { path = p; rules = rules; tables = tables })) ≡ tables) [ true ↦ λ e. sym (empty_is tables (both_true (is_empty rules) (is_empty tables) e).1) | false ↦ λ e. refl ]) refl
+tables_stored : (p : Path) (rules : List AnyRule) (tables : List (Name × TableValue)) (es : List AnchorValue) → tables_in (anchor_at p (with_anchor (record { path = p; rules = rules; tables = tables }) es)) ≡ tables
+tables_stored p rules tables es = ap tables_in (stored_at p rules tables es) ∙ (elim (is_empty rules && is_empty tables) as (λ b. is_empty rules && is_empty tables ≡ b → tables_in (if b then None else Some (record { path = p; rules = rules; tables = tables })) ≡ tables) [ true ↦ λ e. sym (empty_is tables (both_true (is_empty rules) (is_empty tables) e).1) | false ↦ λ e. refl ]) refl
 
 -- ---- rules first and tables then, or both at once
 
@@ -103,8 +103,8 @@ once own definitions anchors =
     let left = without_unnamed p anchors in
     let old = tables_in (anchor_at p left) in
     let Made : List AnyRule → List (Name × TableValue) → List AnchorValue = λ rules tables. with_anchor (record { path = p; rules = rules; tables = fold defined tables definitions }) (placed anchors own) in
-    sym (ap (λ rules. Made rules (tables_in (anchor_at p (placed anchors own)))) (rules_stand p own.rules old left)
-    ∙ ap (Made own.rules) (tables_stand p own.rules old left)
+    sym (ap (λ rules. Made rules (tables_in (anchor_at p (placed anchors own)))) (rules_stored p own.rules old left)
+    ∙ ap (Made own.rules) (tables_stored p own.rules old left)
     ∙ same_place p own.rules own.rules old (fold defined old definitions) left)
 
 pub loaded_is : (own : Block) (definitions : List Definition) (blocks : List Block) (anchors : List AnchorValue) → tidied (fold placed (with_text own definitions (without_unnamed own.path anchors)) blocks) ≡ loaded own definitions blocks anchors

@@ -19,8 +19,8 @@ ghost use Rattle.pf_config.specs.inner.Referring.{Gains, KnowsAll, any_may_shed}
 ghost use Rattle.pf_config.specs.declared.config.TheConstants.{RULES_MAX};
 
 use crate::below::{
-    any_unnamed, count_before, kid_named, last_name, owned_or_empty, push_some, put_kid,
-    shared_kids, stands_at, take_named,
+    any_unnamed, count_before, is_at, kid_named, last_name, owned_or_empty, push_some, put_kid,
+    shared_kids, take_named,
 };
 use crate::candidate_list::CandidateList;
 use crate::change::{Change, change_own};
@@ -542,7 +542,7 @@ fn change_kid(
         (shared kids.old.items) (shared kids.new.items)) (λ e. shared kids.new.items ≡ shared kids.old.items) }
 {
     let at = count_before(kids, first);
-    if !stands_at(kids, at, first) {
+    if !is_at(kids, at, first) {
         return add_kid(alloc, names, kids, at, first, more, change);
     }
     let held = &mut kids[at];

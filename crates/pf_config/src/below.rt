@@ -83,7 +83,7 @@ pub(crate) fn count_before(kids: &[Rc<Anchor>], name: &Name) -> usize
 }
 
 /// Whether the anchor of that name is there. Its place is after those with names before it.
-pub(crate) fn stands_at(kids: &[Rc<Anchor>], at: usize, name: &Name) -> bool
+pub(crate) fn is_at(kids: &[Rc<Anchor>], at: usize, name: &Name) -> bool
     requires order { AreInOrder (shared kids.now) }
     requires place { at ≡ length (kids_before name.now (shared kids.now)) }
     ensures { result ≡ is_some (find (is_named name.now) (shared kids.now)) }
@@ -102,7 +102,7 @@ pub(crate) fn take_named(kids: &mut Vec<Rc<Anchor>>, at: usize, name: &Name) -> 
     ensures left { shared kids.new.items ≡ kids_before name.now (shared kids.old.items) ++
         kids_behind name.now (shared kids.old.items) }
 {
-    if !stands_at(kids, at, name) {
+    if !is_at(kids, at, name) {
         return None;
     }
     let kid = kids.remove(at);

@@ -5,7 +5,7 @@ ghost use Rattle.pf_config.specs.Map.{named};
 ghost use Rattle.pf_config.specs.Changes.{with_table};
 ghost use Rattle.pf_config.specs.Ordered.{AreOrdered};
 ghost use Rattle.pf_config.specs.inner.TableChanges.{edited_table, edited_in, has_room, ChangesIf, IsTableIf};
-ghost use Rattle.pf_config.specs.inner.TableChanges.{StandsAt, BelongsAt};
+ghost use Rattle.pf_config.specs.inner.TableChanges.{IsStoredAt, BelongsAt};
 
 use crate::config::ENTRIES_MAX;
 use pf_rules::{TableEntry, TableName};
@@ -40,7 +40,7 @@ fn edit_table(table: &mut Table, entry: &TableEntry, edit: Edit) -> Result<bool,
 /// The index of the table of that name, or the one that a new table of that name gets.
 pub(crate) fn place_of(tables: &[(TableName, Table)], name: &[u8]) -> Result<usize, usize>
     requires { AreOrdered tables.now }
-    ensures { MatchResult result (λ at. StandsAt tables.now name.now at) (λ at. BelongsAt tables.now name.now at) }
+    ensures { MatchResult result (λ at. IsStoredAt tables.now name.now at) (λ at. BelongsAt tables.now name.now at) }
 {
     tables.binary_search_by(|held| held.0.as_bytes().cmp(name))
 }

@@ -59,14 +59,14 @@ abbrev pub has_ports : Protocol → Bool
 has_ports p = p.number == 6 || p.number == 17
 
 -- ports are written for the source, the destination or both
-abbrev pub says_ports : ConditionsText → Bool
-says_ports text = is_some text.common.source.ports || is_some text.common.destination.ports
+abbrev pub names_ports : ConditionsText → Bool
+names_ports text = is_some text.common.source.ports || is_some text.common.destination.ports
 
 -- a port is neither number nor name, or ports are written where no protocols are, or not all have ports
 unfoldable pub bad_ports : ConditionsText → Bool
 bad_ports text =
     any_listed is_bad_port text.common.source.ports || any_listed is_bad_port text.common.destination.ports
-    || (says_ports text && not (all_listed has_ports text.common.protocols))
+    || (names_ports text && not (all_listed has_ports text.common.protocols))
 
 -- ---- combinations and limits (14, 18)
 

@@ -4,7 +4,7 @@ ghost use Rattle.std.specs.Prelude.{◌≡◌, ◌≤◌, ◌+◌, ◌*◌, ◌-
 ghost use Rattle.std.specs.Prelude.{None, Some};
 ghost use Rattle.std.specs.List.{list_any, list_all};
 ghost use Rattle.pf_expansion.specs.Causes.{is_bad_port, has_ports, is_bad_type, is_icmp, any_listed, all_listed};
-ghost use Rattle.pf_expansion.specs.Causes.{is_deep, is_deep_list, says_ports, bad_ports, is_too_wide, has_deep_list};
+ghost use Rattle.pf_expansion.specs.Causes.{is_deep, is_deep_list, names_ports, bad_ports, is_too_wide, has_deep_list};
 ghost use Rattle.pf_expansion.specs.Causes.{bad_types, lowest, condition_causes};
 ghost use Rattle.pf_expansion.specs.Expansion.{combinations, combined};
 ghost use Rattle.pf_statements.specs.ConditionsSeen.{list_of, conditions_of};
@@ -86,8 +86,8 @@ fn all_have_ports(protocols: &Option<Listed<Protocol>>) -> bool
 }
 
 /// Whether ports are written at either end.
-fn says_ports(text: &WrittenConditions) -> bool
-    ensures { result ≡ says_ports (conditions_of text.now) }
+fn names_ports(text: &WrittenConditions) -> bool
+    ensures { result ≡ names_ports (conditions_of text.now) }
 {
     text.common.source.ports.is_some() || text.common.destination.ports.is_some()
 }
@@ -99,7 +99,7 @@ pub(crate) fn bad_ports(text: &WrittenConditions) -> bool
 {
     has_bad_port(&text.common.source.ports)
         || has_bad_port(&text.common.destination.ports)
-        || (says_ports(text) && !all_have_ports(&text.common.protocols))
+        || (names_ports(text) && !all_have_ports(&text.common.protocols))
 }
 
 /// How many combinations there are, the greatest number of the type where they are more.

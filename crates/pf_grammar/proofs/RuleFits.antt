@@ -25,7 +25,7 @@ use Rattle.pf_tokens.specs.ListGrammar.{IsSome}
 use Rattle.pf_statements.specs.ConditionGrammar.{IsBehind, Missing, Behind, IsPort, IsPart, PartHosts, PartPorts, IsHosts, NoHosts, AllWord, FromPart, ToPart, FromToParts, IsTypes, TypeAlone, TypeList}
 use Rattle.pf_statements.specs.Grammar.{IsOptions, NoOption, FlagsOption, StateOption, TypesOption, IsRule}
 use Rattle.pf_expansion.specs.Expansion.{choices, host_family, type_family, with_family, occurring, resolved, keeps_state, tested_flags, Combination, nothing_chosen, number_in, test_in, type_in, rule_flags, rule_with, conditions_with, families, conditions_if, conditions_at, by_type, by_destination_port, by_destination, by_source_port, by_source, by_protocol, by_interface, combined, expanded}
-use Rattle.pf_expansion.specs.Causes.{any_listed, all_listed, is_bad_port, has_ports, says_ports, bad_ports, is_bad_type, is_icmp, bad_types}
+use Rattle.pf_expansion.specs.Causes.{any_listed, all_listed, is_bad_port, has_ports, names_ports, bad_ports, is_bad_type, is_icmp, bad_types}
 use Rattle.pf_grammar.proofs.Made.{interface_fits, some_fits, list_fits}
 use Rattle.pf_grammar.proofs.PartsFit.{host_fits, port_fits, protocol_fits, type_fits, type_of_fits, flags_fit}
 use Rattle.pf_grammar.proofs.ShownTokens.{FitsHost, FitsTest, FitsIf, FitsFlags, FitsState, FitsType, FitsConditions, FitsRule, ported}
@@ -221,10 +221,10 @@ passes_ported : (n : Option Protocol) (b : Bool) → Passes has_ports n → (b &
 passes_ported None b h = absurd h
 passes_ported (Some p) b h = rw h (and_not_true b)
 
-ports_ok : (sp dp : Option WrittenPort) (n : Option Protocol) (says : Bool) → (is_some sp ≡ true → says ≡ true) → (is_some dp ≡ true → says ≡ true) → (says ≡ true → Passes has_ports n) → ((is_some (test_in sp) || is_some (test_in dp)) && not (ported (number_in n))) ≡ false
-ports_ok (Some a) dp n says s d h = passes_ported n (is_some (test_in (Some a)) || is_some (test_in dp)) (h (s refl))
-ports_ok None (Some b) n says s d h = passes_ported n (is_some (test_in (Some b))) (h (d refl))
-ports_ok None None n says s d h = refl
+ports_ok : (sp dp : Option WrittenPort) (n : Option Protocol) (named : Bool) → (is_some sp ≡ true → named ≡ true) → (is_some dp ≡ true → named ≡ true) → (named ≡ true → Passes has_ports n) → ((is_some (test_in sp) || is_some (test_in dp)) && not (ported (number_in n))) ≡ false
+ports_ok (Some a) dp n named s d h = passes_ported n (is_some (test_in (Some a)) || is_some (test_in dp)) (h (s refl))
+ports_ok None (Some b) n named s d h = passes_ported n (is_some (test_in (Some b))) (h (d refl))
+ports_ok None None n named s d h = refl
 
 passes_icmp : (n : Option Protocol) → Passes is_icmp n → number_in n ≡ Some 1
 passes_icmp None h = absurd h
@@ -274,14 +274,14 @@ type_family_ok (Some t) some = number t.number some
 pub record FitsChosen (profile : Profile) (text : ConditionsText) (c : Combination) : Type 0 where
   pub interface : FitsIf (FitsName profile) c.interface
   pub protocol : FitsIf (λ (p : Protocol). p.number ≤ 255) c.protocol
-  pub ported : says_ports text ≡ true → Passes has_ports c.protocol
+  pub ported : names_ports text ≡ true → Passes has_ports c.protocol
   pub pinged : is_some text.types ≡ true → Passes is_icmp c.protocol
   pub source : FitsHost profile c.source
   pub source_port : FitsIf FitsPort c.source_port
-  pub source_said : is_some c.source_port ≡ true → says_ports text ≡ true
+  pub source_said : is_some c.source_port ≡ true → names_ports text ≡ true
   pub destination : FitsHost profile c.destination
   pub destination_port : FitsIf FitsPort c.destination_port
-  pub destination_said : is_some c.destination_port ≡ true → says_ports text ≡ true
+  pub destination_said : is_some c.destination_port ≡ true → names_ports text ≡ true
   pub types : FitsIf (FitsTyped profile) c.icmp_type
   pub typed : is_some c.icmp_type ≡ true → is_some text.types ≡ true
   pub good : FitsIf (λ (w : WrittenType). is_some w.number ≡ true) c.icmp_type
@@ -297,7 +297,7 @@ conditions_fit profile test text c family test_fits fits e = record {
   family =
       ap (λ (t : Option Family). occurring (family ∷ host_family c.source ∷ host_family c.destination ∷ t ∷ [])) (type_family_ok c.icmp_type fits.good)
       ∙ family_again text.common.family (occurring (host_family c.source ∷ host_family c.destination ∷ type_family c.icmp_type ∷ [])) family e;
-  ports = ports_ok c.source_port c.destination_port c.protocol (says_ports text) fits.source_said fits.destination_said fits.ported;
+  ports = ports_ok c.source_port c.destination_port c.protocol (names_ports text) fits.source_said fits.destination_said fits.ported;
   types = type_ok profile c.protocol c.icmp_type fits.types (λ h. fits.pinged (fits.typed h));
   flags = test_fits;
 }
@@ -340,10 +340,10 @@ said_second false b c h e = h e
 pub combined_fit : (profile : Profile) (test : FlagTest) (text : ConditionsText) → FitsFlags test → FitsText profile text → bad_ports text ≡ false → bad_types text ≡ false → AllByRecursion (FitsConditions profile) (combined test text)
 unfolding combined by_interface by_protocol by_source by_source_port by_destination by_destination_port by_type bad_ports bad_types
 combined_fit profile test text test_fits fits no_bad_ports no_bad_types =
-    let ports = (or_false (any_listed is_bad_port text.common.source.ports || any_listed is_bad_port text.common.destination.ports) (says_ports text && not (all_listed has_ports text.common.protocols)) no_bad_ports).1 in
+    let ports = (or_false (any_listed is_bad_port text.common.source.ports || any_listed is_bad_port text.common.destination.ports) (names_ports text && not (all_listed has_ports text.common.protocols)) no_bad_ports).1 in
     let types = or_false (any_listed is_bad_type text.types) (is_some text.types && not (all_listed is_icmp text.common.protocols)) no_bad_types in
     let P = FitsConditions profile in
-    let ns = all_both _ _ (choices text.common.protocols) (choices_fit (λ (n : Protocol). n.number ≤ 255) text.common.protocols fits.protocols) (all_both _ _ (choices text.common.protocols) (choices_if (says_ports text) has_ports text.common.protocols ports) (choices_if (is_some text.types) is_icmp text.common.protocols types.1)) in
+    let ns = all_both _ _ (choices text.common.protocols) (choices_fit (λ (n : Protocol). n.number ≤ 255) text.common.protocols fits.protocols) (all_both _ _ (choices text.common.protocols) (choices_if (names_ports text) has_ports text.common.protocols ports) (choices_if (is_some text.types) is_icmp text.common.protocols types.1)) in
     let sps = all_both _ _ (choices text.common.source.ports) (choices_fit FitsPort text.common.source.ports fits.source.ports) (choices_said text.common.source.ports) in
     let dps = all_both _ _ (choices text.common.destination.ports) (choices_fit FitsPort text.common.destination.ports fits.destination.ports) (choices_said text.common.destination.ports) in
     let ts = all_both _ _ (choices text.types) (choices_fit (FitsTyped profile) text.types (types_typed profile text.types fits.types)) (all_both _ _ (choices text.types) (choices_said text.types) (none_bad text.types types.0)) in

@@ -20,7 +20,7 @@ use Rattle.px_replica.specs.declared.datagram.Datagram.{Datagram}
 use Rattle.px_replica.specs.Spelled.{for_members}
 use Rattle.pf_lab.specs.Labs.{IsHost, AreWorld}
 use Rattle.pf_lab.specs.inner.Labs.{IsAnswered}
-use Rattle.px_replica.proofs.Telling.{are_append, are_members}
+use Rattle.px_replica.proofs.Messages.{are_append, are_members}
 
 -- ---- one action in the world
 

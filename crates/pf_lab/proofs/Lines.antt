@@ -32,7 +32,7 @@ use Rattle.pf_lab.specs.Labs.{IsWorld, cluster_of}
 use Rattle.pf_lab.specs.declared.bench.Bench.{Bench}
 use Rattle.pf_lab.specs.declared.state.Lab.{Lab}
 use Rattle.px_replica.proofs.Sending.{are_length}
-use Rattle.px_replica.proofs.Telling.{sent_at}
+use Rattle.px_replica.proofs.Messages.{sent_at}
 use Rattle.pf_scripts.specs.declared.waiting.Waiting.{Waiting}
 use Rattle.pf_scripts.specs.inner.Seen.{waiting_of}
 use Rattle.pf_lab.specs.declared.reading.LabLine.{LabLine}

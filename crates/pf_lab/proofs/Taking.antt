@@ -42,7 +42,7 @@ use Rattle.px_replica.specs.Spelled.{for_members}
 use Rattle.pf_lab.specs.Labs.{IsHost, HostsAre, state_of, group_of, cluster_of}
 use Rattle.pf_lab.specs.inner.Labs.{IsAnswered}
 use Rattle.pf_lab.specs.declared.host.Host.{Host}
-use Rattle.px_replica.proofs.Telling.{one_message}
+use Rattle.px_replica.proofs.Messages.{one_message}
 use Rattle.pf_lab.proofs.Following.{lab_runs, lab_same, lab_stops_after, emptied_state}
 
 -- ---- answers

@@ -18,7 +18,7 @@ use Rattle.pf_command.specs.Effect.{Effect, RefusedCommand, refused_text, effect
 use Rattle.pf_arguments.specs.Options.{pfctl_app}
 use Rattle.pf_arguments.specs.Asked.{Asked, ActionValue, Change, CheckOnly, given_in, asked}
 use Rattle.pf_arguments.specs.Answers.{command_fault_code}
-use Rattle.pf_scripts.specs.Lines.{ScriptLine, lines, bytes_of, words_in, line, refused_line, spaced, stand_together}
+use Rattle.pf_scripts.specs.Lines.{ScriptLine, lines, bytes_of, words_in, line, refused_line, spaced, are_adjacent}
 use Rattle.pf_scripts.specs.Listings.{listed}
 
 -- ---- what is printed of a change
@@ -152,7 +152,7 @@ is_input (Some file) = bytes_eq file (codes "-")
 
 -- a ruleset follows: -f - is given, or is among arguments that can't be read
 abbrev pub takes_text_by : List Text → Option (List Row) → Bool
-takes_text_by words None = stand_together (codes "-f") (codes "-") words
+takes_text_by words None = are_adjacent (codes "-f") (codes "-") words
 takes_text_by words (Some rows) = is_input (first_of (codes "file") rows)
 
 -- a ruleset follows where the file is standard input; of arguments that aren't understood, where -f and - are side by

@@ -59,6 +59,6 @@ begins_pair a b (w ∷ []) = false
 begins_pair a b (w ∷ v ∷ ws) = bytes_eq w a && bytes_eq v b
 
 -- one argument is directly before the other
-abbrev pub stand_together : List ℕ → List ℕ → List (List ℕ) → Bool
-stand_together a b [] = false
-stand_together a b (w ∷ ws) = begins_pair a b (w ∷ ws) || stand_together a b ws
+abbrev pub are_adjacent : List ℕ → List ℕ → List (List ℕ) → Bool
+are_adjacent a b [] = false
+are_adjacent a b (w ∷ ws) = begins_pair a b (w ∷ ws) || are_adjacent a b ws

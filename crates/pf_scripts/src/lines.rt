@@ -5,7 +5,7 @@ ghost use Rattle.std.specs.Prelude.{length, ◌==◌, ◌≤◌, option_map, str
 ghost use Rattle.std.specs.Prelude.{None};
 ghost use Rattle.std.specs.Str.{is_utf8};
 ghost use Rattle.std.specs.List.{prefix_len};
-ghost use Rattle.pf_scripts.specs.Lines.{lines, bytes_of, words_in, spaced, stand_together, begins_pair, words_if};
+ghost use Rattle.pf_scripts.specs.Lines.{lines, bytes_of, words_in, spaced, are_adjacent, begins_pair, words_if};
 ghost use Rattle.pf_scripts.specs.Seen.{line_of};
 
 use pf_eval::words_between_blanks;
@@ -129,8 +129,8 @@ fn begins_pair(first: &str, second: &str, words: &[&str]) -> bool
 }
 
 /// Whether one argument is directly before the other.
-pub(crate) fn stand_together(first: &str, second: &str, words: &[&str]) -> bool
-    ensures { result ≡ stand_together first.now second.now (map (λ w. w.now) words.now) }
+pub(crate) fn are_adjacent(first: &str, second: &str, words: &[&str]) -> bool
+    ensures { result ≡ are_adjacent first.now second.now (map (λ w. w.now) words.now) }
 {
     let mut left = words;
     while let [_, rest @ ..] = left {

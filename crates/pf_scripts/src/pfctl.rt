@@ -8,7 +8,7 @@ ghost use Rattle.pf_arguments.specs.Options.{pfctl_app};
 ghost use Rattle.pf_scripts.specs.Ctl.{rows_in, takes_text, takes_text_by, is_standard, is_input};
 ghost use Rattle.pf_scripts.specs.inner.Seen.{rows_matched};
 
-use crate::lines::stand_together;
+use crate::lines::are_adjacent;
 use clap::error::ErrorKind;
 use clap::{ArgMatches, Command};
 use pf_arguments::pfctl_args;
@@ -74,7 +74,7 @@ pub(crate) fn takes_text_by(words: &[&str], matches: Option<&ArgMatches<'_>>) ->
 {
     match matches {
         Some(matches) => is_input(file_in(matches)),
-        None => stand_together("-f", "-", words),
+        None => are_adjacent("-f", "-", words),
     }
 }
 

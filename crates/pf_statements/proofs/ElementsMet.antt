@@ -24,25 +24,25 @@ alone : {X : Type 0} {read : List Token → Read X} {Is : List Token → X → T
 alone {read = read} readable none ts x is = sym (ap read (append-nil ts)) ∙ readable.reads ts [] x is none
 
 -- where what may follow is known by its tokens
-pub record Tells (Ends : List Token → Type 0) (follows : List Token → Bool) : Type 0 where
+pub record IsTestFor (Ends : List Token → Type 0) (follows : List Token → Bool) : Type 0 where
   pub sound : (rest : List Token) → follows rest ≡ true → Ends rest
   pub complete : (rest : List Token) → Ends rest → follows rest ≡ true
 
-pub met : {X : Type 0} {read : List Token → Read X} {Is : List Token → X → Type 0} {Ends : List Token → Type 0} {follows : List Token → Bool} → Readable read Is Ends → Tells Ends follows → Ends [] → IsElement read follows
-met readable tells none = record {
+pub met : {X : Type 0} {read : List Token → Read X} {Is : List Token → X → Type 0} {Ends : List Token → Type 0} {follows : List Token → Bool} → Readable read Is Ends → IsTestFor Ends follows → Ends [] → IsElement read follows
+met readable tested none = record {
   front = λ ts rest x e. let t = readable.took ts (x, rest) e in (t.piece, t.whole, alone readable none t.piece x t.is);
-  alike = λ ts rest x e f. readable.reads ts rest x (spelled readable ts x e) (tells.sound rest f);
-  open_follows = λ rest. tells.complete _ (readable.open_ends rest);
-  comma_follows = λ rest. tells.complete _ (readable.comma_ends rest);
-  close_follows = λ rest. tells.complete _ (readable.close_ends rest);
-  element_follows = λ ts rest x e. let h = readable.heads ts rest x (spelled readable ts x e) in tells.complete _ h.ends;
+  alike = λ ts rest x e f. readable.reads ts rest x (spelled readable ts x e) (tested.sound rest f);
+  open_follows = λ rest. tested.complete _ (readable.open_ends rest);
+  comma_follows = λ rest. tested.complete _ (readable.comma_ends rest);
+  close_follows = λ rest. tested.complete _ (readable.close_ends rest);
+  element_follows = λ ts rest x e. let h = readable.heads ts rest x (spelled readable ts x e) in tested.complete _ h.ends;
   no_comma = λ ts rest x e. let h = readable.heads ts rest x (spelled readable ts x e) in h.not_comma;
   plain = λ ts x e. readable.plain ts x (spelled readable ts x e);
   some = λ ts x e. readable.some ts x (spelled readable ts x e);
 }
 
-anything_tells : Tells Anything anything
-anything_tells = record { sound = λ rest e. tt; complete = λ rest e. refl }
+anything_tested : IsTestFor Anything anything
+anything_tested = record { sound = λ rest e. tt; complete = λ rest e. refl }
 
 neither : (a b : Bool) → (not a && not b) ≡ true → (a ≡ false) × (b ≡ false)
 neither true b e = absurd (false≢true e)
@@ -54,32 +54,32 @@ both_not true b e f = absurd (false≢true (sym e))
 both_not false true e f = absurd (false≢true (sym f))
 both_not false false e f = refl
 
-host_tells : Tells HostEnds may_follow_host
-host_tells = record {
+host_tested : IsTestFor HostEnds may_follow_host
+host_tested = record {
   sound = λ rest e. let n = neither (begins (codes "-") rest) (begins_symbol Slash rest) e in record { not_hyphen = n.0; not_slash = n.1 };
   complete = λ rest e. both_not (begins (codes "-") rest) (begins_symbol Slash rest) e.not_hyphen e.not_slash;
 }
 
-port_tells : Tells PortEnds may_follow_port
-port_tells = record {
+port_tested : IsTestFor PortEnds may_follow_port
+port_tested = record {
   sound = λ rest e. let n = neither (begins_symbol Between rest) (begins_symbol Outside rest) e in record { not_between = n.0; not_outside = n.1 };
   complete = λ rest e. both_not (begins_symbol Between rest) (begins_symbol Outside rest) e.not_between e.not_outside;
 }
 
 pub names_met : (profile : Profile) → IsElement (interface_name_at profile) anything
-names_met profile = met (names_readable profile) anything_tells tt
+names_met profile = met (names_readable profile) anything_tested tt
 
 pub interfaces_met : (profile : Profile) → IsElement (interface_at profile) anything
-interfaces_met profile = met (interfaces_readable profile) anything_tells tt
+interfaces_met profile = met (interfaces_readable profile) anything_tested tt
 
 pub protocols_met : (profile : Profile) → IsElement (protocol_at profile) anything
-protocols_met profile = met (protocols_readable profile) anything_tells tt
+protocols_met profile = met (protocols_readable profile) anything_tested tt
 
 pub types_met : (profile : Profile) → IsElement (type_at profile) anything
-types_met profile = met (types_readable profile) anything_tells tt
+types_met profile = met (types_readable profile) anything_tested tt
 
 pub hosts_met : (profile : Profile) → IsElement (host_at profile) may_follow_host
-hosts_met profile = met (hosts_readable profile) host_tells (record { not_hyphen = refl; not_slash = refl })
+hosts_met profile = met (hosts_readable profile) host_tested (record { not_hyphen = refl; not_slash = refl })
 
 pub ports_met : (profile : Profile) → IsElement (port_at profile) may_follow_port
-ports_met profile = met (ports_readable profile) port_tells (record { not_between = refl; not_outside = refl })
+ports_met profile = met (ports_readable profile) port_tested (record { not_between = refl; not_outside = refl })

@@ -7,7 +7,7 @@ use Rattle.pf_tokens.specs.declared.symbol.Symbol.TheVariants.{Slash}
 use Rattle.pf_tokens.specs.Tokens.{Token}
 use Rattle.pf_tokens.specs.Productions.{begins_symbol}
 use Rattle.pf_tokens.specs.ListGrammar.{IsElement}
-use Rattle.pf_statements.proofs.ElementsMet.{Tells, met}
+use Rattle.pf_statements.proofs.ElementsMet.{IsTestFor, met}
 use Rattle.pf_statements.specs.Tables.{entry_at, may_follow_entry}
 use Rattle.pf_statements.proofs.TablesSpelled.{EntryEnds, entries_readable}
 
@@ -19,11 +19,11 @@ so : (a : Bool) → a ≡ false → not a ≡ true
 so true e = absurd (false≢true (sym e))
 so false e = refl
 
-entry_tells : Tells EntryEnds may_follow_entry
-entry_tells = record {
+entry_tested : IsTestFor EntryEnds may_follow_entry
+entry_tested = record {
   sound = λ rest e. not_so (begins_symbol Slash rest) e;
   complete = λ rest e. so (begins_symbol Slash rest) e;
 }
 
 pub entries_met : (profile : Profile) → IsElement (entry_at profile) may_follow_entry
-entries_met profile = met (entries_readable profile) entry_tells refl
+entries_met profile = met (entries_readable profile) entry_tested refl

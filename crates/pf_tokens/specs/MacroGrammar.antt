@@ -90,4 +90,4 @@ pub record HasSyntaxFault (profile : Profile) (ds : List Definition) (tokens : L
 
 -- in each profile, of any macros before and any tokens
 abbrev pub AllRead : (Profile → List Definition → List Token → Type 0) → Type 0
-AllRead Says = (profile : Profile) (ds : List Definition) (ts : List Token) → Says profile ds ts
+AllRead Holds = (profile : Profile) (ds : List Definition) (ts : List Token) → Holds profile ds ts

@@ -23,7 +23,7 @@ use Rattle.px_replica.specs.Spelled.{AreSpelled}
 use Rattle.px_replica.specs.declared.datagram.Datagram.{Datagram}
 use Rattle.px_replica.specs.Traces.{stopped}
 use Rattle.px_replica.specs.Spelled.{for_members}
-use Rattle.px_replica.proofs.Telling.{are_append, are_members, comes_spelled, one_message}
+use Rattle.px_replica.proofs.Messages.{are_append, are_members, comes_spelled, one_message}
 use Rattle.pfx_laws.specs.Clusters as clusters
 use Rattle.pfx_laws.specs.Clusters.{Cluster, ClusterEvent, begun, asked_of, WasSent, MayCome, MayHappen, next, after, MayAllHappen}
 use Rattle.pfx_laws.specs.Clusters.ClusterEvent.{Calls, Stops, Opens}

@@ -125,7 +125,7 @@ impl Core {
         })
     }
 
-    /// Told that an entry was chosen.
+    /// Learns an entry that was chosen.
     #[tactic(auto, unfolding(px_model::specs::Step::on_learned, px_model::specs::Step::learn))]
     pub(crate) fn learned_from(&self, position: u32, entry: &EntryView) -> Result<Plan, AllocError>
         requires room { RoomAt position self.now }

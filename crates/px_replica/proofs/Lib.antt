@@ -6,7 +6,7 @@
 --   it may is stated by the very definitions of the contracts (`Makes`, `LeavesOne`), and the cluster's state then is a
 --   function; so a history is a list, and following it is one induction. What comes is an action of the world by cases
 --   on the input; a datagram's message is the one that was sent, since no two messages have one spelling
---   (`Telling.one_message`).
+--   (`Messages.one_message`).
 -- - That a law speaks of nodes over records of two kinds: `fn law<R: Records, Q: Records>() ensures { Law R.Records
 --   Q.Records }`, with `Law : {R Q : Type 0} → Ghosts R → Ghosts Q → Type 0`; a law that ranges over types itself would
 --   be of Type 1, which no clause may be.
@@ -57,4 +57,4 @@ pub mod Steps
 pub mod BadRows
 pub mod Heard
 pub mod Called
-pub mod Telling
+pub mod Messages

@@ -15,17 +15,17 @@ use Rattle.px_store.specs.declared.formats.Format.TheVariants.{One, Two, Three}
 use Rattle.px_store.specs.inner.Making.{Brought}
 use Rattle.px_store.specs.Adopting.{IsSame, Began, AreBrought, IsBrought, IsMade}
 use Rattle.px_store.specs.inner.Adopting.{Shows}
-use Rattle.px_store.specs.Judging.{refusal, refusal_of, are_floor_rows, says_format, says_member, says_numbers, says_owner, is_member_of, has_rows}
+use Rattle.px_store.specs.Judging.{refusal, refusal_of, are_floor_rows, has_format, names_member, has_numbers, has_owner, is_member_of, has_rows}
 use Rattle.px_store.specs.declared.fault.AdoptFault.TheVariants.{StoreVersion, BadStore, WrongNode}
 use Rattle.std.specs.Prelude.{nat_lt, nat_le}
 use Rattle.px_store.specs.Seen.{number_at, number_in, slot_in, learned_in, slot_columns, learned_columns, record_in}
 use Rattle.px_store.specs.Seen.{rows_at, seen, shown, meta_columns, meta_row, floor_columns}
-use Rattle.px_store.specs.inner.Seen.{floor_rows, Tells, IsMetaIn, IsFloorIn}
+use Rattle.px_store.specs.inner.Seen.{floor_rows, HasNumber, IsMetaIn, IsFloorIn}
 use Rattle.px_store.specs.inner.Effect.{IsAlike}
 use Rattle.px_store.specs.declared.calls.Identity.{Identity}
 use Rattle.px_store.proofs.Above.{number_is}
 
-number_in_row : (r : Row) (at n : ℕ) → Tells r at n → column r at ≡ Int (pos n)
+number_in_row : (r : Row) (at n : ℕ) → HasNumber r at n → column r at ≡ Int (pos n)
 number_in_row r at n h = number_is (column r at) h.0 ∙ ap (λ k. Int (pos k)) h.1
 
 module _ (c m n round number : ℕ) where
@@ -125,10 +125,10 @@ floor_accepted format id [] [] more e = refl
 floor_accepted format id [] (r ∷ rest) more e = absurd cc
 floor_accepted format id (r ∷ x ∷ rest) floor more e = absurd cc
 floor_accepted format id (r ∷ []) floor more e =
-    let held = both_hold (says_format format r) (says_member r && says_numbers r && are_floor_rows (number_in (column r 3)) floor) (says_owner id r) e in
+    let held = both_hold (has_format format r) (names_member r && has_numbers r && are_floor_rows (number_in (column r 3)) floor) (has_owner id r) e in
     let owner = and_parts _ _ (and_parts _ _ held.1).1 in
     let members : number_in (column r 3) ≡ id.members = eqb-true (number_in (column r 3)) id.members owner.0 in
-    subst (λ n. are_floor_rows n floor ≡ true) members (and_parts (says_member r && says_numbers r) _ held.0).1
+    subst (λ n. are_floor_rows n floor ≡ true) members (and_parts (names_member r && has_numbers r) _ held.0).1
 
 again : (id : Identity) (round number : ℕ) (s f l : List Row) (db : Trees) → AreBrought id round number s f l db → round < 2 ^ 48 → number ≤ 2 ^ 48 → are_floor_rows id.members (seen floor_columns f 1) ≡ true
     → is_member_of id.cluster id.members id.node ≡ true → refusal Three id db ≡ None

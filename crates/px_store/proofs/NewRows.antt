@@ -130,8 +130,8 @@ meta_after id (Learned q) bytes m old new floor is p = other_put id m old new is
 
 pub still_ready : (id : Identity) (r : NewRow) (bytes : Bytes) (m n : kept.Meta) (old new : State) → n ≡ meta_with r m → HasFloor r → IsMeta id m old.committed.trees → IsPut id r bytes old.committed.trees new.committed.trees × IsSettled new
     → (new.now.schema ≡ schema_3) × ((new.in_transaction ≡ false) × ((new.is_open ≡ true) × IsMeta id n new.committed.trees))
-still_ready id r bytes m n old new says floor is w =
-    (w.1.schema, (w.1.auto, (w.1.is_open, subst (λ (x : kept.Meta). IsMeta id x new.committed.trees) (sym says) (meta_after id r bytes m old.committed.trees new.committed.trees floor is w.0))))
+still_ready id r bytes m n old new agrees floor is w =
+    (w.1.schema, (w.1.auto, (w.1.is_open, subst (λ (x : kept.Meta). IsMeta id x new.committed.trees) (sym agrees) (meta_after id r bytes m old.committed.trees new.committed.trees floor is w.0))))
 
 -- ---- whose it is
 

@@ -12,7 +12,7 @@ use Rattle.px_store.specs.Adopting.{IsVerdict}
 use Rattle.px_store.specs.inner.Adopting.{Shows}
 use Rattle.px_store.specs.Seen.{seen, meta_columns, floor_columns, number_in, is_number}
 use Rattle.px_store.specs.Formats.{trees_at, number_of}
-use Rattle.px_store.specs.Judging.{refusal, refusal_of, has_rows, says_format, says_member, says_numbers, says_owner, are_floor_rows, IsOwn}
+use Rattle.px_store.specs.Judging.{refusal, refusal_of, has_rows, has_format, names_member, has_numbers, has_owner, are_floor_rows, IsOwn}
 use Rattle.px_store.specs.declared.calls.Identity.{Identity}
 use Rattle.px_store.specs.declared.formats.Format.{Format}
 use Rattle.px_store.specs.declared.formats.Format.TheVariants.{One, Two, Three}
@@ -30,16 +30,16 @@ first_fails true b c e is h = absurd cc
 first_fails false b c e is h = cc
 
 -- the row of a store that isn't refused as one of this format has the format
-one_row : (n : ℕ) (id : Identity) (floor : List Row) (r : Row) (more : Bool) → refusal_of n id (r ∷ []) floor more ≡ None → says_format n r ≡ true
-one_row n id floor r more h = first_holds (says_format n r) (says_member r && says_numbers r && are_floor_rows (number_in (column r 3)) floor) (says_owner id r) h
+one_row : (n : ℕ) (id : Identity) (floor : List Row) (r : Row) (more : Bool) → refusal_of n id (r ∷ []) floor more ≡ None → has_format n r ≡ true
+one_row n id floor r more h = first_holds (has_format n r) (names_member r && has_numbers r && are_floor_rows (number_in (column r 3)) floor) (has_owner id r) h
 
-number_says : (n : ℕ) (r : Row) → says_format n r ≡ true → number_in (column r 1) ≡ n
-number_says n r h = eqb-true (number_in (column r 1)) n (and_parts (is_number (column r 1)) _ h).1
+number_of_format : (n : ℕ) (r : Row) → has_format n r ≡ true → number_in (column r 1) ≡ n
+number_of_format n r h = eqb-true (number_in (column r 1)) n (and_parts (is_number (column r 1)) _ h).1
 
-other_says : (n : ℕ) (r : Row) → says_format 3 r ≡ true → (n ≡ 3 → ⊥) → says_format n r ≡ false
-other_says n r h ne =
+other_format : (n : ℕ) (r : Row) → has_format 3 r ≡ true → (n ≡ 3 → ⊥) → has_format n r ≡ false
+other_format n r h ne =
     let is : is_number (column r 1) ≡ true = (and_parts (is_number (column r 1)) _ h).0 in
-    rw (is, ne_eqb (number_in (column r 1)) n (λ e. ne (sym e ∙ number_says 3 r h))) refl
+    rw (is, ne_eqb (number_in (column r 1)) n (λ e. ne (sym e ∙ number_of_format 3 r h))) refl
 
 -- a store that isn't refused as one of format 3 is refused as one of another with 73
 other : (n : ℕ) (id : Identity) (rows floor3 floor : List Row) (more3 more : Bool) → (n ≡ 3 → ⊥) → has_rows rows ≡ true → refusal_of 3 id rows floor3 more3 ≡ None
@@ -47,8 +47,8 @@ other : (n : ℕ) (id : Identity) (rows floor3 floor : List Row) (more3 more : B
 other n id [] floor3 floor more3 more ne has own e h = absurd cc
 other n id (r ∷ x ∷ rest) floor3 floor more3 more ne has own e h = absurd cc
 other n id (r ∷ []) floor3 floor more3 more ne has own e h =
-    first_fails (says_format n r) (says_member r && says_numbers r && are_floor_rows (number_in (column r 3)) floor) (says_owner id r) e
-    (other_says n r (one_row 3 id floor3 r more3 own) ne) h
+    first_fails (has_format n r) (names_member r && has_numbers r && are_floor_rows (number_in (column r 3)) floor) (has_owner id r) e
+    (other_format n r (one_row 3 id floor3 r more3 own) ne) h
 
 -- and isn't taken
 none_other : (n : ℕ) (id : Identity) (rows floor3 floor : List Row) (more3 more : Bool) → has_rows rows ≡ true → refusal_of 3 id rows floor3 more3 ≡ None
@@ -56,7 +56,7 @@ none_other : (n : ℕ) (id : Identity) (rows floor3 floor : List Row) (more3 mor
 none_other n id [] floor3 floor more3 more has own h = absurd cc
 none_other n id (r ∷ x ∷ rest) floor3 floor more3 more has own h = absurd cc
 none_other n id (r ∷ []) floor3 floor more3 more has own h =
-    sym (number_says n r (one_row n id floor r more h)) ∙ number_says 3 r (one_row 3 id floor3 r more3 own)
+    sym (number_of_format n r (one_row n id floor r more h)) ∙ number_of_format 3 r (one_row 3 id floor3 r more3 own)
 
 three_is : (f : Format) → number_of f ≡ 3 → f ≡ Three
 three_is One e = absurd cc

@@ -8,7 +8,7 @@ use Rattle.px_model.specs.Bounds.{AnyCommand}
 use Rattle.px_model.specs.Node.{Entry}
 use Rattle.px_model.specs.Spelling.{Bytes, command_in, entry_in, spelled}
 use Rattle.px_model.specs.Fits.{EntryFits}
-use Rattle.px_model.specs.Entries.{entry_of as stands_for}
+use Rattle.px_model.specs.Entries.{entry_of as entry_value}
 use Rattle.px_model.specs.declared.entry.Entry as code
 use Rattle.px_store.specs.Entries.{entry_of, is_entry, is_member's, shown_by}
 
@@ -18,8 +18,8 @@ unfolding command_in
 long_enough [] long = absurd (omega (arith, long))
 long_enough (x ∷ xs) long = let h : 1 ≤ suc (length (drop 9 xs)) = omega arith in h
 
-pub command_long : (e : code.Entry) → 1 ≤ length (stands_for e).command
-unfolding stands_for
+pub command_long : (e : code.Entry) → 1 ≤ length (entry_value e).command
+unfolding entry_value
 command_long e = long_enough e.bytes.value.items e.long
 
 -- good bytes spell an entry that fits

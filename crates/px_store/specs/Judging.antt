@@ -21,8 +21,8 @@ has_rows (r ∷ rows) = true
 -- ---- the row for the whole node: id, format, cluster, members, node, round, number
 
 -- the row has this format
-abbrev pub says_format : ℕ → Row → Bool
-says_format format r = is_number (column r 1) && nat_eq (number_in (column r 1)) format
+abbrev pub has_format : ℕ → Row → Bool
+has_format format r = is_number (column r 1) && nat_eq (number_in (column r 1)) format
 
 -- a cluster of 1 to 15 members, and one of them
 abbrev pub is_member_of : (cluster members node : ℕ) → Bool
@@ -30,13 +30,13 @@ is_member_of cluster members node =
     nat_le cluster 4294967295 && (nat_le 1 members && (nat_le members 15 && nat_lt node members))
 
 -- the row has a cluster of 1 to 15 members and one of them
-abbrev pub says_member : Row → Bool
-says_member r = is_number (column r 2) && (is_number (column r 3) && (is_number (column r 4) &&
+abbrev pub names_member : Row → Bool
+names_member r = is_number (column r 2) && (is_number (column r 3) && (is_number (column r 4) &&
     is_member_of (number_in (column r 2)) (number_in (column r 3)) (number_in (column r 4))))
 
 -- a round and a number that a node may reach
-abbrev pub says_numbers : Row → Bool
-says_numbers r = is_number (column r 5) && (is_number (column r 6) &&
+abbrev pub has_numbers : Row → Bool
+has_numbers r = is_number (column r 5) && (is_number (column r 6) &&
     (nat_lt (number_in (column r 5)) (2 ^ 48) && nat_le (number_in (column r 6)) (2 ^ 48)))
 
 -- the node that opens is this one, of this cluster with that many members
@@ -45,8 +45,8 @@ is_owner i cluster members node =
     nat_eq cluster i.cluster && (nat_eq members i.members && nat_eq node i.node)
 
 -- the row is of the node that opens
-abbrev pub says_owner : Identity → Row → Bool
-says_owner i r = is_owner i (number_in (column r 2)) (number_in (column r 3)) (number_in (column r 4))
+abbrev pub has_owner : Identity → Row → Bool
+has_owner i r = is_owner i (number_in (column r 2)) (number_in (column r 3)) (number_in (column r 4))
 
 -- ---- the floor: id, ballot
 
@@ -62,9 +62,9 @@ are_floor_rows members (r ∷ x ∷ more) = false
 -- with one row for the whole node: 73 for another format, else 72 for a bad row or floor, else 71 for another owner
 abbrev pub row_refusal : (format : ℕ) → Identity → (floor : List Row) → Row → Option AdoptFault
 row_refusal format i floor r =
-    if not (says_format format r) then Some StoreVersion
-    else (if not (says_member r && says_numbers r && are_floor_rows (number_in (column r 3)) floor) then Some BadStore
-    else (if says_owner i r then None else Some WrongNode))
+    if not (has_format format r) then Some StoreVersion
+    else (if not (names_member r && has_numbers r && are_floor_rows (number_in (column r 3)) floor) then Some BadStore
+    else (if has_owner i r then None else Some WrongNode))
 
 -- A store without the row for the whole node has nothing else either.
 abbrev pub refusal_of : (format : ℕ) → Identity → (meta floor : List Row) → (has_more : Bool) →

@@ -9,7 +9,7 @@ ghost use Rattle.px_store.specs.inner.Effect.{IsAlike, IsStill};
 ghost use Rattle.px_store.specs.Adopting.{LeavesOld};
 ghost use Rattle.px_store.specs.Formats.{schema_at, trees_at, has_table};
 ghost use Rattle.px_store.specs.Adopting.{Began, IsSame, IsVerdict};
-ghost use Rattle.px_store.specs.Judging.{has_rows, says_format, says_member, says_numbers, is_member_of};
+ghost use Rattle.px_store.specs.Judging.{has_rows, has_format, names_member, has_numbers, is_member_of};
 ghost use Rattle.px_store.specs.inner.Adopting.{IsRefused};
 ghost use Rattle.px_store.specs.inner.Judging.{rows_in};
 ghost use Rattle.px_store.specs.Judging.{is_owner, row_refusal, refusal_of};
@@ -99,8 +99,8 @@ pub(crate) fn refuse_lost<S: Alter>(conn: &mut Connection<S>) -> Result<(), Adop
 }
 
 /// Whether the row has this format.
-fn says_format(row: &Row, format: u64) -> Result<bool, AdoptFault>
-    ensures value { IfOk result (λ b. b ≡ says_format format row.now) }
+fn has_format(row: &Row, format: u64) -> Result<bool, AdoptFault>
+    ensures value { IfOk result (λ b. b ≡ has_format format row.now) }
     ensures why { OnErr result (result ≡ Err AdoptFault.Memory) }
 {
     match number(row, 1) {
@@ -119,8 +119,8 @@ fn is_member_of(cluster: u64, members: u64, node: u64) -> bool
 
 /// What the row for the whole node has, if a node writes such a row.
 pub(crate) fn found_in_row(row: &Row) -> Result<Found, ReadFault>
-    ensures good { OnOk result ((says_member row.now && says_numbers row.now) ≡ true) }
-    ensures bad { result ≡ Err ReadFault.Bad → (says_member row.now && says_numbers row.now) ≡ false }
+    ensures good { OnOk result ((names_member row.now && has_numbers row.now) ≡ true) }
+    ensures bad { result ≡ Err ReadFault.Bad → (names_member row.now && has_numbers row.now) ≡ false }
     ensures member { IfOk result (λ f. number_in (column row.now 3) ≡ f.members) }
     ensures cluster { IfOk result (λ f. number_in (column row.now 2) ≡ f.cluster) }
     ensures node { IfOk result (λ f. number_in (column row.now 4) ≡ f.node) }
@@ -250,7 +250,7 @@ fn judge_row(row: &Row, floor: &[Row], format: u64, identity: Identity) -> Resul
     ensures low { IfOk result (λ f. f.round < NUMBERS) }
     ensures most { IfOk result (λ f. f.number ≤ NUMBERS) }
 {
-    if !says_format(row, format)? {
+    if !has_format(row, format)? {
         return Err(AdoptFault::StoreVersion);
     }
     let found = match found_in_row(row) {

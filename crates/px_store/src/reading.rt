@@ -5,7 +5,7 @@ ghost use Rattle.std.specs.Prelude.{◌<◌, ◌≤◌, ◌^◌};
 ghost use Rattle.sqlite_value.specs.Order.{column};
 ghost use Rattle.px_model.specs.Bounds.{AnyCommand};
 ghost use Rattle.px_model.specs.Step.{positions};
-ghost use Rattle.px_model.specs.Entries.{entry_of as stands_for};
+ghost use Rattle.px_model.specs.Entries.{entry_of as entry_value};
 ghost use Rattle.px_model.specs.Seen.{slot_of};
 ghost use Rattle.px_model.specs.Fits.{EntryFits, SlotFits};
 ghost use Rattle.px_store.specs.Entries.{is_entry, entry_of};
@@ -13,7 +13,7 @@ ghost use Rattle.px_store.specs.Seen.{is_number, is_blob, number_in, bytes_in, i
 ghost use Rattle.px_store.specs.Seen.{is_proposal, is_slot, is_slot_row, are_slot_rows, slot_in};
 ghost use Rattle.px_store.specs.inner.Seen.{slot_with};
 ghost use Rattle.px_store.specs.Seen.{is_learned_row, are_learned_rows, learned_in};
-ghost use Rattle.px_store.specs.inner.Seen.{IsEndOf, Tells, IsMetaIn};
+ghost use Rattle.px_store.specs.inner.Seen.{IsEndOf, HasNumber, IsMetaIn};
 ghost use Rattle.px_store.specs.inner.Seen.{IsFloorIn};
 ghost use Rattle.px_store.specs.inner.Bytes.{read_in, is_entry_in};
 ghost use Rattle.px_store.specs.Judging.{are_floor_rows};
@@ -227,7 +227,7 @@ pub(crate) struct Numbers {
 }
 
 fn expect_number(row: &Row, at: usize, wanted: u64) -> Result<(), ReadFault>
-    ensures { OnOk result (Tells row.now at wanted) }
+    ensures { OnOk result (HasNumber row.now at wanted) }
 {
     if number(row, at)? != wanted {
         return Err(ReadFault::Bad);
@@ -297,8 +297,8 @@ pub(crate) fn floor_in_rows(rows: &[Row], members: u8) -> Result<u64, ReadFault>
 #[tactic(auto, using(crate::proofs::Spelled::entry_fits, crate::proofs::Spelled::shows))]
 pub(crate) fn entry_from(alloc: Global, bytes: &[u8], members: u8) -> Result<Entry, StoreFault>
     requires { is_entry members bytes.now ≡ true }
-    ensures value { IfOk result (λ e. stands_for e ≡ entry_of bytes.now) }
-    ensures fits { IfOk result (λ e. EntryFits AnyCommand members (stands_for e)) }
+    ensures value { IfOk result (λ e. entry_value e ≡ entry_of bytes.now) }
+    ensures fits { IfOk result (λ e. EntryFits AnyCommand members (entry_value e)) }
     ensures why { OnErr result (result ≡ Err StoreFault.Memory) }
 {
     let Some(view) = EntryView::read(bytes) else {

@@ -29,7 +29,7 @@ impl<S: Alter> SqlRecords<S> {
     fn keep(&mut self, row: NewRow, bytes: &[u8], meta: Meta) -> Result<(), StoreFault>
         requires none { self.old.failures ≡ 0 }
         requires fits { AreIntegers row }
-        requires says { meta ≡ meta_with row self.old.meta }
+        requires agrees { meta ≡ meta_with row self.old.meta }
         requires bounds { AreBounded self.old.identity meta }
         requires floor { HasFloor row }
         ensures was { (view_of S.Store self.new).is_honest → (view_of S.Store self.old).is_honest }

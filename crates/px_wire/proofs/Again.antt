@@ -30,14 +30,14 @@ end_clear end bytes le =
     rw short refl
 
 -- what is at an offset
-pub record Stands (w : Width) (at : ℕ) (bytes : List ℕ) (n : ℕ) (more : List ℕ) : Type 0 where
+pub record IsReadAt (w : Width) (at : ℕ) (bytes : List ℕ) (n : ℕ) (more : List ℕ) : Type 0 where
   pub is : number w at bytes ≡ n
   pub after : drop (at + byte_len w) bytes ≡ more
   pub there : at + byte_len w ≤ length bytes
 
-stands : (w : Width) (limit : ℕ) (wide : IsWide w limit) (at : ℕ) (bytes : List ℕ) (n : ℕ) (more : List ℕ) → 1 ≤ byte_len w → n < limit → drop at bytes ≡ to_be_bytes w n ++ more → Stands w at bytes n more
+read_at : (w : Width) (limit : ℕ) (wide : IsWide w limit) (at : ℕ) (bytes : List ℕ) (n : ℕ) (more : List ℕ) → 1 ≤ byte_len w → n < limit → drop at bytes ≡ to_be_bytes w n ++ more → IsReadAt w at bytes n more
 unfolding number
-stands w limit wide at bytes n more some lt e =
+read_at w limit wide at bytes n more some lt e =
     let k = wide.len n in
     let size : length (drop at bytes) ≡ byte_len w + length more = ap length e ∙ length-append (to_be_bytes w n) more ∙ ap (λ (x : ℕ). x + length more) k in
     record {
@@ -46,13 +46,13 @@ stands w limit wide at bytes n more some lt e =
       there = omega (arith, length-drop at bytes, size);
     }
 
-pub stands32 : (at : ℕ) (bytes : List ℕ) (n : ℕ) (more : List ℕ) → n < 2 ^ 32 → drop at bytes ≡ to_be_bytes w32 n ++ more → Stands w32 at bytes n more
-stands32 at bytes n more lt e = stands w32 (2 ^ 32) wide32 at bytes n more (lit≤ tt) lt e
+pub read32_at : (at : ℕ) (bytes : List ℕ) (n : ℕ) (more : List ℕ) → n < 2 ^ 32 → drop at bytes ≡ to_be_bytes w32 n ++ more → IsReadAt w32 at bytes n more
+read32_at at bytes n more lt e = read_at w32 (2 ^ 32) wide32 at bytes n more (lit≤ tt) lt e
 
-pub stands64 : (at : ℕ) (bytes : List ℕ) (n : ℕ) (more : List ℕ) → n < 2 ^ 64 → drop at bytes ≡ to_be_bytes w64 n ++ more → Stands w64 at bytes n more
-stands64 at bytes n more lt e = stands w64 (2 ^ 64) wide64 at bytes n more (lit≤ tt) lt e
+pub read64_at : (at : ℕ) (bytes : List ℕ) (n : ℕ) (more : List ℕ) → n < 2 ^ 64 → drop at bytes ≡ to_be_bytes w64 n ++ more → IsReadAt w64 at bytes n more
+read64_at at bytes n more lt e = read_at w64 (2 ^ 64) wide64 at bytes n more (lit≤ tt) lt e
 
-pub stands8 : (at : ℕ) (bytes : List ℕ) (n : ℕ) (more : List ℕ) → drop at bytes ≡ n ∷ more → Stands w8 at bytes n more
+pub stands8 : (at : ℕ) (bytes : List ℕ) (n : ℕ) (more : List ℕ) → drop at bytes ≡ n ∷ more → IsReadAt w8 at bytes n more
 unfolding number
 stands8 at bytes n more e =
     let size : length (drop at bytes) ≡ suc (length more) = ap length e in
@@ -94,7 +94,7 @@ entry_ends : (origin : ℕ → Bool) (at end : ℕ) (bytes : List ℕ) (x : Lent
 entry_ends origin at end bytes x is allowed here =
     let n : ℕ = length x.bytes in
     let range = long_enough x is in
-    let s = stands32 at bytes n x.bytes (omega (arith, range.1)) here in
+    let s = read32_at at bytes n x.bytes (omega (arith, range.1)) here in
     let size : length (drop (at + 4) bytes) ≡ n = ap length s.after in
     let text : entry_bytes at bytes ≡ x.bytes = ap (λ (k : ℕ). take k (drop (at + 4) bytes)) s.is ∙ ap (take n) s.after ∙ take_all x.bytes in
     let read : lent_in (entry_bytes at bytes) ≡ Some x = ap lent_in text ∙ lent_again x is in
@@ -122,7 +122,7 @@ wide_ballot g b h =
 
 reported_ends : (m : Membership) (below at end : ℕ) (bytes : List ℕ) (a : Option (ℕ × Lent)) → IsReported (group m) below a → drop at bytes ≡ reported a → Ends (accepted m below at bytes) end bytes (accepted_value at bytes) a
 reported_ends m below at end bytes None h here =
-    let s = stands64 at bytes 0 [] (omega arith) (here ∙ sym (append-nil (to_be_bytes w64 0))) in
+    let s = read64_at at bytes 0 [] (omega arith) (here ∙ sym (append-nil (to_be_bytes w64 0))) in
     let zero_is : eqb (u64 at bytes) 0 ≡ true = ap (λ (k : ℕ). eqb k 0) s.is in
     let allowed : is_accepted (group m) below (u64 at bytes) ≡ true = rw zero_is refl in
     record {
@@ -132,7 +132,7 @@ reported_ends m below at end bytes None h here =
     }
 reported_ends m below at end bytes (Some a) h here =
     let w = wide_ballot (group m) a.0 h.0 in
-    let s = stands64 at bytes a.0 (sized a.1) w.1 here in
+    let s = read64_at at bytes a.0 (sized a.1) w.1 here in
     let none_zero : eqb a.0 0 ≡ false = positive a.0 w.0 in
     let zero_is : eqb (u64 at bytes) 0 ≡ false = ap (λ (k : ℕ). eqb k 0) s.is ∙ none_zero in
     let below_is : ltb a.0 below ≡ true = lt-ltb _ _ h.1 in
@@ -153,22 +153,22 @@ small p h =
     let le = leb-true p 999999 h in
     omega arith
 
-pub slot0 : (bytes : List ℕ) (b p : ℕ) (t : List ℕ) → b < 2 ^ 64 → drop 13 bytes ≡ (to_be_bytes w64 b ++ to_be_bytes w32 p) ++ t → Stands w64 13 bytes b (to_be_bytes w32 p ++ t)
-slot0 bytes b p t lt here = stands64 13 bytes b (to_be_bytes w32 p ++ t) lt (here ∙ append_assoc (to_be_bytes w64 b) (to_be_bytes w32 p) t)
+pub slot0 : (bytes : List ℕ) (b p : ℕ) (t : List ℕ) → b < 2 ^ 64 → drop 13 bytes ≡ (to_be_bytes w64 b ++ to_be_bytes w32 p) ++ t → IsReadAt w64 13 bytes b (to_be_bytes w32 p ++ t)
+slot0 bytes b p t lt here = read64_at 13 bytes b (to_be_bytes w32 p ++ t) lt (here ∙ append_assoc (to_be_bytes w64 b) (to_be_bytes w32 p) t)
 
 -- a ballot and a position, and what follows
 slot_ends : (f : Field) (bytes : List ℕ) (b p : ℕ) (t : List ℕ) (fs : List Field) → f.at ≡ 13 → f.len ≡ 8 → b < 2 ^ 64 → (number w64 13 bytes ≡ b → f.allowed ≡ true) → is_position p ≡ true
     → drop 13 bytes ≡ (to_be_bytes w64 b ++ to_be_bytes w32 p) ++ t → first_fault fs 25 bytes ≡ None → first_fault (f ∷ position 21 bytes ∷ fs) 13 bytes ≡ None
 slot_ends f bytes b p t fs at_is len_is lt allowed pos here others =
     let s0 = slot0 bytes b p t lt here in
-    let s1 = stands32 21 bytes p t (small p pos) s0.after in
+    let s1 = read32_at 21 bytes p t (small p pos) s0.after in
     let le : f.at + f.len ≤ length bytes = rw (at_is, len_is) s0.there in
     let pos' : is_position (u32 21 bytes) ≡ true = ap is_position s1.is ∙ pos in
     field_clear f (position 21 bytes ∷ fs) 13 bytes le (allowed s0.is)
     (field_clear (position 21 bytes) fs 21 bytes s1.there pos' others)
 
-slot1 : (bytes : List ℕ) (b p : ℕ) (t : List ℕ) → b < 2 ^ 64 → is_position p ≡ true → drop 13 bytes ≡ (to_be_bytes w64 b ++ to_be_bytes w32 p) ++ t → Stands w32 21 bytes p t
-slot1 bytes b p t lt pos here = stands32 21 bytes p t (small p pos) (slot0 bytes b p t lt here).after
+slot1 : (bytes : List ℕ) (b p : ℕ) (t : List ℕ) → b < 2 ^ 64 → is_position p ≡ true → drop 13 bytes ≡ (to_be_bytes w64 b ++ to_be_bytes w32 p) ++ t → IsReadAt w32 21 bytes p t
+slot1 bytes b p t lt pos here = read32_at 21 bytes p t (small p pos) (slot0 bytes b p t lt here).after
 
 pub token_small : (n : ℕ) → is_number n ≡ true → n < 2 ^ 64
 token_small n h =
@@ -222,7 +222,7 @@ body_ends m from bytes (nack b p q) h here =
     let s0 = slot0 bytes b p (to_be_bytes w64 q) lt here' in
     let s1 = slot1 bytes b p (to_be_bytes w64 q) lt h.1 here' in
     let wq = wide_ballot (group m) q h.2 in
-    let s2 = stands64 25 bytes q [] wq.1 (s1.after ∙ sym (append-nil (to_be_bytes w64 q))) in
+    let s2 = read64_at 25 bytes q [] wq.1 (s1.after ∙ sym (append-nil (to_be_bytes w64 q))) in
     let not_below : leb b q ≡ true = le-leb _ _ h.3 in
     let ok : (is_ballot (group m) (u64 25 bytes) && leb (u64 13 bytes) (u64 25 bytes)) ≡ true = ap (λ (k : ℕ). is_ballot (group m) k && leb (u64 13 bytes) k) s2.is ∙ ap (λ (k : ℕ). is_ballot (group m) q && leb k q) s0.is ∙ and_true (is_ballot (group m) q) (leb b q) h.2 not_below in
     record {
@@ -230,21 +230,21 @@ body_ends m from bytes (nack b p q) h here =
       is = rw (s0.is, s1.is, s2.is) refl;
     }
 body_ends m from bytes (need p) h here =
-    let s0 = stands32 13 bytes p [] (small p h) (here ∙ sym (append-nil (to_be_bytes w32 p))) in
+    let s0 = read32_at 13 bytes p [] (small p h) (here ∙ sym (append-nil (to_be_bytes w32 p))) in
     record { clear = field_clear (position 13 bytes) [] 13 bytes s0.there (ap is_position s0.is ∙ h) (end_clear 17 bytes (ended 17 bytes s0.after)); is = rw s0.is refl }
 body_ends m from bytes (learned p e) h here =
-    let s0 = stands32 13 bytes p (sized e) (small p h.0) here in
+    let s0 = read32_at 13 bytes p (sized e) (small p h.0) here in
     let x = entry_ends (is_member (group m)) 17 17 bytes e h.1.0 h.1.1 s0.after in
     record { clear = field_clear (position 13 bytes) (entry (is_member (group m)) 17 bytes) 13 bytes s0.there (ap is_position s0.is ∙ h.0) x.clear; is = rw (x.is, s0.is) refl }
 body_ends m from bytes (ask e) h here =
     let x = entry_ends (λ origin. eqb origin 255) 13 13 bytes e h.0 (eq-eqb e.origin 255 h.1) here in
     record { clear = x.clear; is = rw x.is refl }
 body_ends m from bytes (asked t n) h here =
-    let s0 = stands64 13 bytes t (to_be_bytes w64 n) (token_small t h.0) here in
-    let s1 = stands64 21 bytes n [] (token_small n h.1) (s0.after ∙ sym (append-nil (to_be_bytes w64 n))) in
+    let s0 = read64_at 13 bytes t (to_be_bytes w64 n) (token_small t h.0) here in
+    let s1 = read64_at 21 bytes n [] (token_small n h.1) (s0.after ∙ sym (append-nil (to_be_bytes w64 n))) in
     record { clear = field_clear (token 13 bytes) (token 21 bytes ∷ []) 13 bytes s0.there (ap is_number s0.is ∙ h.0) (field_clear (token 21 bytes) [] 21 bytes s1.there (ap is_number s1.is ∙ h.1) (end_clear 29 bytes (ended 29 bytes s1.after))); is = rw (s0.is, s1.is) refl }
 body_ends m from bytes (ask_refused t c) h here =
-    let s0 = stands64 13 bytes t (c ∷ []) (token_small t h.0) here in
+    let s0 = read64_at 13 bytes t (c ∷ []) (token_small t h.0) here in
     let s1 = stands8 21 bytes c [] s0.after in
     record { clear = field_clear (token 13 bytes) (field 21 1 57 (is_refusal (u8 21 bytes)) ∷ []) 13 bytes s0.there (ap is_number s0.is ∙ h.0) (field_clear (field 21 1 57 (is_refusal (u8 21 bytes))) [] 21 bytes s1.there (ap is_refusal s1.is ∙ h.1) (end_clear 22 bytes (ended 22 bytes s1.after))); is = rw (s0.is, s1.is) refl }
 body_ends m from bytes (prepare_all b p) h here =
@@ -262,7 +262,7 @@ body_ends m from bytes (promise_all b p top a) h here =
     let s0 = slot0 bytes b p ((to_be_bytes w32 top ++ reported a)) lt here' in
     let s1 = slot1 bytes b p ((to_be_bytes w32 top ++ reported a)) lt h.1 here' in
     let top_le = leb-true top 1000000 h.2 in
-    let s2 = stands32 25 bytes top (reported a) (omega arith) s1.after in
+    let s2 = read32_at 25 bytes top (reported a) (omega arith) s1.after in
     let below : accepted m (u64 13 bytes) 29 bytes ≡ accepted m b 29 bytes = ap (λ (k : ℕ). accepted m k 29 bytes) s0.is in
     let x = reported_ends m b 29 29 bytes a h.3 s2.after in
     record {
@@ -276,9 +276,9 @@ pub datagram_again : (m : Membership) (bytes : List ℕ) (from : ℕ) (message :
 datagram_again m bytes from message small_cluster d =
     let k : ℕ = messages.kind message in
     let t : List ℕ = messages.body message in
-    let s0 = stands32 0 bytes 0x50465852 (1 ∷ (to_be_bytes w32 m.cluster ++ (m.members ∷ (from ∷ (m.me ∷ (k ∷ t)))))) (omega arith) d.spelled in
+    let s0 = read32_at 0 bytes 0x50465852 (1 ∷ (to_be_bytes w32 m.cluster ++ (m.members ∷ (from ∷ (m.me ∷ (k ∷ t)))))) (omega arith) d.spelled in
     let s1 = stands8 4 bytes 1 (to_be_bytes w32 m.cluster ++ (m.members ∷ (from ∷ (m.me ∷ (k ∷ t))))) s0.after in
-    let s2 = stands32 5 bytes m.cluster (m.members ∷ (from ∷ (m.me ∷ (k ∷ t)))) small_cluster s1.after in
+    let s2 = read32_at 5 bytes m.cluster (m.members ∷ (from ∷ (m.me ∷ (k ∷ t)))) small_cluster s1.after in
     let s3 = stands8 9 bytes m.members (from ∷ (m.me ∷ (k ∷ t))) s2.after in
     let s4 = stands8 10 bytes from (m.me ∷ (k ∷ t)) s3.after in
     let s5 = stands8 11 bytes m.me (k ∷ t) s4.after in

@@ -10,10 +10,10 @@ use Rattle.px_wire.specs.Message as messages
 use Rattle.px_wire.specs.Message.{Group, Message, prepare, promise, accept, vote, nack, need, learned, ask, asked, ask_refused, prepare_all, promise_all, sized, reported, IsBody, DatagramBytes, spelling}
 use Rattle.px_wire.specs.Heads.{of_ballot, of_position, of_number, head_of}
 use Rattle.px_wire.specs.inner.Heads.{kind_in, number_in, ballot_in, position_in, asked_in, head_at, head_in}
-use Rattle.px_wire.proofs.Again.{Stands, stands8, stands32, stands64, slot0, wide_ballot, small, token_small}
+use Rattle.px_wire.proofs.Again.{IsReadAt, stands8, read32_at, read64_at, slot0, wide_ballot, small, token_small}
 use Rattle.px_wire.proofs.Fronts.{below}
 
-there_is : (w : Width) (at : ℕ) (bytes : List ℕ) (n : ℕ) (more : List ℕ) → Stands w at bytes n more → number_in w at bytes ≡ Some n
+there_is : (w : Width) (at : ℕ) (bytes : List ℕ) (n : ℕ) (more : List ℕ) → IsReadAt w at bytes n more → number_in w at bytes ≡ Some n
 there_is w at bytes n more s = rw (le-ltb _ _ s.there, s.is) refl
 
 -- ---- what follows the kind
@@ -21,18 +21,18 @@ there_is w at bytes n more s = rw (le-ltb _ _ s.there, s.is) refl
 ballot_again : (from to : ℕ) (k : Kind) (bytes : List ℕ) (b p : ℕ) (t : List ℕ) → b < 2 ^ 64 → p < 2 ^ 32 → drop 13 bytes ≡ (to_be_bytes w64 b ++ to_be_bytes w32 p) ++ t → ballot_in from to k bytes ≡ Some (of_ballot from to k b p)
 ballot_again from to k bytes b p t lt lt' here =
     let s0 = slot0 bytes b p t lt here in
-    let s1 = stands32 21 bytes p t lt' s0.after in
+    let s1 = read32_at 21 bytes p t lt' s0.after in
     ap (λ (r : Option ℕ). r >>= λ b. number_in w32 21 bytes >>= λ p. Some (of_ballot from to k b p)) (there_is w64 13 bytes b (to_be_bytes w32 p ++ t) s0)
     ∙ ap (λ (r : Option ℕ). r >>= λ p. Some (of_ballot from to k b p)) (there_is w32 21 bytes p t s1)
 
 position_again : (from to : ℕ) (k : Kind) (bytes : List ℕ) (p : ℕ) (t : List ℕ) → p < 2 ^ 32 → drop 13 bytes ≡ to_be_bytes w32 p ++ t → position_in from to k bytes ≡ Some (of_position from to k p)
 position_again from to k bytes p t lt here =
-    ap (λ (r : Option ℕ). r >>= λ p. Some (of_position from to k p)) (there_is w32 13 bytes p t (stands32 13 bytes p t lt here))
+    ap (λ (r : Option ℕ). r >>= λ p. Some (of_position from to k p)) (there_is w32 13 bytes p t (read32_at 13 bytes p t lt here))
 
 asked_again : (from to : ℕ) (k : Kind) (bytes : List ℕ) (token n : ℕ) (t : List ℕ) → token < 2 ^ 64 → n < 2 ^ 64 → drop 13 bytes ≡ to_be_bytes w64 token ++ (to_be_bytes w64 n ++ t) → asked_in from to k bytes ≡ Some (of_number from to k n)
 asked_again from to k bytes token n t lt lt' here =
-    let s0 = stands64 13 bytes token (to_be_bytes w64 n ++ t) lt here in
-    ap (λ (r : Option ℕ). r >>= λ n. Some (of_number from to k n)) (there_is w64 21 bytes n t (stands64 21 bytes n t lt' s0.after))
+    let s0 = read64_at 13 bytes token (to_be_bytes w64 n ++ t) lt here in
+    ap (λ (r : Option ℕ). r >>= λ n. Some (of_number from to k n)) (there_is w64 21 bytes n t (read64_at 21 bytes n t lt' s0.after))
 
 abbrev body_head : (from to n : ℕ) → List ℕ → Option Head
 body_head from to n bytes = kind_in n >>= λ k. head_at from to k bytes
@@ -61,7 +61,7 @@ head_again g from to message datagram more bytes d is =
     let k : ℕ = messages.kind message in
     let t : List ℕ = messages.body message ++ more in
     let e : bytes ≡ spelling g from to message ++ more = is ∙ ap (λ (x : List ℕ). x ++ more) d.spelled in
-    let s0 = stands32 0 bytes 0x50465852 (1 ∷ (to_be_bytes w32 g.cluster ++ (g.members ∷ (from ∷ (to ∷ (k ∷ t)))))) (omega arith) e in
+    let s0 = read32_at 0 bytes 0x50465852 (1 ∷ (to_be_bytes w32 g.cluster ++ (g.members ∷ (from ∷ (to ∷ (k ∷ t)))))) (omega arith) e in
     let s4 = stands8 4 bytes 1 (to_be_bytes w32 g.cluster ++ (g.members ∷ (from ∷ (to ∷ (k ∷ t))))) (ap (drop 4) e) in
     let s10 = stands8 10 bytes from (to ∷ (k ∷ t)) (ap (drop 10) e) in
     let s11 = stands8 11 bytes to (k ∷ t) (ap (drop 11) e) in

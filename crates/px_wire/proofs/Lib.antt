@@ -15,7 +15,7 @@
 --   (drop 29)` for an entry's bytes (`Members.lent_are_bytes`) and `slice_set (spelling ..) 11 to` (`Addressed`).
 -- - A head: what reads a number at a place answers an `Option` (`u64_in`), and the readers with faults use it. What
 --   `Head::read` answers is written by `>>=` in specs/inner (`head_in`), and closes by itself; that it is the message's
---   head is one lemma by kind over `Stands` (`Heads.head_again`), for bytes that only begin with the datagram.
+--   head is one lemma by kind over `IsReadAt` (`Heads.head_again`), for bytes that only begin with the datagram.
 -- - The log's messages: `message_of x ≡ as_sent (come_of x)` by `refl` for each kind but an Ask, which no member sends.
 --
 -- Traps:

@@ -4,7 +4,7 @@
 ghost use Rattle.std.specs.Prelude.{◌≡◌, IfSome};
 
 use crate::node::walked;
-use crate::said::say;
+use crate::said::append;
 use crate::store::adopted;
 use pf_eval::{parse_packet, show_verdict};
 use pf_node::{Command, Datagram, Membership, Node, NodeFault};
@@ -184,18 +184,18 @@ fn first<R: Records>(node: &Node<R>) -> Option<(u8, u64)> {
 }
 
 /// Reports the node's verdict for a packet from 10.0.0.1.
-fn say_verdict<R: Records>(alloc: Global, node: &Node<R>, out: &mut String) -> bool {
+fn append_verdict<R: Records>(alloc: Global, node: &Node<R>, out: &mut String) -> bool {
     let Ok(packet) = parse_packet(alloc, PACKET) else {
         return false;
     };
     match show_verdict(alloc, &node.verdict(&packet)) {
-        Ok(line) => say(out, line.as_str()),
+        Ok(line) => append(out, line.as_str()),
         Err(_) => false,
     }
 }
 
 /// Reports what the node shows.
-fn say_node<R: Records>(alloc: Global, node: &Node<R>, out: &mut String) -> bool {
+fn append_node<R: Records>(alloc: Global, node: &Node<R>, out: &mut String) -> bool {
     let (front, applied, round) = (node.front(), node.applied(), node.round());
     let (origin, number) = first(node).unwrap_or((255, 0));
     write!(
@@ -203,18 +203,18 @@ fn say_node<R: Records>(alloc: Global, node: &Node<R>, out: &mut String) -> bool
         "round {round} front {front} applied {applied} entry {number} of {origin}, "
     )
     .is_ok()
-        && say_verdict(alloc, node, out)
+        && append_verdict(alloc, node, out)
 }
 
 /// Reports what each node shows.
-fn say_all<R: Records>(alloc: Global, nodes: &[Node<R>], out: &mut String) -> bool {
+fn append_all<R: Records>(alloc: Global, nodes: &[Node<R>], out: &mut String) -> bool {
     let mut is_first = true;
     for node in nodes {
-        if !is_first && !say(out, "; ") {
+        if !is_first && !append(out, "; ") {
             return false;
         }
         is_first = false;
-        if !say_node(alloc, node, out) {
+        if !append_node(alloc, node, out) {
             return false;
         }
     }
@@ -222,7 +222,7 @@ fn say_all<R: Records>(alloc: Global, nodes: &[Node<R>], out: &mut String) -> bo
 }
 
 /// Does the run over these empty stores, and reports what each node shows then.
-pub(crate) fn say_run<S: Alter + Drop>(
+pub(crate) fn append_run<S: Alter + Drop>(
     alloc: Global,
     zero: Connection<S>,
     one: Connection<S>,
@@ -235,9 +235,9 @@ pub(crate) fn say_run<S: Alter + Drop>(
     let is_two = begin(alloc, &mut nodes, 2, two);
     let is_over = is_zero && is_one && is_two && finish(alloc, &mut nodes).is_ok();
     let is_written = if is_over {
-        say_all(alloc, &nodes, out)
+        append_all(alloc, &nodes, out)
     } else {
-        say(out, "refused")
+        append(out, "refused")
     };
     drop(nodes);
     is_written

@@ -1,7 +1,7 @@
 //! Stores in files, and files that aren't stores.
 use crate::fused::opened;
 use crate::place::{Either, Place, Store};
-use crate::said::say;
+use crate::said::append;
 use crate::store::{work, work_once};
 use sqlite::{Connection, Files, Options, Unknown};
 use std::fs;
@@ -32,14 +32,14 @@ fn connected(rt: &HostRuntime, file: &str) -> Option<Connection<Store>> {
 pub(crate) fn in_file(rt: &HostRuntime, file: &str, tasks: &str, out: &mut String) -> bool {
     match connected(rt, file) {
         Some(conn) => work_once(rt.alloc(), conn, tasks, out),
-        None => say(out, "doesn't open"),
+        None => append(out, "doesn't open"),
     }
 }
 
 /// Reports whether the file opens while its store is open.
-fn say_again(rt: &HostRuntime, file: &str, out: &mut String) -> bool {
+fn append_again(rt: &HostRuntime, file: &str, out: &mut String) -> bool {
     let is_open = connected(rt, file).is_some();
-    say(
+    append(
         out,
         if is_open {
             "; opens; "
@@ -54,39 +54,39 @@ pub(crate) fn twice(rt: &HostRuntime, file: &str, tasks: &str, out: &mut String)
     match connected(rt, file) {
         Some(conn) => {
             let (is_written, conn) = work(rt.alloc(), conn, tasks, out);
-            let is_written = is_written && say_again(rt, file, out);
+            let is_written = is_written && append_again(rt, file, out);
             work_once(rt.alloc(), conn, tasks, out) && is_written
         }
-        None => say(out, "doesn't open"),
+        None => append(out, "doesn't open"),
     }
 }
 
 /// Reports whether something was done with a file.
-fn say_done(out: &mut String, is_done: bool) -> bool {
-    say(out, if is_done { "done" } else { "no file" })
+fn append_done(out: &mut String, is_done: bool) -> bool {
+    append(out, if is_done { "done" } else { "no file" })
 }
 
 /// Writes a file of some thousand bytes.
 pub(crate) fn text(rt: &HostRuntime, file: &str, out: &mut String) -> bool {
     match "pass in quick proto tcp from any to any port 22\n".repeat(rt.alloc(), 200) {
-        Ok(text) => say_done(out, fs::write(rt, file, text.as_str()).is_ok()),
+        Ok(text) => append_done(out, fs::write(rt, file, text.as_str()).is_ok()),
         Err(_) => false,
     }
 }
 
 /// Makes a folder.
 pub(crate) fn folder(rt: &HostRuntime, file: &str, out: &mut String) -> bool {
-    say_done(out, fs::create_dir(rt, file).is_ok())
+    append_done(out, fs::create_dir(rt, file).is_ok())
 }
 
 /// Leaves the first bytes of a file, whose name and their number are between a blank.
 pub(crate) fn cut(rt: &HostRuntime, words: &str, out: &mut String) -> bool {
     let (file, length) = words.split_once(' ').unwrap_or((words, ""));
     let Ok(bytes) = fs::read(rt, file) else {
-        return say_done(out, false);
+        return append_done(out, false);
     };
     match bytes.get(..length.parse::<usize>().unwrap_or(0)) {
-        Some(front) => say_done(out, fs::write(rt, file, front).is_ok()),
-        None => say_done(out, false),
+        Some(front) => append_done(out, fs::write(rt, file, front).is_ok()),
+        None => append_done(out, false),
     }
 }

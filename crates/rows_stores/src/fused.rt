@@ -1,7 +1,7 @@
 //! Files in memory that stop.
-use crate::cluster::say_run;
+use crate::cluster::append_run;
 use crate::place::{Either, Place, Store};
-use crate::said::say;
+use crate::said::append;
 use crate::store::work;
 use sqlite::{Connection, Files, Options};
 use sqlite_disk::{Crash, Disk, Fuse, Memory};
@@ -86,7 +86,7 @@ fn work_in(
             let (is_written, conn) = work(alloc, conn, tasks, out);
             (is_written, conn.into_store().close())
         }
-        Err(files) => (say(out, "refused"), files),
+        Err(files) => (append(out, "refused"), files),
     }
 }
 
@@ -164,7 +164,7 @@ fn with_two(
     out: &mut String,
 ) -> bool {
     match empty(alloc) {
-        Some(two) => say_run(alloc, zero, one, two, out),
+        Some(two) => append_run(alloc, zero, one, two, out),
         None => {
             drop(zero);
             drop(one);

@@ -83,7 +83,7 @@ fn done(rt: &HostRuntime, line: &str, out: &mut String) -> bool {
         "text" => text(rt, file, out),
         "folder" => folder(rt, file, out),
         "cut" => cut(rt, file, out),
-        _ => crate::said::say(out, "unknown line"),
+        _ => crate::said::append(out, "unknown line"),
     }
 }
 

@@ -11,7 +11,7 @@
 ghost use Rattle.std.specs.Prelude.{◌≡◌};
 
 use crate::cluster::{ask, opened};
-use crate::said::{say, say_number};
+use crate::said::{append, append_number};
 use pf_node::{Datagram, Node, NodeFault, Received};
 use px_records::Records;
 use std::alloc::Global;
@@ -39,10 +39,10 @@ fn done(came: Result<(), NodeFault>) -> Result<Received, NodeFault> {
 }
 
 /// Reports what came of a step, behind which that many datagrams are to be sent.
-fn say_done(out: &mut String, came: Result<Received, NodeFault>, sent: usize) -> bool {
+fn append_done(out: &mut String, came: Result<Received, NodeFault>, sent: usize) -> bool {
     match came {
-        Ok(Received::Done) => say_number(out, "done", sent as u64),
-        Ok(Received::Ignored(_)) => say(out, "ignored"),
+        Ok(Received::Done) => append_number(out, "done", sent as u64),
+        Ok(Received::Ignored(_)) => append(out, "ignored"),
         Err(fault) => write!(out, "fault {fault}").is_ok(),
     }
 }
@@ -58,13 +58,13 @@ fn walk<R: Records>(alloc: Global, node: &mut Node<R>, text: &str, out: &mut Str
     };
     let count = sent.len();
     drop(sent);
-    say_done(out, came, count)
+    append_done(out, came, count)
 }
 
 /// Does one step after the other with the node; what each reports is appended, a comma behind it.
 fn walk_all<R: Records>(alloc: Global, node: &mut Node<R>, steps: &str, out: &mut String) -> bool {
     for text in steps.split_terminator(", ") {
-        if !walk(alloc, node, text, out) || !say(out, ", ") {
+        if !walk(alloc, node, text, out) || !append(out, ", ") {
             return false;
         }
     }

@@ -13,7 +13,9 @@
 ghost use Rattle.std.specs.Prelude.{◌≡◌};
 
 use crate::change::{Made, make, make_all};
-use crate::said::{Refused, say, say_entry, say_fault, say_made, say_number, say_slot};
+use crate::said::{
+    Refused, append, append_entry, append_fault, append_made, append_number, append_slot,
+};
 use px_model::Meta;
 use px_records::{Records, StoreFault};
 use std::alloc::Global;
@@ -61,15 +63,15 @@ fn show<R: Records>(records: &mut R, out: &mut String) -> bool
             meta.round, meta.number, meta.floor
         )
         .is_ok(),
-        Err(fault) => say_fault(out, fault),
+        Err(fault) => append_fault(out, fault),
     }
 }
 
 /// Reports a number that was read.
 fn report(out: &mut String, name: &str, number: Result<u32, StoreFault>) -> bool {
     match number {
-        Ok(number) => say_number(out, name, number as u64),
-        Err(fault) => say_fault(out, fault),
+        Ok(number) => append_number(out, name, number as u64),
+        Err(fault) => append_fault(out, fault),
     }
 }
 
@@ -78,8 +80,8 @@ fn slot<R: Records>(records: &mut R, position: u32, out: &mut String) -> bool
     ensures { R.members records.new ≡ R.members records.old }
 {
     match records.read_slot(position) {
-        Ok(slot) => say_slot(out, &slot),
-        Err(fault) => say_fault(out, fault),
+        Ok(slot) => append_slot(out, &slot),
+        Err(fault) => append_fault(out, fault),
     }
 }
 
@@ -88,8 +90,8 @@ fn learned<R: Records>(records: &mut R, position: u32, out: &mut String) -> bool
     ensures { R.members records.new ≡ R.members records.old }
 {
     match records.read_learned(position) {
-        Ok(entry) => say(out, "learned") && say_entry(out, entry.as_ref()),
-        Err(fault) => say_fault(out, fault),
+        Ok(entry) => append(out, "learned") && append_entry(out, entry.as_ref()),
+        Err(fault) => append_fault(out, fault),
     }
 }
 
@@ -159,7 +161,7 @@ fn change<R: Records>(
         "accept" | "learn" | "promise" => make_all(alloc, records, made, to),
         _ => make(alloc, records, made),
     };
-    say_made(out, is_made)
+    append_made(out, is_made)
 }
 
 /// Does the step with a record of three members, and reports what came of it.
@@ -176,8 +178,8 @@ pub(crate) fn step<R: Records>(alloc: Global, records: &mut R, step: &str, out: 
         "entries" => report(out, "entries", entries(records, numbers[0], numbers[1])),
         "top" => report(out, "top", top(records)),
         "end" => report(out, "end", end(records)),
-        "failures" => say_number(out, "failures", records.failures()),
-        "read" => say_made(out, read(records, numbers[0])),
+        "failures" => append_number(out, "failures", records.failures()),
+        "read" => append_made(out, read(records, numbers[0])),
         _ => change(alloc, records, word, numbers, out),
     }
 }

@@ -4,7 +4,7 @@ use px_records::StoreFault;
 use std::fmt::Write;
 
 /// Appends a string.
-pub(crate) fn say(out: &mut String, text: &str) -> bool {
+pub(crate) fn append(out: &mut String, text: &str) -> bool {
     out.push_str(text).is_ok()
 }
 
@@ -22,32 +22,32 @@ pub(crate) enum Refused {
 }
 
 /// Appends why a call on a record is refused.
-pub(crate) fn say_fault(out: &mut String, fault: StoreFault) -> bool {
+pub(crate) fn append_fault(out: &mut String, fault: StoreFault) -> bool {
     write!(out, "{fault}").is_ok()
 }
 
 /// Appends that changes are made, or why not.
-pub(crate) fn say_made(out: &mut String, made: Result<(), Refused>) -> bool {
+pub(crate) fn append_made(out: &mut String, made: Result<(), Refused>) -> bool {
     match made {
-        Ok(()) => say(out, "done"),
-        Err(Refused::Line) => say(out, "no such change"),
-        Err(Refused::Memory) => say(out, "out of memory"),
-        Err(Refused::Lost) => say(out, "lost"),
-        Err(Refused::Store(fault)) => say_fault(out, fault),
+        Ok(()) => append(out, "done"),
+        Err(Refused::Line) => append(out, "no such change"),
+        Err(Refused::Memory) => append(out, "out of memory"),
+        Err(Refused::Lost) => append(out, "lost"),
+        Err(Refused::Store(fault)) => append_fault(out, fault),
     }
 }
 
 /// Appends a name and a number.
-pub(crate) fn say_number(out: &mut String, name: &str, number: u64) -> bool {
+pub(crate) fn append_number(out: &mut String, name: &str, number: u64) -> bool {
     write!(out, "{name} {number}").is_ok()
 }
 
 /// Appends the bytes in hexadecimal digits, or that there is no entry.
-pub(crate) fn say_entry(out: &mut String, entry: Option<&Entry>) -> bool {
+pub(crate) fn append_entry(out: &mut String, entry: Option<&Entry>) -> bool {
     let Some(entry) = entry else {
-        return say(out, " none");
+        return append(out, " none");
     };
-    if !say(out, " ") {
+    if !append(out, " ") {
         return false;
     }
     for byte in entry.bytes() {
@@ -59,14 +59,15 @@ pub(crate) fn say_entry(out: &mut String, entry: Option<&Entry>) -> bool {
 }
 
 /// Appends what a slot has.
-pub(crate) fn say_slot(out: &mut String, slot: &Slot) -> bool {
-    if !say_number(out, "promised", slot.promised) {
+pub(crate) fn append_slot(out: &mut String, slot: &Slot) -> bool {
+    if !append_number(out, "promised", slot.promised) {
         return false;
     }
     match &slot.accepted {
         None => true,
         Some(proposal) => {
-            say_number(out, " accepted", proposal.ballot) && say_entry(out, Some(&proposal.entry))
+            append_number(out, " accepted", proposal.ballot)
+                && append_entry(out, Some(&proposal.entry))
         }
     }
 }

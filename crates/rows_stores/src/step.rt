@@ -2,7 +2,7 @@
 ghost use Rattle.std.specs.Prelude.{◌≡◌};
 
 use crate::record::step;
-use crate::said::say;
+use crate::said::append;
 use px_records::Records;
 use std::alloc::Global;
 
@@ -19,7 +19,7 @@ pub(crate) fn follow<R: Records>(
 {
     let mut is_first = true;
     for text in steps.split(", ") {
-        if !is_first && !say(out, ", ") {
+        if !is_first && !append(out, ", ") {
             return false;
         }
         is_first = false;

@@ -7,7 +7,7 @@
 //! new node, its record must be that before the change or step at which the stop came, or that with it. A line that
 //! holds reports how many calls on either file its run has.
 use crate::fused::{Held, NEVER, Stop, attempt};
-use crate::said::say;
+use crate::said::append;
 use std::alloc::{AllocError, Global};
 use std::fmt::Write;
 
@@ -249,7 +249,7 @@ fn found(alloc: Global, work: Work, before: &str, line: &str) -> Option<(Trials,
 }
 
 /// Reports what was found of that many changes.
-fn say_found(out: &mut String, found: Trials, changes: usize) -> bool {
+fn append_found(out: &mut String, found: Trials, changes: usize) -> bool {
     match found.came {
         Came::Whole if found.log.min(found.db) > changes.max(1) as u64 => write!(
             out,
@@ -257,17 +257,17 @@ fn say_found(out: &mut String, found: Trials, changes: usize) -> bool {
             found.log, found.db
         )
         .is_ok(),
-        Came::Whole => say(out, "too few calls"),
-        Came::Stopped => say(out, "it always stops"),
-        Came::InParts => say(out, "a store in parts"),
-        Came::Other => say(out, "another record"),
+        Came::Whole => append(out, "too few calls"),
+        Came::Stopped => append(out, "it always stops"),
+        Came::InParts => append(out, "a store in parts"),
+        Came::Other => append(out, "another record"),
     }
 }
 
 /// Does the line, and reports what was found.
 pub(crate) fn stops(alloc: Global, work: Work, before: &str, line: &str, out: &mut String) -> bool {
     match found(alloc, work, before, line) {
-        Some((found, changes)) => say_found(out, found, changes),
+        Some((found, changes)) => append_found(out, found, changes),
         None => false,
     }
 }

@@ -2,7 +2,7 @@
 ghost use Rattle.std.specs.Prelude.{◌≡◌, IfOk, IfSome};
 
 use crate::node::walked;
-use crate::said::{say, say_number};
+use crate::said::{append, append_number};
 use crate::step::follow;
 use px_records::{FaultyRecords, MemoryRecords, Records, When};
 use px_store::{AdoptFault, Identity, SqlRecords};
@@ -56,10 +56,10 @@ fn found<S: Alter + Drop>(
 }
 
 /// Reports why a store isn't taken.
-fn say_refused(out: &mut String, fault: AdoptFault) -> bool {
+fn append_refused(out: &mut String, fault: AdoptFault) -> bool {
     match fault.code() {
-        Some(code) => say_number(out, "refused", code as u64),
-        None => say(out, "out of memory"),
+        Some(code) => append_number(out, "refused", code as u64),
+        None => append(out, "out of memory"),
     }
 }
 
@@ -79,7 +79,7 @@ fn take<S: Alter + Drop>(
             let is_written = follow(alloc, &mut records, steps, out);
             (is_written, records.release())
         }
-        Err((fault, conn)) => (say_refused(out, fault), conn),
+        Err((fault, conn)) => (append_refused(out, fault), conn),
     }
 }
 
@@ -103,7 +103,7 @@ fn take_node<S: Alter + Drop>(
             let (is_shown, conn) = take(alloc, records.release(), identity, "take", look, out);
             (is_written && is_shown, conn)
         }
-        Err((fault, conn)) => (say_refused(out, fault), conn),
+        Err((fault, conn)) => (append_refused(out, fault), conn),
     }
 }
 
@@ -120,14 +120,14 @@ fn count<S: Alter>(conn: &mut Connection<S>, out: &mut String) -> bool {
             let tables = conn.schema().tables.len();
             write!(out, "format {format} of {tables} tables").is_ok()
         }
-        None => say(out, "refused"),
+        None => append(out, "refused"),
     }
 }
 
 /// Runs statements that answer nothing.
 fn run<S: Alter>(conn: &mut Connection<S>, sql: &str, out: &mut String) -> bool {
     let is_run = conn.execute_batch(sql).is_ok();
-    say(out, if is_run { "done" } else { "refused" })
+    append(out, if is_run { "done" } else { "refused" })
 }
 
 /// Does a task that isn't done with a record.
@@ -135,7 +135,7 @@ fn handle<S: Alter>(conn: &mut Connection<S>, word: &str, rest: &str, out: &mut 
     match word {
         "sql" => run(conn, rest, out),
         "count" => count(conn, out),
-        _ => say(out, "no such task"),
+        _ => append(out, "no such task"),
     }
 }
 
@@ -169,7 +169,7 @@ pub(crate) fn work<S: Alter + Drop>(
     let (first, rest) = tasks.split_once(" | ").unwrap_or((tasks, ""));
     let (mut is_written, mut conn) = do_task(alloc, conn, first, out);
     for task in rest.split_terminator(" | ") {
-        is_written = is_written && say(out, "; ");
+        is_written = is_written && append(out, "; ");
         let done = do_task(alloc, conn, task, out);
         is_written = is_written && done.0;
         conn = done.1;
@@ -205,7 +205,7 @@ fn faulty(alloc: Global, fails: &str) -> FaultyRecords<MemoryRecords>
 pub(crate) fn plain(alloc: Global, fails: &str, line: &str, out: &mut String) -> bool {
     let mut records = faulty(alloc, fails);
     let (steps, then) = line.split_once(" | ").unwrap_or((line, ""));
-    let is_written = follow(alloc, &mut records, steps, out) && say(out, "; ");
+    let is_written = follow(alloc, &mut records, steps, out) && append(out, "; ");
     let mut inner = records.into_inner();
     is_written && follow(alloc, &mut inner, then, out)
 }

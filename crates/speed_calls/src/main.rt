@@ -157,7 +157,7 @@ fn print_lines(rt: &HostRuntime) -> Result<(), Fault> {
 }
 
 /// Writes what the arguments of the program give, or the lines.
-fn tell_all(rt: &HostRuntime, words: &[String]) -> Result<(), Fault> {
+fn report_all(rt: &HostRuntime, words: &[String]) -> Result<(), Fault> {
     let mut list = Vec::new(rt.alloc());
     for word in words {
         if list.push(word.as_str()).is_err() {
@@ -184,7 +184,7 @@ fn main(rt: HostRuntime) -> ExitCode {
     let Ok(words) = words_of(&rt) else {
         return ExitCode::from(1);
     };
-    match tell_all(&rt, &words) {
+    match report_all(&rt, &words) {
         Ok(()) => ExitCode::SUCCESS,
         Err(Fault::Words) => ExitCode::from(2),
         Err(Fault::Memory) => ExitCode::from(1),

@@ -139,7 +139,7 @@ pub fn is_read(row: &Row) -> bool {
 static PROMISED: Row = (0, PROMISE, 1, [2, 512, 5, 257], Some((0, 0, ADD)));
 
 #[test]
-fn a_promise_tells_what_was_accepted(rt: HostRuntime) {
+fn a_promise_reports_what_was_accepted(rt: HostRuntime) {
     assert!(rt; is_read(&PROMISED));
 }
 

@@ -369,7 +369,7 @@ static NO_BRACKETS: [&str; 11] = [
 ];
 
 #[test]
-fn an_ipv6_address_stands_in_brackets(rt: HostRuntime) {
+fn an_ipv6_address_is_in_brackets(rt: HostRuntime) {
     let address = parse_address("[2001:db8::1]:4711").expect(&rt, "an address");
     let ip = Addr::V6(0x2001_0db8_0000_0000_0000_0000_0000_0001);
     assert!(rt; address.ip == ip && address.port == 4711);

@@ -336,7 +336,7 @@ fn how_long_an_answer_takes_is_learned_from_votes(rt: HostRuntime) {
 static LEARNED_LATE: Row = (28_000, LEARNED, Action::Tick);
 
 #[test]
-fn what_was_sent_again_tells_no_answers_time(rt: HostRuntime) {
+fn what_was_sent_again_gives_no_answers_time(rt: HostRuntime) {
     let mut timer = TickTimer::new(0);
     assert!(rt; act(&mut timer, &PROMISED) && timer.repeats(27_000));
     // 12 ms and a 32nd, 12.375, as before; so 18.562 and 5 ms later
@@ -344,7 +344,7 @@ fn what_was_sent_again_tells_no_answers_time(rt: HostRuntime) {
 }
 
 #[test]
-fn what_another_proposed_meanwhile_tells_no_answers_time(rt: HostRuntime) {
+fn what_another_proposed_meanwhile_gives_no_answers_time(rt: HostRuntime) {
     let mut timer = TickTimer::new(0);
     assert!(rt; act(&mut timer, &PROMISED));
     timer.sent(5_000);
@@ -360,7 +360,7 @@ static ANEW: [Row; 3] = [
 ];
 
 #[test]
-fn promises_of_a_round_begun_anew_tell_an_answers_time(rt: HostRuntime) {
+fn promises_of_a_round_begun_anew_give_an_answers_time(rt: HostRuntime) {
     let mut timer = TickTimer::new(0);
     assert!(rt; act(&mut timer, &ANEW) && is_due(&mut timer, 207_500));
 }

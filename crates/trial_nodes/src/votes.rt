@@ -207,7 +207,7 @@ static STANDING_STILL: [Row; 5] = [
 ];
 
 #[test]
-fn who_stands_still_is_sent_all_again_after_20_ms(rt: HostRuntime) {
+fn a_member_without_progress_is_sent_all_again_after_20_ms(rt: HostRuntime) {
     assert!(rt; is_so(rt.alloc(), 2, 10, 27, &STANDING_STILL));
 }
 

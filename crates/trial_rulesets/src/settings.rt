@@ -26,7 +26,7 @@ fn fault_of(alloc: Global, text: &str) -> Option<FileFault> {
 }
 
 #[test]
-fn a_file_says_what_it_has(rt: HostRuntime) -> Result<(), Fail> {
+fn a_file_names_what_it_has(rt: HostRuntime) -> Result<(), Fail> {
     let alloc = rt.alloc();
     let file = NodeFile::read(alloc, FILE.as_bytes())?;
     assert_eq!(rt; file.number("cluster"), Some(7));

@@ -19,22 +19,22 @@ use Rattle.node_control.specs.inner.Observing.{AreKept}
 use Rattle.node_control.specs.inner.Rows.{up_to_max}
 
 -- a response has an answer's status and body; or it is 503 with an empty body, if it is out of memory for that
-abbrev pub Says : Response → AnswerValue → Type 0
-Says r a = ((r.status ≡ a.code) × (r.body.items ≡ a.body)) ⊎ ((r.status ≡ 503) × (r.body.items ≡ []))
+abbrev pub Carries : Response → AnswerValue → Type 0
+Carries r a = ((r.status ≡ a.code) × (r.body.items ≡ a.body)) ⊎ ((r.status ≡ 503) × (r.body.items ≡ []))
 
 -- the request handler answered the request, over what was counted, and the response has that answer
 pub record IsAnswered {R : Type 0} {G : Ghosts R} (s t : RequestHandler R G) (counted : Counters) (request : Request)
     (r : Response) : Type 0 where
   pub answer : AnswerValue
   pub answers : Answers s t counted request answer
-  pub says : Says r answer
+  pub carries : Carries r answer
 
 -- nothing was asked and nothing changes; the response has this answer
 pub record IsTurnedAway {R : Type 0} {G : Ghosts R} (c d : HttpService R G) (a : AnswerValue) (r : Response) :
     Type 0 where
   pub still : d.handler ≡ c.handler
   pub left : d.changes_left ≡ c.changes_left
-  pub says : Says r a
+  pub carries : Carries r a
 
 -- clients change nothing of what the loop reports of the node
 pub record IsKept {R : Type 0} {G : Ghosts R} (c d : HttpService R G) : Type 0 where

@@ -60,12 +60,12 @@ heard_by now head h =
 abbrev pub is_of_other : Head → Hearing → Bool
 is_of_other head h = not (head.from == h.m.me) && nat_lt head.from h.m.members
 
-abbrev pub says_end : Head → Hearing → Bool
-says_end head h =
+abbrev pub logs_end : Head → Hearing → Bool
+logs_end head h =
     is_of_other head h && (nat_le 900000 (unwrap_or head.position 0) && not h.is_ending)
 
 abbrev pub with_end : Head → Hearing → Hearing
-with_end head h = record h { is_ending = h.is_ending || says_end head h }
+with_end head h = record h { is_ending = h.is_ending || logs_end head h }
 
 abbrev pub all_heard : (now : ℕ) → List Head → Hearing → Hearing
 all_heard now [] h = h
@@ -83,9 +83,9 @@ after_round now heads c h =
 -- ---- what others have
 
 -- it is written that the node has caught up, if it lacked for long what others have
-abbrev pub says_caught_up : (lacks : Bool) → (now : ℕ) → (since : Option ℕ) → (quiet : Bool) → Bool
-says_caught_up lacks now None quiet = false
-says_caught_up lacks now (Some since) quiet = not lacks && (not quiet && not (is_within since now 3))
+abbrev pub logs_caught_up : (lacks : Bool) → (now : ℕ) → (since : Option ℕ) → (quiet : Bool) → Bool
+logs_caught_up lacks now None quiet = false
+logs_caught_up lacks now (Some since) quiet = not lacks && (not quiet && not (is_within since now 3))
 
 -- since when it lacks it
 abbrev pub lacking_since : (lacks : Bool) → (now : ℕ) → (since : Option ℕ) → Option ℕ

@@ -46,7 +46,7 @@ IsTableIf false changed old new = new ≡ old
 -- ---- the tables of a path
 
 -- the table of that name has this index
-pub record StandsAt (tables : List (Name × TableValue)) (name : Name) (at : ℕ) : Type 0 where
+pub record IsStoredAt (tables : List (Name × TableValue)) (name : Name) (at : ℕ) : Type 0 where
   pub within : at < length tables
   pub is : (t : Name × TableValue) → t ≡ get_or tables at t → t.0 ≡ name
 

@@ -48,21 +48,21 @@ abbrev pub floor_rows : ℕ → List Row
 floor_rows ballot = if nat_eq ballot 0 then [] else floor_row ballot ∷ []
 
 -- the column has this number
-abbrev pub Tells : Row → (at number : ℕ) → Type 0
-Tells r at n = (is_number (column r at) ≡ true) × (number_in (column r at) ≡ n)
+abbrev pub HasNumber : Row → (at number : ℕ) → Type 0
+HasNumber r at n = (is_number (column r at) ≡ true) × (number_in (column r at) ≡ n)
 
 -- one row, which has these numbers
 abbrev pub IsMetaIn : (cluster members node round number : ℕ) → List Row → Type 0
 IsMetaIn c m n round number [] = ⊥
 IsMetaIn c m n round number (r ∷ []) =
-    Tells r 0 1 × (Tells r 1 3 ×
-    (Tells r 2 c × (Tells r 3 m × (Tells r 4 n × (Tells r 5 round × Tells r 6 number)))))
+    HasNumber r 0 1 × (HasNumber r 1 3 ×
+    (HasNumber r 2 c × (HasNumber r 3 m × (HasNumber r 4 n × (HasNumber r 5 round × HasNumber r 6 number)))))
 IsMetaIn c m n round number (r ∷ x ∷ more) = ⊥
 
 -- no row, or one, which has a ballot above 0
 abbrev pub IsFloorIn : ℕ → List Row → Type 0
 IsFloorIn b [] = b ≡ 0
-IsFloorIn b (r ∷ []) = Tells r 0 1 × (Tells r 1 b × (0 < b))
+IsFloorIn b (r ∷ []) = HasNumber r 0 1 × (HasNumber r 1 b × (0 < b))
 IsFloorIn b (r ∷ x ∷ more) = ⊥
 
 -- ---- the last row

@@ -6,8 +6,8 @@ use Rattle.pf_config.proofs.Cut.{next_kid}
 use Rattle.pf_config.proofs.KidPlaces.{left_whole, has_place, removed_at}
 use Rattle.pf_config.proofs.below.take_named.Goals as goal
 
-pub returns-then-not-stands_at-clause-left : goal.returns-then-not-stands_at-clause-left
-returns-then-not-stands_at-clause-left c =
+pub returns-then-not-is_at-clause-left : goal.returns-then-not-is_at-clause-left
+returns-then-not-is_at-clause-left c =
     let none : is_some (find (is_named c.args.name.now) (shared c.args.kids.now.items)) ≡ false = search rules in
     (left_whole c.args.name.now (shared c.args.kids.now.items) c.requires.order none).1
 

@@ -7,7 +7,7 @@ use Rattle.px_wire.specs.Message.{DatagramBytes}
 use Rattle.px_wire.specs.Members.{as_sent}
 use Rattle.pf_lab.specs.Coming.{action_of}
 use Rattle.pf_lab.specs.declared.event.LabAction.{LabAction}
-use Rattle.px_replica.proofs.Telling.{comes_spelled, unsent}
+use Rattle.px_replica.proofs.Messages.{comes_spelled, unsent}
 use Rattle.pf_lab.proofs.coming.what_comes.Goals as goal
 
 pub returns-in-Some-get-clause-came : goal.returns-in-Some-get-clause-came

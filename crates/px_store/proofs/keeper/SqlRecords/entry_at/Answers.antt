@@ -33,9 +33,9 @@ returns-then-position-self-2-clause-bad g c = λ honest is good.
           let next : c.read_ahead.new.self.ahead.next ≡ c.args.position = search rules in
           let tree = (state g.S.Store c.read_ahead.new.self.conn).committed.trees 3 in
           let row = subst (λ (p : ℕ). seen learned_columns tree p ≡ option_to_list c.pass-row.result) next (c.pass-row.ensures.row tree (c.read_ahead.new.self.ahead_is none honest)) in
-          let says = w.in-Err-Bad.ensures.bad (let e = w.in-Err-Bad.field-0-is in cc) in
+          let agrees = w.in-Err-Bad.ensures.bad (let e = w.in-Err-Bad.field-0-is in cc) in
           let now = (c.read_ahead.ensures.reads.keeps honest none).rows (EntryAt c.args.position) good in
-          let e : false ≡ true = sym says ∙ ap (are_learned_rows c.read_ahead.new.self.identity.members c.args.position) (slice_is c.pass-row.result c.as_slice.result.now c.as_slice.ensures ∙ sym row) ∙ now in
+          let e : false ≡ true = sym agrees ∙ ap (are_learned_rows c.read_ahead.new.self.identity.members c.args.position) (slice_is c.pass-row.result c.as_slice.result.now c.as_slice.ensures ∙ sym row) ∙ now in
           absurd cc
     ]
 

@@ -14,7 +14,7 @@ invariant_of-self g c = record {
   ready = λ none clean.
       let r = c.args.self.now.ready c.requires.none (c.in-Ok.ensures.clean clean) in
       let w = c.in-Ok.ensures.wrote clean (record { schema = r.0; auto = r.1.0 }) r.1.1.0 in
-      still_ready c.args.self.now.identity c.args.row c.args.bytes.now c.args.self.now.meta c.args.meta (state g.S.Store c.args.self.now.conn) (state g.S.Store c.put.new.conn) c.requires.says c.requires.floor r.1.1.1 w.ok;
+      still_ready c.args.self.now.identity c.args.row c.args.bytes.now c.args.self.now.meta c.args.meta (state g.S.Store c.args.self.now.conn) (state g.S.Store c.put.new.conn) c.requires.agrees c.requires.floor r.1.1.1 w.ok;
   ahead_is = λ none clean. c.none.ensures _;
   owned = still_owned c.args.self.now.identity c.args.row c.args.bytes.now c.args.self.now.meta _ (state g.S.Store c.args.self.now.conn) (state g.S.Store c.put.new.conn) c.in-Ok.ensures.clean c.requires.floor
       (λ was. (c.args.self.now.ready c.requires.none was).1.1.1) c.args.self.now.owned
