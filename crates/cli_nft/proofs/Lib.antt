@@ -1,3 +1,2 @@
-pub mod LinesCut
 pub mod Writing
 pub mod Joining

@@ -13,7 +13,6 @@ use Rattle.cli_io.specs.Sources.{IsAt}
 use Rattle.cli_io.specs.Written.{line, AppendsFront, IsMisused, RanOut}
 use Rattle.cli_io.specs.declared.status.Status.{Status}
 use Rattle.cli_io.specs.declared.status.Status.TheVariants as status
-use Rattle.cli_io.proofs.Fronts.{nothing_written}
 use Rattle.cli_io.proofs.Given as parsed
 use Rattle.cli_nft.specs.Running.{Wrote, Ran}
 use Rattle.cli_nft.specs.Options.{nft_app, given_of, members_named, position_named}
@@ -62,7 +61,3 @@ ran_by has given rows file ms position s input old new g t e p w = rw g (inr (re
   there = t;
   wrote = subst (λ (m : Option (List Member)). Wrote file m (position_named rows) s input old new) e (subst (λ (n : ℕ). Wrote file ms n s input old new) p w);
 }))
-
--- a read that failed wrote nothing
-pub unread : (file : Option (List ℕ)) (ms : Option (List Member)) (position : ℕ) (input old : Option (List ℕ)) → Wrote file ms position status.Failed input old old
-unread file ms position input old = inl (nothing_written old _)

@@ -1,11 +1,12 @@
 -- The interfaces of a machine as a file lists them: a line an interface, its name and then its groups, between blanks.
-use Rattle.std.specs.Prelude.{ℕ, Bool, ◌&&◌, ◌==◌, List, [], ◌∷◌, ◌++◌, Option, Some, None, length, map, not, nat_lt}
+use Rattle.std.specs.Prelude.{ℕ, Bool, ◌&&◌, List, [], ◌∷◌, ◌++◌, Option, Some, None, length, map, not, nat_lt}
 use Rattle.std.specs.Prelude.{if◌then◌else◌}
 use Rattle.std.specs.List.{list_any, list_all}
 use Rattle.std.specs.Str.{bytes_eq}
 use Rattle.pf_rules.specs.Words.{is_interface_text}
 use Rattle.pf_rules.specs.Names.{Name}
 use Rattle.pf_eval.specs.PacketTexts.{words}
+use Rattle.pf_scripts.specs.Lines.{lines}
 use Rattle.nft_rules.specs.Rendering.{Machine, known}
 
 -- whether the machine may have one more, of this name: no interface is listed twice
@@ -33,17 +34,7 @@ abbrev pub machine_with : Machine → List (List (List ℕ)) → Option Machine
 machine_with m [] = Some m
 machine_with m (ws ∷ lines) = and_then (with_names m (names_if ws)) (λ n. machine_with n lines)
 
--- a byte at the front of what follows
-abbrev pub at_front : ℕ → List (List ℕ) → List (List ℕ)
-at_front b [] = (b ∷ []) ∷ []
-at_front b (l ∷ ls) = (b ∷ l) ∷ ls
-
--- the lines of a string
-abbrev pub lines : List ℕ → List (List ℕ)
-lines [] = []
-lines (b ∷ bytes) = if b == 10 then [] ∷ lines bytes else at_front b (lines bytes)
-
 -- the machine of a string, none where a line isn't as it should be
 -- Example: em0 lan.
 unfoldable pub machine_in : List ℕ → Option Machine
-machine_in text = machine_with [] (map words (lines text))
+machine_in text = machine_with [] (map (λ l. words l.content) (lines text))

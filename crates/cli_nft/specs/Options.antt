@@ -2,6 +2,7 @@
 use Rattle.std.specs.Prelude.{ℕ, List, [], ◌∷◌, Option, Some, None, length, nat_lt, codes}
 use Rattle.std.specs.Prelude.{unwrap_or, if◌then◌else◌}
 use Rattle.clap.specs.Words.{App, Row, Text, new_app, all_of}
+use Rattle.px_wire.specs.declared.limits.TheConstants.{MEMBERS}
 use Rattle.node_udp.specs.declared.address.Address.{Address}
 use Rattle.node_udp.specs.Addresses.{address_of}
 use Rattle.nft_rules.specs.declared.guard.Member.{Member}
@@ -28,7 +29,7 @@ members_at (text ∷ texts) = and_member (address_of text) (members_at texts)
 
 -- the same of a cluster, which has 15 members at most
 unfoldable pub members_in : List Text → Option (List Member)
-members_in texts = if nat_lt 15 (length texts) then None else members_at texts
+members_in texts = if nat_lt MEMBERS (length texts) then None else members_at texts
 
 -- ---- arguments
 

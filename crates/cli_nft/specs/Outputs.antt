@@ -9,6 +9,7 @@ use Rattle.pf_config.specs.declared.fault.ConfigFault.{ConfigFault}
 use Rattle.pf_config.specs.Map.{Configuration}
 use Rattle.pf_config.specs.Changes.{load_ruleset}
 use Rattle.pf_config.specs.Codes as config
+use Rattle.pf_command.specs.Effect.{empty}
 use Rattle.nft_rules.specs.Rendering.{Machine}
 use Rattle.nft_rules.specs.declared.guard.Member.{Member}
 use Rattle.nft_rules.specs.declared.rendering.RenderFault.{RenderFault}
@@ -46,14 +47,10 @@ abbrev pub rendered_of : Machine → List Member → ℕ → Result Configuratio
 rendered_of m ms position (Ok c) = written_lines (rendered_lines c m ms position)
 rendered_of m ms position (Err fault) = refused (config.fault_code fault)
 
--- nothing is loaded
-abbrev pub nothing_loaded : Configuration
-nothing_loaded = record { skip = []; anchors = [] }
-
 -- the text's ruleset, loaded as the main one
 abbrev pub loaded_of : Machine → List Member → ℕ → Result RulesetValue Refusal → Written
 loaded_of m ms position (Err refusal) = refused_at (cause_code refusal.cause) refusal.line
-loaded_of m ms position (Ok rules) = rendered_of m ms position (load_ruleset nothing_loaded [] rules)
+loaded_of m ms position (Ok rules) = rendered_of m ms position (load_ruleset empty [] rules)
 
 -- for a machine, if the list of its interfaces is one
 abbrev pub output_for : Option Machine → List Member → ℕ → List ℕ → Written

@@ -23,7 +23,7 @@ mod outputs;
 mod running;
 
 pub use machines::{INTERFACES_MAX, machine_in};
-pub use members::{MEMBERS_MAX, members_in};
+pub use members::members_in;
 pub use nft_rules::Member;
 pub use outputs::{Written, config_output, nft_output};
 pub use running::{asks_nft, read_file, run_nft};

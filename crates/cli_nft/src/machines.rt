@@ -1,49 +1,21 @@
 //! The interfaces of a machine as a file lists them.
 
-ghost use Rattle.std.specs.Prelude.{◌≡◌, ◌≤◌, ◌<◌, ◌==◌, ◌∷◌, [], IfOk, IfSome, IfNone, Some, None, length, map, not};
-ghost use Rattle.std.specs.Prelude.{option_map, if◌then◌else◌};
-ghost use Rattle.std.specs.List.{list_any, prefix_len};
+ghost use Rattle.std.specs.Prelude.{◌≡◌, ◌∷◌, IfOk, Some, None, map, option_map, if◌then◌else◌};
+ghost use Rattle.std.specs.List.{list_any};
 ghost use Rattle.std.specs.Str.{bytes_eq};
 ghost use Rattle.nft_rules.specs.Rendering.{known};
 ghost use Rattle.nft_rules.specs.Seen.{machine_of};
 ghost use Rattle.pf_eval.specs.PacketTexts.{words};
-ghost use Rattle.cli_nft.specs.Machines.{lines, names_if, with_names, machine_in};
+ghost use Rattle.cli_nft.specs.Machines.{names_if, with_names, machine_in};
 
 use nft_rules::MachineInterface;
 use pf_eval::words_between_blanks;
 use pf_rules::InterfaceName;
+use pf_scripts::cut_line;
 use std::alloc::{AllocError, Global};
 
 /// How many interfaces a machine has at most.
 pub const INTERFACES_MAX: usize = 1024;
-
-/// How many bytes are before the end of the line.
-#[tactic(auto, using(crate::proofs::LinesCut::line_len_le))]
-fn line_len(text: &[u8]) -> usize
-    ensures value { result ≡ prefix_len (λ b. not (b == 10)) text.now }
-    ensures within { result ≤ length text.now }
-{
-    text.iter().take_while(|b| **b != b'\n').count()
-}
-
-/// The first line of a string, and what is behind it; none of an empty one.
-#[tactic(auto, using(crate::proofs::LinesCut::cuts))]
-fn cut_line(text: &[u8]) -> Option<(&[u8], &[u8])>
-    ensures cut { IfSome result (λ c. lines text.now ≡ c.0.now ∷ lines c.1.now) }
-    ensures less { IfSome result (λ c. length c.1.now < length text.now) }
-    ensures end { IfNone result (text.now ≡ []) }
-{
-    let (front, back) = text.split_at(line_len(text));
-    match back {
-        [_, rest @ ..] => Some((front, rest)),
-        [] => {
-            if front.is_empty() {
-                return None;
-            }
-            Some((front, &[]))
-        }
-    }
-}
 
 /// Whether an interface of that name is there.
 fn is_known(machine: &[MachineInterface], name: &[u8]) -> bool
@@ -116,7 +88,7 @@ pub fn machine_in(alloc: Global, text: &[u8]) -> Result<Option<Vec<MachineInterf
     let mut machine = Vec::new(alloc);
     let mut left = text;
     while let Some((line, rest)) = cut_line(left) {
-        if !push_line(alloc, &mut machine, line)? {
+        if !push_line(alloc, &mut machine, line.content)? {
             return Ok(None);
         }
         left = rest;

@@ -6,22 +6,18 @@ ghost use Rattle.cli_nft.specs.Options.{member_at, members_at, members_in};
 
 use nft_rules::Member;
 use node_udp::parse_address;
+use px_wire::MEMBERS;
 use std::alloc::{AllocError, Global};
-
-/// How many members a cluster has at most.
-pub const MEMBERS_MAX: usize = 15;
 
 /// The member that a string is.
 fn member_of(text: &str) -> Option<Member>
     ensures { result ≡ option_map member_at (address_of text.now) }
 {
-    match parse_address(text) {
-        Some(address) => Some(Member {
-            address: address.ip,
-            port: address.port,
-        }),
-        None => None,
-    }
+    let address = parse_address(text)?;
+    Some(Member {
+        address: address.ip,
+        port: address.port,
+    })
 }
 
 /// The members that strings are, however many, none where one of them is none.
@@ -45,7 +41,7 @@ fn members_at(alloc: Global, texts: &[&str]) -> Result<Option<Vec<Member>>, Allo
 pub fn members_in(alloc: Global, texts: &[&str]) -> Result<Option<Vec<Member>>, AllocError>
     ensures { IfOk result (λ o. option_map (λ v. v.items) o ≡ members_in (map (λ t. t.now) texts.now)) }
 {
-    if texts.len() > MEMBERS_MAX {
+    if texts.len() > usize::from(MEMBERS) {
         return Ok(None);
     }
     members_at(alloc, texts)

@@ -3,11 +3,12 @@
 ghost use Rattle.std.specs.Prelude.{◌≡◌, ◌++◌, [], Some, IfOk, option_map, string_bytes};
 ghost use Rattle.pf_rules.specs.Rulesets.{ruleset_of};
 ghost use Rattle.pf_config.specs.Changes.{load_ruleset};
+ghost use Rattle.pf_command.specs.Effect.{empty};
 ghost use Rattle.nft_rules.specs.Seen.{machine_of};
 ghost use Rattle.pf_grammar.specs.Reading.{reading};
 ghost use Rattle.pf_grammar.specs.declared.place.Place.TheVariants.{Main};
 ghost use Rattle.pf_rules.specs.declared.profile.Profile.TheVariants.{Two};
-ghost use Rattle.cli_nft.specs.Outputs.{refused, refused_at, nothing_loaded, written_lines, rendered_of};
+ghost use Rattle.cli_nft.specs.Outputs.{refused, refused_at, written_lines, rendered_of};
 ghost use Rattle.cli_nft.specs.Outputs.{loaded_of, output, config_output};
 ghost use Rattle.cli_nft.specs.Seen.{written};
 ghost use Rattle.nft_text.specs.Loading.{rendered_lines};
@@ -55,9 +56,8 @@ fn refused_at(alloc: Global, code: u8, line: u64) -> Result<Written, AllocError>
 fn all_lines(lines: Transactions) -> Result<String, AllocError>
     ensures { IfOk result (λ text. string_bytes text ≡ string_bytes lines.load ++ string_bytes lines.end) }
 {
-    let Transactions { load, end } = lines;
-    let mut text = load;
-    text.push_str(end.as_str())?;
+    let mut text = lines.load;
+    text.push_str(lines.end.as_str())?;
     Ok(text)
 }
 
@@ -77,10 +77,7 @@ fn written_lines(
             text: all_lines(lines)?,
             refused: false,
         }),
-        Err(fault) => match fault.code() {
-            Some(code) => refused(alloc, code),
-            None => Err(AllocError),
-        },
+        Err(fault) => refused(alloc, fault.code().ok_or(AllocError)?),
     }
 }
 
@@ -93,15 +90,12 @@ fn rendered_of(
     position: u32,
 ) -> Result<Written, AllocError>
     ensures { IfOk result (λ w. written w ≡ rendered_of (machine_of machine.now) members.now position
-        (load_ruleset nothing_loaded [] (ruleset_of rules))) }
+        (load_ruleset empty [] (ruleset_of rules))) }
 {
     let mut config = Config::new(alloc)?;
     match config.load(&Path::main(alloc), rules) {
         Ok(()) => written_lines(alloc, &config, machine, members, position),
-        Err(fault) => match fault.code() {
-            Some(code) => refused(alloc, code),
-            None => Err(AllocError),
-        },
+        Err(fault) => refused(alloc, fault.code().ok_or(AllocError)?),
     }
 }
 

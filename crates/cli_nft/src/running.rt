@@ -71,16 +71,6 @@ fn members_of(alloc: Global, inner: &ArgMatches<'_>) -> Result<Option<Vec<Member
     members_in(alloc, values_in(inner, "members"))
 }
 
-/// The members, as they are lent.
-fn lent(members: &Option<Vec<Member>>) -> Option<&[Member]>
-    ensures { option_map (λ ms. ms.now) result ≡ option_map (λ v. v.items) members.now }
-{
-    match members {
-        Some(members) => Some(members.as_slice()),
-        None => None,
-    }
-}
-
 /// The text at a path, none where it can't be read or is longer than an input may be.
 pub fn read_file<T: Sources>(
     sources: &T,
@@ -117,11 +107,8 @@ fn answer<R: Read, W: Write>(
         return out_of_memory(writer);
     };
     match write_bytes(writer, output.text.as_bytes()) {
-        Ok(()) => if output.refused {
-            Status::Refused
-        } else {
-            Status::Done
-        },
+        Ok(()) if output.refused => Status::Refused,
+        Ok(()) => Status::Done,
         Err(_) => Status::Failed,
     }
 }
@@ -152,7 +139,7 @@ pub fn run_nft<T: Sources, S: AsStr, R: Read, W: Write>(
     let Ok(members) = members_of(alloc, inner) else {
         return out_of_memory(writer);
     };
-    let (named, position) = (lent(&members), position_in(inner));
+    let (named, position) = (members.as_deref(), position_in(inner));
     match interfaces_in(sources, alloc, inner) {
         Ok(Some(text)) => answer(alloc, Some(&text), named, position, reader, writer),
         Ok(None) => answer(alloc, None, named, position, reader, writer),

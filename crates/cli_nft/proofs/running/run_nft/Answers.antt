@@ -31,7 +31,7 @@ returns-in-Ok-Some g c =
     let has = g.T.Sources.has c.args.sources.now in
     let there = subst (λ (t : List ℕ). IsAt has (first_of (codes "interfaces") (rows_of (found_of c.in-Some.inner.now))) (Some t)) (sym c.deref.ensures.value)
     (rw c.in-Ok-Some.field-0-is at c.in-Ok-Some.ensures) in
-    ran_by has _ (rows_of (found_of c.in-Some.inner.now)) (Some c.deref.result.now) _ _ _ _ _ _ e there (c.lent-named.ensures ∙ c.in-Ok-members_of.ensures)
+    ran_by has _ (rows_of (found_of c.in-Some.inner.now)) (Some c.deref.result.now) _ _ _ _ _ _ e there (c.as_deref-named.ensures.value ∙ c.in-Ok-members_of.ensures)
     c.position_in-position.ensures c.answer.ensures
 
 pub returns-in-Ok-None : goal.returns-in-Ok-None
@@ -39,7 +39,7 @@ returns-in-Ok-None g c =
     let arguments = map g.S.AsStr.text c.args.arguments.now in
     let matches = c.in-Ok-try_get_matches_from in
     let e = given_parsed _ arguments matches.matches c.in-Ok.ensures matches.ensures.kinds matches.ensures.matches ∙ sym c.in-Some.ensures in
-    ran_by (g.T.Sources.has c.args.sources.now) _ (rows_of (found_of c.in-Some.inner.now)) None _ _ _ _ _ _ e tt (c.lent-named.ensures ∙ c.in-Ok-members_of.ensures)
+    ran_by (g.T.Sources.has c.args.sources.now) _ (rows_of (found_of c.in-Some.inner.now)) None _ _ _ _ _ _ e tt (c.as_deref-named.ensures.value ∙ c.in-Ok-members_of.ensures)
     c.position_in-position.ensures c.answer-in-Ok-None.ensures
 
 pub returns : goal.returns
