@@ -1,6 +1,5 @@
 -- How a run ends whose arguments aren't understood, or that was out of memory, and at which control socket one asks.
-use Rattle.std.proofs.Common.{◌≡◌, ◌⊎◌, ℕ, true, List, [], ◌∷◌, Option, Some, None, inl, inr, refl, subst, codes}
-use Rattle.std.specs.Io.KnownBytes.{Appends}
+use Rattle.std.proofs.Common.{◌≡◌, ℕ, true, List, [], ◌∷◌, Option, Some, None, inl, inr, refl, subst, codes}
 use Rattle.clap.specs.Words.{App, HasMatchesOf, Row, Text, first_of, is_simple, kind_of, subcommand_rows_of}
 use Rattle.clap.specs.Faults.{fault_of, is_simple_and_free}
 use Rattle.clap.specs.Kinds.{HasKind}
@@ -39,11 +38,6 @@ over : {P : Type 0} (answers_at : P → Text → Type 0) (exchanged : P → List
     (s : Status) (old new : Option (List ℕ)) → RanOut s old new → (rows : Option (List Row)) → Ran answers_at exchanged peer peer rows is_text s old new
 over answers_at exchanged peer is_text s old new h None = (adds_nothing (exchanged peer), parsed.misused_out s old new h)
 over answers_at exchanged peer is_text s old new h (Some rows) = inl (adds_nothing (exchanged peer), h)
-
-pub memory_over : {P : Type 0} (answers_at : P → Text → Type 0) (exchanged : P → List Event → Type 0) (peer : P) (rows : Option (List Row)) (is_text : Text → List ℕ → Type 0)
-    (s : Status) (old new : Option (List ℕ)) → (s ≡ status.Failed) ⊎ ((s ≡ status.Memory) × Appends old new (line (codes "memory"))) →
-    (s ≡ status.Failed → AppendsFront old new (line (codes "memory"))) → Ran answers_at exchanged peer peer rows is_text s old new
-memory_over answers_at exchanged peer rows is_text s old new h f = over answers_at exchanged peer is_text s old new (parsed.ran_out s old new h f) rows
 
 pub given_refused : {P : Type 0} (answers_at : P → Text → Type 0) (exchanged : P → List Event → Type 0) (peer : P) (a : App) (arguments : List Text) (e : Error)
     (is_text : Text → List ℕ → Type 0) (s : Status) (old new : Option (List ℕ)) → a ≡ pfx_app → (is_simple_and_free a ≡ true → HasKind (fault_of a arguments) e) →

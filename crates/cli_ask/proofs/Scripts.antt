@@ -1,5 +1,5 @@
 -- The changes of a script, one after the other.
-use Rattle.std.proofs.Common.{◌≡◌, ◌∙◌, ℕ, ◌<◌, ◌≤◌, Bool, true, false, List, [], ◌∷◌, ◌++◌, Option, Some, None, Result, nat_lt, refl, sym, ap, subst, append_assoc, append-nil, inl, inr, arith}
+use Rattle.std.proofs.Common.{◌≡◌, ◌∙◌, ℕ, ◌<◌, ◌≤◌, Bool, true, false, List, [], ◌∷◌, ◌++◌, Option, Some, None, nat_lt, refl, sym, ap, subst, append_assoc, append-nil, inl, inr, arith}
 use Rattle.std.specs.Prelude.{codes}
 use Rattle.std.specs.Io.KnownBytes.{Appends}
 use Rattle.std.proofs.KnownBytes.{Appends-trans}
@@ -9,8 +9,6 @@ use Rattle.cli_io.specs.declared.status.Status.{Status}
 use Rattle.cli_io.specs.declared.status.Status.TheVariants as status
 use Rattle.cli_ask.specs.Asking.{Event, Adds}
 use Rattle.cli_ask.specs.Scripts.{ScriptChange, Item, Found, Bad}
-use Rattle.cli_ask.specs.declared.exchange.AskFault.{AskFault}
-use Rattle.cli_ask.specs.Scripting.{Printed, Makes, call_for, Shows}
 use Rattle.cli_ask.specs.Scripting.{Ended, end_text, AsksFirst, AsksFrom, AsksAll, AskedOne, AskedAll}
 use Rattle.cli_ask.proofs.Series.{adds_more, adds_nothing}
 
@@ -30,12 +28,6 @@ ended_out text status.Refused old new h = absurd h
 ended_out text status.Usage old new h = h
 ended_out text status.Memory old new h = h
 ended_out text status.Failed old new h = inr h
-
--- ---- one change
-
-pub asked_one : (x y : List Event → Type 0) (c : ScriptChange) (seconds : ℕ) (went : Result Printed AskFault) (ended : Option Status) (old new : Option (List ℕ)) →
-    Makes x y (call_for c) seconds went → Shows went c.line ended old new → AskedOne x y c seconds ended old new
-asked_one x y c seconds went ended old new (es, (adds, made)) shown = (es, (adds, record { went = went; made = made; shown = shown }))
 
 -- ---- changes
 

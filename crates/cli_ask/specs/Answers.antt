@@ -20,10 +20,14 @@ abbrev pub behind_first : List ℕ → List ℕ
 behind_first [] = []
 behind_first (b ∷ bytes) = bytes
 
+-- what is behind the first line, if that begins so; else all of it
+abbrev pub behind_line : (front : List ℕ) → (body : List ℕ) → List ℕ
+behind_line front body = if begins body front then behind_first (drop (line_len body) body) else body
+
 -- what became of a command: what is behind the line `asked N.NUMBER`, if that comes first
 -- Example: 2 of 3 match doesn't.
 abbrev pub outcome_behind : List ℕ → List ℕ
-outcome_behind body = if begins body (codes "asked ") then behind_first (drop (line_len body) body) else body
+outcome_behind body = behind_line (codes "asked ") body
 
 -- of addresses that were looked up all are in the table, as by `3 of 3 match`: a number, and behind " of " the same
 abbrev pub all_match : List ℕ → Bool

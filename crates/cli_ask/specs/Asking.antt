@@ -4,7 +4,7 @@ use Rattle.std.specs.Prelude.{length, take, drop, count_by, min, not, Option, So
 use Rattle.std.specs.Prelude.{Result, Ok, Err, bytes_eq, codes, decimal, if◌then◌else◌}
 use Rattle.std.specs.List.{list_all, flat_map}
 use Rattle.pf_scripts.specs.Lines.{lines, bytes_of}
-use Rattle.cli_ask.specs.Answers.{begins, behind_first, line_len}
+use Rattle.cli_ask.specs.Answers.{begins, behind_line, line_len}
 use Rattle.cli_ask.specs.Calls.{Request, get}
 use Rattle.cli_ask.specs.Replies.{Answer, number, reply_value, text_of}
 use Rattle.cli_ask.specs.declared.call.Kind.{Kind}
@@ -135,10 +135,6 @@ number_after k once body = if is_command k && not once then accepted body else N
 -- what became of a request
 abbrev pub outcome_call : (number : List ℕ) → Request
 outcome_call number = record (get (codes "/v1/requests/" ++ number) kind.Read) { is_repeatable = true }
-
--- what is behind the first line, if that begins so; else all of it
-abbrev pub behind_line : (front : List ℕ) → (body : List ℕ) → List ℕ
-behind_line front body = if begins body front then behind_first (drop (line_len body) body) else body
 
 -- 503 where it is waited for still
 abbrev pub code_of : Answer → ℕ

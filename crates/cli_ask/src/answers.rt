@@ -1,7 +1,8 @@
 //! The node's answers: whether what was asked for was done.
 
 ghost use Rattle.std.specs.Prelude.{◌≡◌, ◌≤◌, length};
-ghost use Rattle.cli_ask.specs.Answers.{all_match, behind_first, is_done, is_made, line_len, outcome_behind, word_len};
+ghost use Rattle.cli_ask.specs.Answers.{all_match, behind_first, behind_line, is_done, is_made, line_len};
+ghost use Rattle.cli_ask.specs.Answers.{outcome_behind, word_len};
 
 use crate::call::Kind;
 
@@ -24,7 +25,7 @@ fn word_len(text: &[u8]) -> usize
 }
 
 /// What is behind the first byte.
-pub(crate) fn behind_first(text: &[u8]) -> &[u8]
+fn behind_first(text: &[u8]) -> &[u8]
     ensures { result.now ≡ behind_first text.now }
 {
     match text {
@@ -33,15 +34,22 @@ pub(crate) fn behind_first(text: &[u8]) -> &[u8]
     }
 }
 
-/// What became of a command: what is behind the line `asked N.NUMBER`, if that comes first.
-pub(crate) fn outcome_behind(body: &[u8]) -> &[u8]
-    ensures { result.now ≡ outcome_behind body.now }
+/// What is behind the first line, if that begins so; else all of it.
+pub(crate) fn behind_line<'a>(body: &'a [u8], front: &[u8]) -> &'a [u8]
+    ensures { result.now ≡ behind_line front.now body.now }
 {
-    if !body.starts_with(b"asked ") {
+    if !body.starts_with(front) {
         return body;
     }
     let (_, rest) = body.split_at(line_len(body));
     behind_first(rest)
+}
+
+/// What became of a command: what is behind the line `asked N.NUMBER`, if that comes first.
+pub(crate) fn outcome_behind(body: &[u8]) -> &[u8]
+    ensures { result.now ≡ outcome_behind body.now }
+{
+    behind_line(body, b"asked ")
 }
 
 /// Whether all addresses that were looked up are in the table, as by `3 of 3 match`.

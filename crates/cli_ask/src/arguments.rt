@@ -126,10 +126,7 @@ fn pfctl_call(
 {
     match from_matches(alloc, matches, text) {
         Ok(action) => action_call(alloc, &action, matches, rest, at),
-        Err(fault) => match fault.code() {
-            Some(code) => Err(refused(code)),
-            None => Err(Outcome::Memory),
-        },
+        Err(fault) => Err(fault.code().map_or(Outcome::Memory, refused)),
     }
 }
 
@@ -243,10 +240,7 @@ fn own_call(
 fn has_control_in(value: Option<&str>) -> bool
     ensures { result ≡ has_control_in (option_map (λ v. v.now) value.entry) }
 {
-    match value {
-        Some(value) => has_control(value),
-        None => false,
-    }
+    value.is_some_and(has_control)
 }
 
 /// Whether the value of an option that is sent has a control character.
@@ -302,10 +296,7 @@ fn call_with(
     if has_option(matches) {
         return pfctl_call(alloc, matches, rest, text, at);
     }
-    match own_call(alloc, matches, rest, at)? {
-        Some(call) => Ok(call),
-        None => Err(refused(USAGE)),
-    }
+    own_call(alloc, matches, rest, at)?.ok_or(refused(USAGE))
 }
 
 /// The request that the arguments ask for, with the text that `-f` names: what pfctl's options ask for, or without
@@ -320,6 +311,5 @@ pub(crate) fn call_in(
 ) -> Result<Call, Outcome>
     ensures { IsCall result (call_of (rows_of (found_of matches.now)) text.now at) }
 {
-    let rest = values_in(matches, "address");
-    call_with(alloc, matches, rest, text, at)
+    call_with(alloc, matches, values_in(matches, "address"), text, at)
 }

@@ -76,13 +76,9 @@ fn in_time(
     ensures { OrMemory (in_time is_waiting (answer_value found)) (answer_value result) }
 {
     match found {
+        Err(_) if is_waiting => Ok(waiting(alloc)?),
         Ok(reply) => Ok(reply),
-        Err(fault) => {
-            if is_waiting {
-                return Ok(waiting(alloc)?);
-            }
-            Err(fault)
-        }
+        Err(fault) => Err(fault),
     }
 }
 

@@ -10,7 +10,7 @@ use pf_entry::{Command, EncodeFault, encode_asked};
 use std::alloc::{AllocError, Global};
 
 /// What a request is for.
-#[derive(Clone, Copy, PartialEq, Eq)]
+#[derive(Clone, Copy)]
 pub enum Kind {
     /// To read what a subcommand of the node itself asks for.
     Read,

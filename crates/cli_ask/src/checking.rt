@@ -10,7 +10,7 @@ use pf_grammar::{ParseFault, Place, Profile, parse};
 use std::alloc::{AllocError, Global};
 
 /// A refusal before a node is asked.
-#[derive(Clone, Copy, PartialEq, Eq)]
+#[derive(Clone, Copy)]
 pub(crate) struct Refused {
     /// The number of the refusal.
     pub(crate) code: u8,

@@ -5,10 +5,10 @@ ghost use Rattle.cli_ask.specs.Calls.{call_value};
 ghost use Rattle.cli_ask.specs.Replies.{reply_value};
 ghost use Rattle.cli_ask.specs.Asking.{is_waiting, waiting, only_line, accepted, is_command, number_after};
 ghost use Rattle.cli_ask.specs.Asking.{outcome_call};
-ghost use Rattle.cli_ask.specs.Asking.{behind_line, code_of, joined, position_in, synced, outcome_in};
+ghost use Rattle.cli_ask.specs.Asking.{code_of, joined, position_in, synced, outcome_in};
 ghost use Rattle.cli_ask.specs.Asking.{outcome_of, answer_value, OrMemory};
 
-use crate::answers::{behind_first, line_len};
+use crate::answers::{behind_line, line_len};
 use crate::call::{Call, Kind};
 use crate::exchange::{AskFault, Reply};
 use crate::reply::{number, text_in};
@@ -97,17 +97,6 @@ pub(crate) fn outcome_call(alloc: Global, number: &str) -> Result<Call, AllocErr
     Ok(call)
 }
 
-/// What is behind the first line, if that begins so; else all of it.
-pub(crate) fn behind_line<'a>(body: &'a [u8], front: &[u8]) -> &'a [u8]
-    ensures { result.now ≡ behind_line front.now body.now }
-{
-    if !body.starts_with(front) {
-        return body;
-    }
-    let (_, rest) = body.split_at(line_len(body));
-    behind_first(rest)
-}
-
 /// HTTP's status of what came of a command: 503 where it is waited for still.
 fn code_of(reply: &Reply) -> u16
     ensures { result ≡ code_of (reply_value reply.now) }
@@ -149,11 +138,7 @@ fn position_in(body: &[u8]) -> Option<u32>
 fn line_at(alloc: Global, position: u32) -> Result<Vec<u8>, AllocError>
     ensures { IfOk result (λ v. v.items ≡ codes "at " ++ decimal (min (position + 1) 4294967295) ++ codes "\n") }
 {
-    let number = position.saturating_add(1).to_string(alloc)?;
-    let mut line = String::from_str(alloc, "at ")?;
-    line.push_str(number.as_str())?;
-    line.push_str("\n")?;
-    Vec::from_slice(alloc, line.as_bytes())
+    Ok(format!(in alloc; "at {}\n", position.saturating_add(1))?.into_bytes())
 }
 
 /// How many positions a node has applied that applied this command.

@@ -70,10 +70,7 @@ fn ask_over<D: Dial>(
     ensures exchanged { HasExchange D.is_refused D.is_new D.Stream.contents D.Stream.remaining (call_value call.now)
         (answer_value result) }
 {
-    match exchange(alloc, dial, call, deadline) {
-        Ok(reply) => printable(alloc, reply),
-        Err(fault) => Err(fault),
-    }
+    printable(alloc, exchange(alloc, dial, call, deadline)?)
 }
 
 /// A peer that is reached over connections, by a clock.

@@ -70,9 +70,7 @@ impl Deadline {
 
     /// How long that is; an error where it has passed.
     pub(crate) fn left<RT: Clock>(self, rt: &RT) -> io::Result<Duration> {
-        let Some(start) = self.start else {
-            return Err(io::Error::from(ErrorKind::TimedOut));
-        };
+        let start = self.start.ok_or(io::Error::from(ErrorKind::TimedOut))?;
         let limit = Duration::from_secs(u64::from(self.seconds));
         let left = limit.saturating_sub(Instant::now(rt)?.duration_since(start));
         if left.is_zero() {
@@ -203,14 +201,10 @@ pub(crate) fn read_over<RT: Clock, D: Dial>(
 {
     let deadline = Deadline::new(rt, PATIENCE);
     let call = Call::get(alloc, target, Kind::Read);
-    match exchange(alloc, control, &call, deadline) {
-        Ok(reply) => {
-            if reply.code == 200 {
-                Ok(reply)
-            } else {
-                Err(AskFault::BadAnswer)
-            }
-        }
-        Err(fault) => Err(fault),
+    let reply = exchange(alloc, control, &call, deadline)?;
+    if reply.code == 200 {
+        Ok(reply)
+    } else {
+        Err(AskFault::BadAnswer)
     }
 }

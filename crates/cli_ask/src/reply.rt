@@ -64,10 +64,7 @@ fn number_of(text: &str) -> Option<u32>
 pub(crate) fn number(bytes: &[u8]) -> Option<u32>
     ensures { result ≡ number bytes.now }
 {
-    match text_in(bytes) {
-        Some(text) => number_of(text),
-        None => None,
-    }
+    number_of(text_in(bytes)?)
 }
 
 /// Whether two names of fields are the same, whatever the case of their letters.
@@ -97,20 +94,14 @@ fn number_in(bytes: &[u8], fields: &[HeaderSpan], name: &[u8]) -> Option<u32>
     requires { All (IsHeaderWithin (length bytes.now)) fields.now }
     ensures { result ≡ number_in name.now (map (header_bytes bytes.now) fields.now) }
 {
-    match field_in(bytes, fields, name) {
-        Some(value) => number(value),
-        None => None,
-    }
+    number(field_in(bytes, fields, name)?)
 }
 
 /// Whether a number is this length.
 fn is_number(len: usize, number: Option<u32>) -> bool
     ensures { result ≡ is_number len number }
 {
-    match number {
-        Some(number) => number as usize == len,
-        None => false,
-    }
+    number.is_some_and(|number| number as usize == len)
 }
 
 /// Whether the answer's header fields give its body this length, or give none.
@@ -118,10 +109,7 @@ fn has_length(bytes: &[u8], fields: &[HeaderSpan], len: usize) -> bool
     requires { All (IsHeaderWithin (length bytes.now)) fields.now }
     ensures { result ≡ has_length len (map (header_bytes bytes.now) fields.now) }
 {
-    match field_in(bytes, fields, b"content-length") {
-        Some(value) => is_number(len, number(value)),
-        None => true,
-    }
+    field_in(bytes, fields, b"content-length").is_none_or(|value| is_number(len, number(value)))
 }
 
 /// What a head with these fields and a body answer.

@@ -22,12 +22,10 @@ pub(crate) fn report_left<E: Write>(front: Option<u32>, errors: &mut E) -> io::R
     ensures { OnOk result (Appends (E.contents errors.old) (E.contents errors.new) (left_text front)) }
 {
     match front {
-        Some(front) => if front >= NEAR_THE_END {
+        Some(front) if front >= NEAR_THE_END => {
             report_count(POSITIONS.saturating_sub(u64::from(front)), errors)
-        } else {
-            Ok(())
-        },
-        None => Ok(()),
+        }
+        _ => Ok(()),
     }
 }
 

@@ -62,10 +62,7 @@ fn text_for<T: Sources, R: Read>(
     let Some(name) = named else {
         return Ok(Vec::new(alloc));
     };
-    match source_named(sources, alloc, name, reader) {
-        Ok(text) => Ok(text),
-        Err(fault) => Err(unread(name, fault)),
-    }
+    source_named(sources, alloc, name, reader).map_err(|fault| unread(name, fault))
 }
 
 /// The outcome of an answer. For a command the number of positions left is written, once the log nears its end.
@@ -132,10 +129,7 @@ fn outcome_of<RT: Pauses + Clock + Sources, C: Control, R: Read, E: Write>(
 fn are_there(args: &[&str]) -> bool
     ensures { result ≡ are_there (map (λ a. a.now) args.now) }
 {
-    match args {
-        [_, ..] => true,
-        [] => false,
-    }
+    matches!(args, [_, ..])
 }
 
 /// Whether arguments are there beside a script that are none of it.
@@ -191,14 +185,10 @@ fn script_in<T: Sources, R: Read>(
     if has_others(matches) {
         return Err(refused(USAGE));
     }
-    let script = match text_for(sources, alloc, Some(file), reader) {
-        Ok(script) => script,
-        Err(outcome) => return Err(outcome),
-    };
-    match refusal_in(alloc, matches, script.as_slice()) {
-        Ok(None) => Ok(script),
-        Ok(Some(refused)) => Err(Outcome::Refused(refused)),
-        Err(_) => Err(Outcome::Memory),
+    let script = text_for(sources, alloc, Some(file), reader)?;
+    match refusal_in(alloc, matches, script.as_slice())? {
+        None => Ok(script),
+        Some(refused) => Err(Outcome::Refused(refused)),
     }
 }
 

@@ -34,7 +34,7 @@ pub(crate) struct Change<'a> {
 }
 
 /// Why there is no next change.
-#[derive(Clone, Copy, PartialEq, Eq)]
+#[derive(Clone, Copy)]
 pub(crate) enum ScriptFault {
     /// A growth was refused.
     Memory,
@@ -95,10 +95,7 @@ fn read_text(left: &mut Left<'_>, change: &mut Change<'_>) -> Result<(), AllocEr
 fn is_pfctl(words: &[&str]) -> bool
     ensures { result ≡ is_pfctl (map (λ w. w.now) words.now) }
 {
-    match words {
-        [first, ..] => *first == "pfctl",
-        [] => false,
-    }
+    matches!(words, [first, ..] if *first == "pfctl")
 }
 
 /// The next change; none at the end of the script.
@@ -157,15 +154,13 @@ impl Change<'_> {
     pub(crate) fn call(&self, alloc: Global) -> Result<Call, ChangeFault>
         ensures { IsAskedAs result call_value (call_for (change_value self.now)) }
     {
-        match self.command(alloc) {
-            Ok(command) => match Call::entry(alloc, &command, Kind::Change) {
-                Ok(call) => Ok(call),
-                Err(fault) => match fault.code() {
-                    Some(code) => Err(ChangeFault::Refused(code)),
-                    None => Err(ChangeFault::Memory),
-                },
+        let command = self.command(alloc)?;
+        match Call::entry(alloc, &command, Kind::Change) {
+            Ok(call) => Ok(call),
+            Err(fault) => match fault.code() {
+                Some(code) => Err(ChangeFault::Refused(code)),
+                None => Err(ChangeFault::Memory),
             },
-            Err(fault) => Err(fault),
         }
     }
 }

@@ -81,13 +81,9 @@ fn make<RT: Pauses + Clock, C: Control, E: Write>(
         Err(ChangeFault::Refused(code)) => return Ok(unsent(alloc, code)?),
         Err(ChangeFault::Memory) => return Err(AskFault::Memory),
     };
-    match ask_at(rt, alloc, control, &call, seconds) {
-        Ok(reply) => {
-            let _logged = report_left(reply.front, errors);
-            Ok(went_by(alloc, reply)?)
-        }
-        Err(fault) => Err(fault),
-    }
+    let reply = ask_at(rt, alloc, control, &call, seconds)?;
+    let _logged = report_left(reply.front, errors);
+    Ok(went_by(alloc, reply)?)
 }
 
 /// Writes what ends a script, and the line at which it ended.

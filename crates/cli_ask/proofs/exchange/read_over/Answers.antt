@@ -9,11 +9,11 @@ use Rattle.cli_ask.proofs.exchange.read_over.Goals as goal
 pub returns-then-reply-eq200-clause-read : goal.returns-then-reply-eq200-clause-read
 returns-then-reply-eq200-clause-read g c = (
   c.if-reply-eq200.true,
-  subst (λ (r : Request). IsAnswerTo g.D.Dial.is_new g.D.Stream.Write.contents g.D.Stream.Read.remaining r (reply_value c.in-Ok.reply))
-      c.get-call.ensures c.in-Ok.ensures.answer,
+  subst (λ (r : Request). IsAnswerTo g.D.Dial.is_new g.D.Stream.Write.contents g.D.Stream.Read.remaining r (reply_value c.in_ok-reply.reply))
+      c.get-call.ensures c.in_ok-reply.ensures.answer,
 )
 
-pub returns-in-Ok-clause-read : goal.returns-in-Ok-clause-read
-returns-in-Ok-clause-read g c =
+pub returns-clause-read : goal.returns-clause-read
+returns-clause-read g c =
     subst (λ (r : Request). IsUnanswered g.D.Dial.is_new g.D.Stream.Write.contents (Unit {0}) r fault.BadAnswer) c.get-call.ensures
-    (answer_begun g.D.Dial.is_new g.D.Stream.Write.contents g.D.Stream.Read.remaining (Unit {0}) (call_value c.get-call.result) (reply_value c.in-Ok.reply) c.in-Ok.ensures.answer)
+    (answer_begun g.D.Dial.is_new g.D.Stream.Write.contents g.D.Stream.Read.remaining (Unit {0}) (call_value c.get-call.result) (reply_value c.in_ok-reply.reply) c.in_ok-reply.ensures.answer)
