@@ -11,22 +11,15 @@ use Rattle.node_loop.specs.declared.ended.Ended.{Ended}
 use Rattle.node_loop.specs.declared.ended.Ended.TheVariants as ended
 use Rattle.cli_node.specs.declared.outcome.Outcome.{Outcome}
 use Rattle.cli_node.specs.declared.outcome.Outcome.TheVariants.{Memory, Refused, Sound}
-use Rattle.cli_node.specs.declared.store.Found.{Found}
 use Rattle.cli_node.specs.Endings.{checked, ended_outcome, ending_of, first_of, is_beyond, is_refused, outcome_of}
 use Rattle.cli_node.specs.Endings.{ComesOpenOr, ComesTo, IsWireless}
-use Rattle.cli_node.specs.Stores.{IsRefused}
 use Rattle.cli_node.proofs.Endings.{first}
 
--- out of memory, nothing, or another number
-pub either : (k c : Bool) (code : ℕ) (o : Outcome) → is_beyond k c (Refused code) ≡ false → (o ≡ Memory) ⊎ (o ≡ Refused code) →
-    is_beyond k c o ≡ false
-either k c code o h (inl e) = ap (is_beyond k c) e
-either k c code o h (inr e) = ap (is_beyond k c) e ∙ h
-
-sound_or : (k c : Bool) (code : ℕ) (o : Outcome) → is_beyond k c (Refused code) ≡ false → (o ≡ Sound) ⊎ (o ≡ Refused code) →
-    is_beyond k c o ≡ false
-sound_or k c code o h (inl e) = ap (is_beyond k c) e
-sound_or k c code o h (inr e) = ap (is_beyond k c) e ∙ h
+-- what isn't beyond it, or another number
+pub either : (k c : Bool) (good : Outcome) (code : ℕ) (o : Outcome) → is_beyond k c good ≡ false → is_beyond k c (Refused code) ≡ false →
+    (o ≡ good) ⊎ (o ≡ Refused code) → is_beyond k c o ≡ false
+either k c good code o g h (inl e) = ap (is_beyond k c) e ∙ g
+either k c good code o g h (inr e) = ap (is_beyond k c) e ∙ h
 
 -- ---- what else a start names
 
@@ -78,7 +71,7 @@ of_ended c without ended.NoControlSocket f h = let t : c ≡ true = f refl in rw
 of_ended c without ended.NoPort f h = refl
 
 wireless : (c : Bool) (o : Outcome) → IsWireless o → is_beyond false c o ≡ false
-wireless c o none = either false c 82 o refl none
+wireless c o none = either false c Memory 82 o refl refl none
 
 -- without a control socket none is missing
 reported : (n a : ℕ) (answered : Option NodeFault) (how : Ended) → Reports n a answered how → how ≢ ended.NoControlSocket
@@ -120,13 +113,6 @@ of_ending c o n h =
       | false ↦ h
     ])
 
--- ---- a store that isn't opened
-
-refused : (k c file new : Bool) (f : Found) (code : ℕ) → IsRefused file new f code → is_beyond k c (Refused code) ≡ false
-refused k c file new f code (inl w) = ap (λ (n : ℕ). is_beyond k c (Refused n)) w.0
-refused k c file new f code (inr (inl w)) = ap (λ (n : ℕ). is_beyond k c (Refused n)) w.0
-refused k c file new f code (inr (inr w)) = ap (λ (n : ℕ). is_beyond k c (Refused n)) w.0
-
 -- ---- what a start would be refused for
 
 pub of_check : (k j c : Bool) (place key other store starts addresses control : Outcome) →
@@ -141,7 +127,7 @@ of_check k j c place key other store starts addresses control p q r s t a d =
     let of_other : P other = controlled_or_not (k || j) c other
     (other_key (is_refused 83 other || is_refused 95 other) (is_refused 84 other && not false) k j r) in
     let of_store : P store = controlled_or_not (k || j) c store (keyed_or_not (k || j) false store s) in
-    first P place _ (sound_or (k || j) c 40 place refl p)
+    first P place _ (either (k || j) c Sound 40 place refl refl p)
     (first P (first_of key other) _ (first P key other (of_one key q) of_other)
     (first P store _ of_store (first P starts _ (of_one starts t)
-    (first P addresses control (sound_or (k || j) c 82 addresses refl a) (keyed_or_not (k || j) c control d)))))
+    (first P addresses control (either (k || j) c Sound 82 addresses refl refl a) (keyed_or_not (k || j) c control d)))))

@@ -55,10 +55,6 @@ pub node_given : (runs_none asks_none makes_none : Type 0) (node key ask : List 
     of_node ≡ Some rows → asks_none → makes_none → node rows o → OutcomeBy runs_none asks_none makes_none node key ask of_node of_key of_ask (Some o)
 node_given runs_none asks_none makes_none node key ask of_node of_key of_ask rows o e q t h = rw e ((q, t), h)
 
-pub none_given : (runs_none asks_none makes_none : Type 0) (node key ask : List Row → Outcome → Type 0) (of_node of_key of_ask : Option (List Row)) → of_node ≡ None →
-    of_key ≡ None → of_ask ≡ None → runs_none → asks_none → makes_none → OutcomeBy runs_none asks_none makes_none node key ask of_node of_key of_ask None
-none_given runs_none asks_none makes_none node key ask of_node of_key of_ask e f g r q t = rw (e, f, g) (r, (q, t))
-
 -- what was given is written
 pub written : (runs_none asks_none makes_none : Type 0) (node key ask : List Row → Outcome → Type 0) (given subcommand : Option (Text × List Row)) (o : Outcome) (s : Status)
     (old new : Option (List ℕ)) → given ≡ subcommand → IsOutcome runs_none asks_none makes_none node key ask subcommand (Some o) → Wrote s o old new →

@@ -18,7 +18,7 @@ ghost use Rattle.cli_node.specs.Doing.{Adds, IsLeft};
 ghost use Rattle.cli_node.specs.Asked.{is_wait, names_node, unasked_code};
 ghost use Rattle.cli_node.specs.declared.ask.TheConstants.{CLIENT};
 
-use crate::outcome::{Outcome, answer_outcome, fault_outcome};
+use crate::outcome::{Outcome, answer_outcome, fault_outcome, numbered};
 use clap::ArgMatches;
 use cli_io::{InputFault, Sources, number_in, source_named, value_in};
 use node_udp::{BindFault, Membership, UdpWire, ask_once};
@@ -53,13 +53,11 @@ fn waits_in(matches: &ArgMatches<'_>) -> Option<u32>
     ensures some { IfSome result (λ n. n ≡ waits_of (number_at (rows_of (found_of matches.now)) (codes "wait"))) }
     ensures none { result ≡ None → is_wait (number_at (rows_of (found_of matches.now)) (codes "wait")) ≡ false }
 {
-    match number_in(matches, "wait") {
-        Some(seconds) => match u16::try_from(seconds) {
-            Ok(seconds) => Some((5 * u32::from(seconds)).max(1)),
-            Err(_) => None,
-        },
-        None => Some(5),
-    }
+    let Some(seconds) = number_in(matches, "wait") else {
+        return Some(5);
+    };
+    let seconds = u16::try_from(seconds).ok()?;
+    Some((5 * u32::from(seconds)).max(1))
 }
 
 /// The number of 8 bits that an option has.
@@ -67,10 +65,7 @@ fn small_in(matches: &ArgMatches<'_>, id: &str) -> Option<u8>
     ensures some { IfSome result (λ n. number_at (rows_of (found_of matches.now)) id.now ≡ Some n) }
     ensures none { result ≡ None → has_8_bits (number_at (rows_of (found_of matches.now)) id.now) ≡ false }
 {
-    match number_in(matches, id) {
-        Some(number) => u8::try_from(number).ok(),
-        None => None,
-    }
+    u8::try_from(number_in(matches, id)?).ok()
 }
 
 impl<'a> AskArguments<'a> {
@@ -122,10 +117,7 @@ fn text_for<T: Sources, R: Read>(
     let Some(name) = named else {
         return Ok(Vec::new(alloc));
     };
-    match source_named(sources, alloc, name, reader) {
-        Ok(text) => Ok(text),
-        Err(fault) => Err(unread(name, fault)),
-    }
+    source_named(sources, alloc, name, reader).map_err(|fault| unread(name, fault))
 }
 
 /// The change that the arguments ask for.
@@ -138,10 +130,7 @@ fn change_in(alloc: Global, matches: &ArgMatches<'_>, text: &[u8]) -> Result<Com
     match from_matches(alloc, matches, text) {
         Ok(Action::Change(command)) => Ok(command),
         Ok(_) => Err(Outcome::Refused(USAGE)),
-        Err(fault) => match fault.code() {
-            Some(code) => Err(Outcome::Refused(code)),
-            None => Err(Outcome::Memory),
-        },
+        Err(fault) => Err(numbered(fault.code())),
     }
 }
 

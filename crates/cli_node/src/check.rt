@@ -2,7 +2,7 @@
 //! try that is removed.
 
 ghost use Rattle.std.specs.Prelude.{◌≡◌, ◌⊎◌, ℕ, Bool, List, Option, Err, None, Some, false, length, map, option_map};
-ghost use Rattle.std.specs.Prelude.{◌||◌, IfSome, OnErr, is_some};
+ghost use Rattle.std.specs.Prelude.{◌||◌, IfSome, is_some};
 ghost use Rattle.sqlite.specs.Held.{state};
 ghost use Rattle.sqlite.specs.State.{HasCleanDisk};
 ghost use Rattle.px_store.specs.Adopting.{Began, LeavesOld};
@@ -29,7 +29,7 @@ use crate::store::{Found, Opening, failed_outcome, found_at, identity_of, openin
 use cli_io::{Shown, open_regular};
 use node_loop::Membership;
 use pf_arguments::USAGE;
-use px_store::{AdoptFault, examine};
+use px_store::examine;
 use sqlite::{Alter, Connection, Error, ErrorCode, File, FileStore};
 use sqlite_trees::store::Store;
 use std::alloc::Global;
@@ -98,11 +98,9 @@ fn is_database<F: Files>(files: &F, path: &str) -> bool {
         return false;
     };
     let mut head = [0u8; 16];
-    match file.metadata() {
-        Ok(about) => about.len() == 0
-            || file.read_exact(&mut head).is_ok() && head.as_slice() == HEAD,
-        Err(_) => false,
-    }
+    file.metadata().is_ok_and(|about| {
+        about.len() == 0 || file.read_exact(&mut head).is_ok() && head.as_slice() == HEAD
+    })
 }
 
 /// What is refused of a store that is there; nothing of one that a node has open, nor of one without its log of

@@ -175,9 +175,7 @@ pub(crate) fn open_database(
     ensures guarded { IfOk result (λ c. HasCleanDisk (file_state c) → (file_state c).IsShielded) }
 {
     let files = files_at(rt, path)?;
-    let Ok(keys) = RandomState::new(rt) else {
-        return Err(CANNOT_OPEN);
-    };
+    let keys = RandomState::new(rt).map_err(|_| CANNOT_OPEN)?;
     open_files(rt.alloc(), files, Options::new(keys.hash_one(&0u8)))
 }
 
@@ -229,16 +227,10 @@ impl Databases for HostRuntime {
 
     fn see(&self, path: &str) -> Seen {
         match fs::metadata(self, path) {
-            Ok(found) => if found.is_file() {
-                Seen::File(found.len())
-            } else {
-                Seen::Another(found.len())
-            },
-            Err(error) => if error.kind() == ErrorKind::NotFound {
-                Seen::Nothing
-            } else {
-                Seen::Unknown
-            },
+            Ok(found) if found.is_file() => Seen::File(found.len()),
+            Ok(found) => Seen::Another(found.len()),
+            Err(error) if error.kind() == ErrorKind::NotFound => Seen::Nothing,
+            Err(_) => Seen::Unknown,
         }
     }
 

@@ -6,7 +6,7 @@ use crate::outcome::Outcome;
 use cli_io::Shown;
 use std::alloc::Global;
 
-/// Says that a node begins, and with what.
+/// Logs that a node begins, and with what.
 pub(crate) fn log_start(rt: &HostRuntime, arguments: NodeArguments<'_, '_, '_>) {
     if arguments.is_quiet {
         return;

@@ -114,7 +114,7 @@ pub(crate) fn log_place(rt: &HostRuntime, arguments: NodeArguments<'_, '_, '_>) 
     );
 }
 
-/// Says of the members' addresses which the system doesn't know, and which have no port. Whether none is such.
+/// Logs which of the members' addresses the system doesn't know, and which have no port. Whether none is such.
 pub(crate) fn log_unknown(rt: &HostRuntime, arguments: NodeArguments<'_, '_, '_>) -> bool {
     let mut are_known = true;
     for member in arguments.members {
@@ -189,10 +189,7 @@ pub(crate) fn log_uncontrolled(rt: &HostRuntime, alloc: Global, path: &str) {
 /// Why a file of starts can't be read, or written beside its place, as the system reports it; none where it can.
 fn why_unusable(rt: &HostRuntime, alloc: Global, path: &str, fault: RaiseFault) -> io::Result<()> {
     match fault {
-        RaiseFault::Unread => {
-            let _opened = open_regular(rt, path)?;
-            Ok(())
-        }
+        RaiseFault::Unread => open_regular(rt, path).map(drop),
         RaiseFault::Unwritten => {
             let beside = format!(in alloc; "{path}-new")?;
             let _gone = fs::remove_file(rt, beside.as_str());
@@ -216,7 +213,7 @@ pub(crate) fn log_unusable(rt: &HostRuntime, alloc: Global, path: &str, fault: R
     }
 }
 
-/// Says of a refusal that ends a run which file or address it is of.
+/// Logs of which file or address a refusal is that ends a run.
 pub(crate) fn log_why(
     rt: &HostRuntime,
     alloc: Global,

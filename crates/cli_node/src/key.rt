@@ -1,7 +1,7 @@
 //! The keys that the arguments of `node` name, and new ones.
 
 ghost use Rattle.std.specs.List.{All};
-ghost use Rattle.std.specs.Prelude.{◌≡◌, ◌⊎◌, ◌==◌, ◌/◌, ◌∷◌, ℕ, List, [], Ok, Err, OnErr, IfOk, IfErr, option_map};
+ghost use Rattle.std.specs.Prelude.{◌≡◌, ◌⊎◌, ◌==◌, ◌/◌, ◌∷◌, List, [], Ok, Err, OnErr, IfOk, IfErr, option_map};
 ghost use Rattle.std.specs.Prelude.{OnOk, map, is_some, false};
 ghost use Rattle.cli_files.specs.KeyTexts.{key_text};
 ghost use Rattle.node_udp.specs.Addresses.{address_of};
@@ -52,21 +52,6 @@ fn key_refused(rt: &HostRuntime, path: &str, fault: KeyFault) -> Outcome
     Outcome::Refused(BAD_KEY)
 }
 
-/// The key that was read, if it was.
-fn key_of(
-    rt: &HostRuntime,
-    path: &str,
-    read: Result<[u8; 32], KeyFault>,
-) -> Result<[u8; 32], Outcome>
-    ensures refused { OnErr result ((result ≡ Err Memory) ⊎ (result ≡ Err (Refused 83))) }
-    ensures read { IfOk result (λ k. read ≡ Ok k) }
-{
-    match read {
-        Ok(key) => Ok(key),
-        Err(fault) => Err(key_refused(rt, path, fault)),
-    }
-}
-
 /// The key of the cluster's tags that the secret in a file makes.
 pub(crate) fn key_in<F: NodeFiles>(
     rt: &HostRuntime,
@@ -79,8 +64,9 @@ pub(crate) fn key_in<F: NodeFiles>(
     ensures made { IfOk result (F.makes files.now arguments.entry.cluster (map (λ t. t.now) arguments.entry.members.now)
         path.now) }
 {
-    let read = files.cluster_key(alloc, path, arguments.cluster, arguments.members);
-    key_of(rt, path, read)
+    files
+        .cluster_key(alloc, path, arguments.cluster, arguments.members)
+        .map_err(|fault| key_refused(rt, path, fault))
 }
 
 /// The keys with this one, and another that the arguments name, if they do.
@@ -100,13 +86,8 @@ fn keys_with<F: NodeFiles>(
     let Some(path) = arguments.other_key else {
         return Ok(Keys { key, other: None });
     };
-    match key_in(rt, files, alloc, arguments, path) {
-        Ok(other) => Ok(Keys {
-            key,
-            other: Some(other),
-        }),
-        Err(outcome) => Err(outcome),
-    }
+    let other = Some(key_in(rt, files, alloc, arguments, path)?);
+    Ok(Keys { key, other })
 }
 
 /// The keys that the arguments name, if they do: 83 where a file can't be read or has none, or where others may read
@@ -127,14 +108,8 @@ pub(crate) fn keys_for<F: NodeFiles>(
     let Some(path) = arguments.key else {
         return Ok(None);
     };
-    let key = match key_in(rt, files, alloc, arguments, path) {
-        Ok(key) => key,
-        Err(outcome) => return Err(outcome),
-    };
-    match keys_with(rt, files, alloc, arguments, key) {
-        Ok(keys) => Ok(Some(keys)),
-        Err(outcome) => Err(outcome),
-    }
+    let key = key_in(rt, files, alloc, arguments, path)?;
+    Ok(Some(keys_with(rt, files, alloc, arguments, key)?))
 }
 
 /// Whether an address is one at which this machine alone is heard.
@@ -151,10 +126,7 @@ fn is_loopback_ip(ip: Addr) -> bool
 fn is_loopback(text: &str) -> bool
     ensures { result ≡ is_loopback (address_of text.now) }
 {
-    match parse_address(text) {
-        Some(address) => is_loopback_ip(address.ip),
-        None => false,
-    }
+    parse_address(text).is_some_and(|address| is_loopback_ip(address.ip))
 }
 
 /// Logs on standard error that the datagrams of a node carry no tag, where others than this machine may send it some.

@@ -32,7 +32,7 @@
 //! - **The control socket is made in a folder of its own**, 0700, and linked to its place once its mode is set, since
 //!   std has no umask and a socket listens from `bind` on. A link, not a rename: a link replaces nothing.
 //! - **Why a store isn't opened** is what the system reports of reading and writing its file, asked again, else what
-//!   the database says; `px_store` keeps no cause of a statement that failed.
+//!   the database reports; `px_store` keeps no cause of a statement that failed.
 //! - **`node` without an address is refused with 40**, as are more than 15, and a number that is none of theirs.
 //! - **`node` closes its store at its end**; out of memory in a turn ends it with `memory`.
 //! - **`--other-key` alone is refused**: in the first step of a change the other key is the new one, in the second the

@@ -1,7 +1,7 @@
 //! The subcommand `node`: a node over UDP.
 
-ghost use Rattle.std.specs.Prelude.{◌≡◌, ◌≢◌, ◌<◌, ◌≤◌, ◌⊎◌, ◌↔◌, Err, false, length, IfSome, OnErr, IsSome, IsTrue};
-ghost use Rattle.std.specs.Prelude.{ℕ, Bool, [], None, Ok, IfOk, map, option_map, option_and_then, is_some};
+ghost use Rattle.std.specs.Prelude.{◌≡◌, ◌≢◌, ◌<◌, ◌⊎◌, ◌↔◌, Err, false, length, IfSome, OnErr, IsSome, IsTrue};
+ghost use Rattle.std.specs.Prelude.{Bool, [], None, Ok, IfOk, map, option_map, is_some};
 ghost use Rattle.std.specs.Prelude.{◌||◌, ◌++◌, codes, string_bytes};
 ghost use Rattle.clap.specs.Words.{found_of, rows_of};
 ghost use Rattle.px_transport.specs.Wiring.{inner_of, keys_of, sealer_of};
@@ -97,20 +97,14 @@ fn number_for(matches: &ArgMatches<'_>, file: &NodeFile, name: &str) -> Option<u
     if let Some(number) = number_in(matches, name) {
         return Some(number);
     }
-    match file.number(name) {
-        Some(number) => u32::try_from(number).ok(),
-        None => None,
-    }
+    u32::try_from(file.number(name)?).ok()
 }
 
 /// This many turns; without a number, more than a run can have.
 fn turns_or_all(turns: Option<u32>) -> u64
     ensures { result ≡ turns_or_all turns }
 {
-    match turns {
-        Some(turns) => u64::from(turns),
-        None => u64::MAX,
-    }
+    turns.map_or(u64::MAX, |turns| u64::from(turns))
 }
 
 /// Whether an option without a value is given, or so in the file.
@@ -354,14 +348,8 @@ pub(crate) fn figures_at(
         return Ok(None);
     };
     match text.parse::<SocketAddr>() {
-        Ok(address) => {
-            if address.ip().is_loopback() && address.port() != 0 {
-                Ok(Some(address))
-            } else {
-                Err(Outcome::Refused(82))
-            }
-        }
-        Err(_) => Err(Outcome::Refused(82)),
+        Ok(address) if address.ip().is_loopback() && address.port() != 0 => Ok(Some(address)),
+        _ => Err(Outcome::Refused(82)),
     }
 }
 
@@ -372,8 +360,7 @@ fn addresses_text(alloc: Global, addresses: &[Address]) -> Result<String, AllocE
     let mut text = String::new(alloc);
     let mut left = addresses;
     while let [first, rest @ ..] = left {
-        let one = first.to_string(alloc)?;
-        text.push_str(one.as_str())?;
+        text.push_str(first.to_string(alloc)?.as_str())?;
         if !rest.is_empty() {
             text.push(' ')?;
         }

@@ -84,8 +84,9 @@ fn line_of(alloc: Global, outcome: Outcome) -> Result<String, AllocError>
     ensures { IfOk result (λ text. string_bytes text ≡ line_of outcome) }
 {
     match outcome {
-        Outcome::Front { front, applied } => front_line(alloc, front, applied),
-        Outcome::Stopped { front, applied } => front_line(alloc, front, applied),
+        Outcome::Front { front, applied } | Outcome::Stopped { front, applied } => {
+            front_line(alloc, front, applied)
+        }
         Outcome::Asked { node, number } => asked_line(alloc, node, number),
         Outcome::Key(key) => key_text(alloc, &key),
         Outcome::Refused(code) => format!(in alloc; "refused {code}\n"),
@@ -93,8 +94,7 @@ fn line_of(alloc: Global, outcome: Outcome) -> Result<String, AllocError>
         Outcome::NoAnswer => format!(in alloc; "no answer\n"),
         Outcome::Sound => format!(in alloc; "ok\n"),
         Outcome::Memory => format!(in alloc; "memory\n"),
-        Outcome::Made => Ok(String::new(alloc)),
-        Outcome::Unread => Ok(String::new(alloc)),
+        Outcome::Made | Outcome::Unread => Ok(String::new(alloc)),
     }
 }
 
@@ -103,15 +103,9 @@ fn status_of(outcome: Outcome) -> Status
     ensures { result ≡ status_of outcome }
 {
     match outcome {
-        Outcome::Front { .. } => Status::Done,
-        Outcome::Stopped { .. } => Status::Done,
-        Outcome::Asked { .. } => Status::Done,
-        Outcome::Key(_) => Status::Done,
-        Outcome::Refused(_) => Status::Refused,
-        Outcome::RefusedLine { .. } => Status::Refused,
-        Outcome::NoAnswer => Status::Refused,
-        Outcome::Sound => Status::Done,
-        Outcome::Made => Status::Done,
+        Outcome::Front { .. } | Outcome::Stopped { .. } | Outcome::Asked { .. } => Status::Done,
+        Outcome::Key(_) | Outcome::Sound | Outcome::Made => Status::Done,
+        Outcome::Refused(_) | Outcome::RefusedLine { .. } | Outcome::NoAnswer => Status::Refused,
         Outcome::Memory => Status::Memory,
         Outcome::Unread => Status::Failed,
     }
@@ -135,10 +129,7 @@ pub(crate) fn write_outcome<W: Write>(alloc: Global, outcome: Outcome, writer: &
 pub(crate) fn numbered(code: Option<u8>) -> Outcome
     ensures { result ≡ numbered code }
 {
-    match code {
-        None => Outcome::Memory,
-        Some(code) => Outcome::Refused(code),
-    }
+    code.map_or(Outcome::Memory, |code| Outcome::Refused(code))
 }
 
 /// What a fault of a node is shown as.
@@ -155,11 +146,8 @@ pub(crate) fn ending_of(outcome: Outcome, failures: u64) -> Outcome
     ensures why { result ≢ Refused 80 }
 {
     match outcome {
-        Outcome::Refused(80) => if failures > 0 {
-            Outcome::Refused(70)
-        } else {
-            Outcome::Refused(72)
-        },
+        Outcome::Refused(80) if failures > 0 => Outcome::Refused(70),
+        Outcome::Refused(80) => Outcome::Refused(72),
         _ => outcome,
     }
 }

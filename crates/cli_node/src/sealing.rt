@@ -39,25 +39,6 @@ fn starts_refused(rt: &HostRuntime, alloc: Global, path: &str, fault: RaiseFault
     Outcome::Refused(BAD_STARTS)
 }
 
-/// How a node's packets are sealed with these keys in the start that was raised, if it was.
-fn sealing_of(
-    rt: &HostRuntime,
-    alloc: Global,
-    path: &str,
-    keys: Keys,
-    raised: Result<Start, RaiseFault>,
-) -> Result<Option<Sealing>, Outcome>
-    ensures refused { OnErr result ((result ≡ Err Memory) ⊎ (result ≡ Err (Refused 95))) }
-    ensures keys { IfOk result (λ s. option_map (λ x. x.keys) s ≡ Some keys) }
-    ensures start { IfOk result (λ s. option_map (λ x. Ok x.start) s ≡ Some raised) }
-    ensures keyed { IfOk result (λ s. is_some s ≡ true) }
-{
-    match raised {
-        Ok(start) => Ok(Some(Sealing { keys, start })),
-        Err(fault) => Err(starts_refused(rt, alloc, path, fault)),
-    }
-}
-
 /// Whether a missing file of starts is made: with a store that is made, and where that is asked for.
 fn may_make_starts(arguments: NodeArguments<'_, '_, '_>, found: Found) -> bool
     ensures { result ≡
@@ -85,12 +66,12 @@ fn sealing_with<F: NodeFiles>(
         (is_made arguments.entry.is_from_file arguments.entry.is_new found || arguments.entry.makes_starts) x.start)) }
     ensures keyed { IfOk result (λ s. is_some s ≡ true) }
 {
-    let Ok(path) = starts_path(alloc, arguments.store) else {
-        return Err(Outcome::Memory);
-    };
+    let path = starts_path(alloc, arguments.store).map_err(|_| Outcome::Memory)?;
     let may_be_made = may_make_starts(arguments, found);
-    let raised = files.raise(alloc, path.as_str(), m, may_be_made);
-    sealing_of(rt, alloc, path.as_str(), keys, raised)
+    let start = files
+        .raise(alloc, path.as_str(), m, may_be_made)
+        .map_err(|fault| starts_refused(rt, alloc, path.as_str(), fault))?;
+    Ok(Some(Sealing { keys, start }))
 }
 
 /// How the node's packets are sealed, where it has keys, and this was found where its store is: 95 where its file of
@@ -141,11 +122,7 @@ pub(crate) fn of_starts(
     };
     match starts_in(rt, alloc, path.as_str(), m.members()) {
         Ok(_known) => Outcome::Sound,
-        Err(RaiseFault::Missing) => if is_new || arguments.makes_starts {
-            Outcome::Sound
-        } else {
-            starts_refused(rt, alloc, path.as_str(), RaiseFault::Missing)
-        },
+        Err(RaiseFault::Missing) if is_new || arguments.makes_starts => Outcome::Sound,
         Err(fault) => starts_refused(rt, alloc, path.as_str(), fault),
     }
 }

@@ -43,10 +43,8 @@ fn bytes_at<RT: Eprint + Sources>(rt: &RT, alloc: Global, path: &str) -> Result<
 {
     match rt.file_at(alloc, path) {
         Ok(bytes) => Ok(bytes),
+        Err(error) if error.kind() == ErrorKind::OutOfMemory => Err(Outcome::Memory),
         Err(error) => {
-            if error.kind() == ErrorKind::OutOfMemory {
-                return Err(Outcome::Memory);
-            }
             let _logged = eprintln!(rt; "pfx: error: {}: {error} ({UNREADABLE})", Shown(path));
             Err(Outcome::Refused(UNREADABLE))
         }
@@ -114,10 +112,7 @@ fn settings_for<RT: Eprint + Sources>(
 fn settings_code(matches: &ArgMatches<'_>) -> u8
     ensures { result ≡ settings_code (first_of (codes "config") (rows_of (found_of matches.now))) }
 {
-    match value_in(matches, "config") {
-        Some(_) => BAD_SETTINGS,
-        None => USAGE,
-    }
+    value_in(matches, "config").map_or(USAGE, |_| BAD_SETTINGS)
 }
 
 /// Logs which setting is missing.

@@ -23,12 +23,11 @@ pub(crate) fn try_control(rt: &HostRuntime, alloc: Global, path: &str) -> io::Re
         return Err(Error::new(ErrorKind::AddrInUse, "a node answers there"));
     }
     match fs::symlink_metadata(rt, path) {
-        Ok(found) => if !found.file_type().is_socket() {
+        Ok(found) if !found.file_type().is_socket() => {
             return Err(Error::new(ErrorKind::AlreadyExists, "it isn't a socket"));
-        },
-        Err(error) => if error.kind() != ErrorKind::NotFound {
-            return Err(error);
-        },
+        }
+        Err(error) if error.kind() != ErrorKind::NotFound => return Err(error),
+        _ => {}
     }
     let beside = format!(in alloc; "{path}.try")?;
     let _bound = UnixListener::bind(rt, beside.as_str())?;
@@ -43,18 +42,11 @@ fn try_ports(
 ) -> Result<(), Outcome>
     ensures { IfErr result (λ o. (o ≡ Memory) ⊎ (o ≡ Refused 82)) }
 {
-    match bind(rt, alloc, arguments) {
-        Ok(_wire) => {}
-        Err(outcome) => return Err(outcome),
+    drop(bind(rt, alloc, arguments)?);
+    if let Some(figures) = figures_at(arguments)? {
+        let _bound = TcpListener::bind(rt, figures).map_err(|_| Outcome::Refused(82))?;
     }
-    match figures_at(arguments) {
-        Ok(Some(figures)) => match TcpListener::bind(rt, figures) {
-            Ok(_bound) => Ok(()),
-            Err(_) => Err(Outcome::Refused(82)),
-        },
-        Ok(None) => Ok(()),
-        Err(outcome) => Err(outcome),
-    }
+    Ok(())
 }
 
 /// Tries them, and the control socket, if there is one.
@@ -66,20 +58,14 @@ fn try_all(
     ensures refused { IfErr result (λ o. (o ≡ Memory) ⊎ ((o ≡ Refused 82) ⊎ (o ≡ Refused 84))) }
     ensures beyond { IfErr result (λ o. is_beyond false (is_some arguments.entry.control) o ≡ false) }
 {
-    match try_ports(rt, alloc, arguments) {
-        Ok(()) => {}
-        Err(outcome) => return Err(outcome),
-    }
+    try_ports(rt, alloc, arguments)?;
     let Some(path) = arguments.control else {
         return Ok(());
     };
     match try_control(rt, alloc, path) {
         Ok(()) => Ok(()),
-        Err(error) => if error.kind() == ErrorKind::OutOfMemory {
-            Err(Outcome::Memory)
-        } else {
-            Err(Outcome::Refused(84))
-        },
+        Err(error) if error.kind() == ErrorKind::OutOfMemory => Err(Outcome::Memory),
+        Err(_) => Err(Outcome::Refused(84)),
     }
 }
 
@@ -92,18 +78,14 @@ pub(crate) fn try_sockets(
     ensures refused { IfErr result (λ o. (o ≡ Memory) ⊎ ((o ≡ Refused 82) ⊎ (o ≡ Refused 84))) }
     ensures beyond { IfErr result (λ o. is_beyond false (is_some arguments.entry.control) o ≡ false) }
 {
-    match try_all(rt, alloc, arguments) {
-        Ok(()) => Ok(()),
-        Err(outcome) => {
-            if let Outcome::Refused(code) = outcome {
-                log_why(rt, alloc, arguments, code);
-            }
-            Err(outcome)
-        }
+    let tried = try_all(rt, alloc, arguments);
+    if let Err(Outcome::Refused(code)) = tried {
+        log_why(rt, alloc, arguments, code);
     }
+    tried
 }
 
-/// Says of a socket what a start would refuse, which isn't refused with `--check`.
+/// Logs of a socket what a start would refuse, which isn't refused with `--check`.
 fn log_unsure<E: Display>(rt: &HostRuntime, what: &str, name: &str, why: &E) {
     let name = Shown(name);
     let _logged = eprintln!(rt; "pfx: info: {what} {name}: {why}; a start would be refused");
@@ -118,13 +100,14 @@ pub(crate) fn of_own_address(rt: &HostRuntime, arguments: NodeArguments<'_, '_, 
     };
     match UdpSocket::bind(rt, *own) {
         Ok(_bound) => Outcome::Sound,
-        Err(error) => if error.kind() == ErrorKind::AddrInUse {
+        Err(error) if error.kind() == ErrorKind::AddrInUse => {
             log_unsure(rt, "address", own, &error);
             Outcome::Sound
-        } else {
+        }
+        Err(error) => {
             let _logged = eprintln!(rt; "pfx: error: address {}: {error}", Shown(*own));
             Outcome::Refused(82)
-        },
+        }
     }
 }
 

@@ -36,7 +36,7 @@ const NO_STORE: u8 = 93;
 pub(crate) const FILE_IS_THERE: u8 = 94;
 
 /// What is found at the path of a store.
-#[derive(Clone, Copy, PartialEq, Eq)]
+#[derive(Clone, Copy)]
 pub(crate) enum Found {
     /// Nothing.
     Nothing,
@@ -49,7 +49,7 @@ pub(crate) enum Found {
 }
 
 /// What becomes of it.
-#[derive(Clone, Copy, PartialEq, Eq)]
+#[derive(Clone, Copy)]
 pub(crate) enum Opening {
     /// The store is opened.
     Opens,
@@ -66,16 +66,10 @@ pub(crate) fn opening_of(is_from_file: bool, is_new: bool, found: Found) -> Open
     ensures { IsOpening is_from_file is_new found result }
 {
     match found {
-        Found::Nothing | Found::Empty => if is_new || !is_from_file {
-            Opening::Makes
-        } else {
-            Opening::Refuses(NO_STORE)
-        },
-        Found::Store => if is_new {
-            Opening::Refuses(FILE_IS_THERE)
-        } else {
-            Opening::Opens
-        },
+        Found::Nothing | Found::Empty if is_new || !is_from_file => Opening::Makes,
+        Found::Nothing | Found::Empty => Opening::Refuses(NO_STORE),
+        Found::Store if is_new => Opening::Refuses(FILE_IS_THERE),
+        Found::Store => Opening::Opens,
         Found::Other => Opening::Refuses(70),
     }
 }
@@ -85,8 +79,7 @@ fn has_no_byte(seen: Seen) -> bool
     ensures { result ≡ has_no_byte seen }
 {
     match seen {
-        Seen::File(size) => size == 0,
-        Seen::Another(size) => size == 0,
+        Seen::File(size) | Seen::Another(size) => size == 0,
         Seen::Nothing | Seen::Unknown => true,
     }
 }
@@ -96,11 +89,8 @@ fn found_by(file: Seen, log: Seen) -> Found
     ensures { result ≡ found_by file log }
 {
     match file {
-        Seen::File(size) => if size == 0 && has_no_byte(log) {
-            Found::Empty
-        } else {
-            Found::Store
-        },
+        Seen::File(size) if size == 0 && has_no_byte(log) => Found::Empty,
+        Seen::File(_) => Found::Store,
         Seen::Nothing => Found::Nothing,
         Seen::Another(_) | Seen::Unknown => Found::Other,
     }
@@ -119,13 +109,6 @@ pub(crate) fn found_at<D: Databases>(
     Ok(found_by(file, dbs.see(log.as_str())))
 }
 
-/// The outcome of a store that isn't taken.
-fn adopt_outcome(fault: AdoptFault) -> Outcome
-    ensures { result ≡ adopt_outcome fault }
-{
-    numbered(fault.code())
-}
-
 /// What a store that isn't accepted gives; why is logged on standard error.
 pub(crate) fn untaken<RT: Eprint, S: Alter>(
     rt: &RT,
@@ -140,7 +123,7 @@ pub(crate) fn untaken<RT: Eprint, S: Alter>(
         LeavesOld (state S.Store conn.old) (state S.Store conn.new) }
 {
     log_judged(rt, path, m, fault, conn);
-    adopt_outcome(fault)
+    numbered(fault.code())
 }
 
 /// Whom the store of a member belongs to.
@@ -178,10 +161,8 @@ fn open_file<D: Databases>(
         D.holds dbs.now path.now (state ⟦<FileStore<File> as Store>⟧ c).now
         (state ⟦<FileStore<File> as Store>⟧ c).in_transaction) }
 {
-    match dbs.open(path) {
-        Ok(conn) => Ok(conn),
-        Err(error) => Err(failed_outcome(rt, path, error)),
-    }
+    dbs.open(path)
+        .map_err(|error| failed_outcome(rt, path, error))
 }
 
 /// The file of a store that is made: an empty one that its owner alone may read, where nothing is; else the one that is
@@ -190,19 +171,13 @@ fn make_file(rt: &HostRuntime, path: &str, found: Found) -> Result<(), Outcome>
     ensures { IfErr result (λ o. o ≡ Refused 70) }
 {
     let made = match found {
-        Found::Nothing => match make_private(rt, path) {
-            Ok(_made) => Ok(()),
-            Err(error) => Err(error),
-        },
+        Found::Nothing => make_private(rt, path).map(drop),
         Found::Empty | Found::Store | Found::Other => why_closed(rt, path),
     };
-    match made {
-        Ok(()) => Ok(()),
-        Err(error) => {
-            log_closed(rt, path, &error);
-            Err(Outcome::Refused(70))
-        }
-    }
+    made.map_err(|error| {
+        log_closed(rt, path, &error);
+        Outcome::Refused(70)
+    })
 }
 
 /// The database of a store that is made. Its file is made first (70), and then its node's sockets are tried (82, 84): a
@@ -220,14 +195,9 @@ fn make_store<D: Databases>(
         D.holds dbs.now arguments.entry.store.now (state ⟦<FileStore<File> as Store>⟧ c).now
         (state ⟦<FileStore<File> as Store>⟧ c).in_transaction) }
 {
-    match make_file(rt, arguments.store, found) {
-        Ok(()) => {}
-        Err(outcome) => return Err(outcome),
-    }
-    match try_sockets(rt, alloc, arguments) {
-        Ok(()) => open_file(rt, dbs, arguments.store),
-        Err(outcome) => Err(outcome),
-    }
+    make_file(rt, arguments.store, found)?;
+    try_sockets(rt, alloc, arguments)?;
+    open_file(rt, dbs, arguments.store)
 }
 
 /// Whether a start makes a store there, of nothing or of a file without a byte.
@@ -323,10 +293,7 @@ pub(crate) fn record_at<D: Databases>(
     ensures unfailed { OnErr result (result ≢ Err (Refused 80)) }
     ensures beyond { IfErr result (λ o. is_beyond false (is_some arguments.entry.control) o ≡ false) }
 {
-    let conn = match open_store(rt, dbs, alloc, arguments, found) {
-        Ok(conn) => conn,
-        Err(outcome) => return Err(outcome),
-    };
+    let conn = open_store(rt, dbs, alloc, arguments, found)?;
     match record_in(alloc, conn, identity_of(m), found) {
         Ok(records) => Ok(records),
         Err((fault, conn)) => {

@@ -1,5 +1,5 @@
 -- the outcome of a store that is refused, and the contents of one that isn't
-use Rattle.std.proofs.Common.{◌∙◌, Err, ap, sym, subst}
+use Rattle.std.proofs.Common.{◌∙◌, sym, subst}
 use Rattle.cli_node.specs.declared.outcome.Outcome.{Outcome}
 use Rattle.cli_node.specs.declared.outcome.Outcome.TheVariants.{Refused}
 use Rattle.cli_node.specs.Endings.{adopt_outcome}
@@ -8,29 +8,26 @@ use Rattle.cli_node.proofs.Kept.{kept_in}
 use Rattle.cli_node.proofs.Stores.{by_fault, err_is, kind_of_fault, not_lost, unfailed_fault}
 use Rattle.cli_node.proofs.store.record_at.Goals as goal
 
-pub returns-in-Ok-record_in-clause-rows : goal.returns-in-Ok-record_in-clause-rows
-returns-in-Ok-record_in-clause-rows g c =
-    kept_in _ _ _ _ c.in-Ok.conn c.in-Ok-record_in.records c.identity_of.ensures c.in-Ok.ensures.at
-    c.in-Ok-record_in.ensures.rows c.in-Ok-record_in.ensures.owned c.in-Ok-record_in.ensures.made
-    c.in-Ok-record_in.ensures.brought
+pub returns-in-Ok-clause-rows : goal.returns-in-Ok-clause-rows
+returns-in-Ok-clause-rows g c =
+    kept_in _ _ _ _ c.in_ok-conn.conn c.in-Ok.records c.identity_of.ensures c.in_ok-conn.ensures.at
+    c.in-Ok.ensures.rows c.in-Ok.ensures.owned c.in-Ok.ensures.made
+    c.in-Ok.ensures.brought
 
-pub returns-in-Err-record_in-clause-refused : goal.returns-in-Err-record_in-clause-refused
-returns-in-Err-record_in-clause-refused g c =
+pub returns-in-Err-clause-refused : goal.returns-in-Err-clause-refused
+returns-in-Err-clause-refused g c =
     subst (λ (o : Outcome). IsStoreless c.args.arguments.is_from_file c.args.arguments.is_new o) (sym c.untaken.ensures.is)
-    (by_fault c.args.arguments.is_from_file c.args.arguments.is_new c.in-Err-record_in.fault)
+    (by_fault c.args.arguments.is_from_file c.args.arguments.is_new c.in-Err.fault)
 
-pub returns-in-Err-record_in-clause-kind : goal.returns-in-Err-record_in-clause-kind
-returns-in-Err-record_in-clause-kind g c =
-    subst IsRefusal (sym c.untaken.ensures.is) (kind_of_fault c.in-Err-record_in.fault)
+pub returns-in-Err-clause-kind : goal.returns-in-Err-clause-kind
+returns-in-Err-clause-kind g c =
+    subst IsRefusal (sym c.untaken.ensures.is) (kind_of_fault c.in-Err.fault)
 
-pub returns-in-Err-record_in-clause-unfailed : goal.returns-in-Err-record_in-clause-unfailed
-returns-in-Err-record_in-clause-unfailed g c = λ e.
-    unfailed_fault c.in-Err-record_in.fault (sym c.untaken.ensures.is ∙ err_is c.untaken.result (Refused 80) e)
-
-pub returns-in-Err-record_in-clause-none : goal.returns-in-Err-record_in-clause-none
-returns-in-Err-record_in-clause-none g c = λ e.
-    absurd (not_lost (adopt_outcome c.in-Err-record_in.fault) (λ file new. by_fault file new c.in-Err-record_in.fault)
-    (sym c.untaken.ensures.is ∙ err_is c.untaken.result (Refused 93) e))
+pub returns-in-Err-clause-unfailed : goal.returns-in-Err-clause-unfailed
+returns-in-Err-clause-unfailed g c = λ e.
+    unfailed_fault c.in-Err.fault (sym c.untaken.ensures.is ∙ err_is c.untaken.result (Refused 80) e)
 
 pub returns-in-Err-clause-none : goal.returns-in-Err-clause-none
-returns-in-Err-clause-none g c = λ e. c.in-Err.ensures.none (ap Err (err_is c.in-Err.outcome (Refused 93) e))
+returns-in-Err-clause-none g c = λ e.
+    absurd (not_lost (adopt_outcome c.in-Err.fault) (λ file new. by_fault file new c.in-Err.fault)
+    (sym c.untaken.ensures.is ∙ err_is c.untaken.result (Refused 93) e))
