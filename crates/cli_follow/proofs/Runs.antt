@@ -1,8 +1,9 @@
 -- Runs one after the other.
-use Rattle.std.proofs.Common.{◌≡◌, ◌∙◌, ℕ, ◌==◌, ◌||◌, Bool, true, false, List, [], ◌∷◌, ◌++◌, Option, Some, None, Result, Ok, Err, refl, sym, ap, ap₂, subst, append_assoc, append-nil, arith}
+use Rattle.std.proofs.Common.{◌≡◌, ◌∙◌, ℕ, Bool, List, [], ◌∷◌, ◌++◌, Option, Some, None, Result, Ok, Err, refl, sym, ap, ap₂, subst, append_assoc, append-nil}
 use Rattle.std.specs.Prelude.{option_map, option_and_then, if◌then◌else◌, IfOk, IfErr}
 use Rattle.std.proofs.KnownBytes.{Appends-nil, Appends-trans}
-use Rattle.std.proofs.lemmas.Bool.Decides.{nat_tests}
+use Rattle.std.proofs.lemmas.Bool.{eq-eqb}
+use Rattle.std.proofs.Math.Bool.{or_assoc, or-false}
 use Rattle.cli_ask.specs.declared.exchange.AskFault.{AskFault}
 use Rattle.cli_ask.specs.declared.exchange.Reply.{Reply}
 use Rattle.cli_io.specs.Written.{AppendsFront}
@@ -19,20 +20,12 @@ use Rattle.cli_follow.specs.inner.Seen.{due_in, Leads, Fails}
 
 -- ---- answers one after the other
 
-or_assoc : (a b c : Bool) → (a || (b || c)) ≡ ((a || b) || c)
-or_assoc true b c = refl
-or_assoc false b c = refl
-
-or_false : (a : Bool) → (a || false) ≡ a
-or_false true = refl
-or_false false = refl
-
 behind_assoc : (a b c : Reached) → behind a (behind b c) ≡ behind (behind a b) c
 behind_assoc a b c =
-    ap₂ (λ (o : List ℕ) (d : Bool). record { stage = c.stage; out = o; is_due = d }) (sym (append_assoc a.out b.out c.out)) (or_assoc a.is_due b.is_due c.is_due)
+    ap₂ (λ (o : List ℕ) (d : Bool). record { stage = c.stage; out = o; is_due = d }) (sym (append_assoc a.out b.out c.out)) (sym (or_assoc a.is_due b.is_due c.is_due))
 
 behind_nothing : (r : Reached) → behind r (stays r.stage) ≡ r
-behind_nothing r = ap₂ (λ (o : List ℕ) (d : Bool). record { stage = r.stage; out = o; is_due = d }) (append-nil r.out) (or_false r.is_due)
+behind_nothing r = ap₂ (λ (o : List ℕ) (d : Bool). record { stage = r.stage; out = o; is_due = d }) (append-nil r.out) (or-false r.is_due)
 
 abbrev On : Wanted → List Exchange → List Exchange → Type 0
 On w xs ys = (s : Stage) (u r : Reached) → after w s xs ≡ Some u → after w u.stage ys ≡ Some r → after w s (xs ++ ys) ≡ Some (behind u r)
@@ -113,11 +106,8 @@ stopped_here x y w s t a b p =
 
 -- ---- one turn
 
-itself : (n : ℕ) → (n == n) ≡ true
-itself n = grind (arith, nat_tests)
-
 pub entries_one : (w : Wanted) (f : Follower) (a : Result Reply AskFault) → after_one w (AsksEntries f) (asked (Entries f.followed.position) a) ≡ Some (after_entries w f a)
-entries_one w f a = ap (λ (b : Bool). if b then Some (after_entries w f a) else None) (itself f.followed.position)
+entries_one w f a = ap (λ (b : Bool). if b then Some (after_entries w f a) else None) (eq-eqb f.followed.position f.followed.position refl)
 
 pub entries_led : (w : Wanted) (f : Follower) (a : Result Reply AskFault) → after w (AsksEntries f) (asked (Entries f.followed.position) a ∷ []) ≡ Some (after_entries w f a)
 entries_led w f a = run_one w (AsksEntries f) (asked (Entries f.followed.position) a) (after_entries w f a) (entries_one w f a)

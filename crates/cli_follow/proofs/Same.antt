@@ -1,10 +1,9 @@
 -- Members are the same exactly where their test says so.
-use Rattle.std.proofs.Common.{◌≡◌, ◌∙◌, ℕ, ◌==◌, Bool, true, false, List, [], ◌∷◌, refl, sym, ap, arith}
+use Rattle.std.proofs.Common.{◌≡◌, ◌∙◌, ℕ, ◌==◌, Bool, true, false, List, [], ◌∷◌, refl, sym, ap}
 use Rattle.std.specs.Prelude.{not, ◌↔◌}
 use Rattle.std.specs.Bool.{Decides}
 use Rattle.std.specs.Cmp.Lexicographic.{pointwise}
-use Rattle.std.proofs.lemmas.Bool.{and_parts, eqb-true, false≢true, true≢false}
-use Rattle.std.proofs.lemmas.Bool.Decides.{nat_tests}
+use Rattle.std.proofs.lemmas.Bool.{and_parts, eq-eqb, eqb-true, false≢true, true≢false}
 use Rattle.std.proofs.lemmas.Slice.Eq.{slice_eq-Decides}
 use Rattle.pf_addr.specs.declared.addr.Addr.{Addr}
 use Rattle.pf_addr.specs.declared.addr.Addr.TheVariants.{V4, V6}
@@ -22,7 +21,7 @@ bits_of (V4 x) = x
 bits_of (V6 x) = x
 
 itself : (n : ℕ) → (n == n) ≡ true
-itself n = grind (arith, nat_tests)
+itself n = eq-eqb n n refl
 
 by_parts : (a b : Addr) (p q : ℕ) → Decides (eq-value.it (member a p) (member b q)) (member a p ≡ member b q)
 by_parts (V4 x) (V4 y) p q = (

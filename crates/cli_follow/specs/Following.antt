@@ -77,7 +77,7 @@ lines_applied f [] = record { followed = f; is_whole = true }
 lines_applied f (l ∷ ls) = or_ends f (option_map (λ g. lines_applied g ls) (next_of f (decode_of l.content)))
 
 -- Lines were taken one after the other up to one that wasn't, or to the last: the configuration is then that after the
--- lines before it, and it stands that many entries further.
+-- lines before it, and its position is higher by their number.
 -- Example: of three lines at 7: at 7, 8, 9 or 10.
 abbrev pub StopsIn : (old new : Configuration) → (from to : ℕ) → List ScriptLine → Type 0
 StopsIn old new from to [] = (new ≡ old) × (to ≡ from)
@@ -89,7 +89,7 @@ abbrev pub AreBytes : Log Bytes → Type 0
 AreBytes log = (p : ℕ) (e : Entry Bytes) → log p ≡ Some e → IsBytes (spelled e)
 
 -- Where a configuration is that of a log's first entries, and a string is what a control socket answers of this log
--- from there on, it is afterwards that of the log's first entries up to where it stands then.
+-- from there on, it is afterwards that of the log's first entries up to its position then.
 -- Example: at 3, with two lines: after five entries.
 abbrev pub Follows : (old new : Configuration) → (from to : ℕ) → (text : List ℕ) → Type 0
 Follows old new from to text = (log : Log Bytes) (applied count : ℕ) → AreBytes log → applied ≤ front log →

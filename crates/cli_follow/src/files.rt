@@ -42,10 +42,7 @@ pub struct TextFiles {
 pub(crate) fn are_behind(files: &Option<TextFiles>) -> bool
     ensures { result ≡ are_behind files.now }
 {
-    match files {
-        Some(files) => files.is_behind,
-        None => false,
-    }
+    files.as_ref().is_some_and(|files| files.is_behind)
 }
 
 /// The name of a path's file: `main.conf`, or `anchor` and the names behind a `+` each, which no name has, and `.conf`.

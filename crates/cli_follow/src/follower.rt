@@ -1,11 +1,11 @@
 //! What follows one node's log, and writes what nft(8) is to load.
 
-ghost use Rattle.std.specs.Prelude.{◌≡◌, ◌+◌, ◌||◌, ◌&&◌, ℕ, true, not, Some, Ok, IfOk, IfErr, OnOk, OnErr, option_map};
+ghost use Rattle.std.specs.Prelude.{◌≡◌, ◌+◌, ◌||◌, ◌&&◌, ℕ, true, Some, Ok, IfOk, IfErr, OnOk, OnErr, option_map};
 ghost use Rattle.std.specs.Io.KnownBytes.{Appends};
 ghost use Rattle.cli_io.specs.Written.{AppendsFront};
 ghost use Rattle.nft_rules.specs.Seen.{machine_of};
 ghost use Rattle.cli_follow.specs.Output.{wanted, start, is_again, is_more, is_behind, caught_up, informed};
-ghost use Rattle.cli_follow.specs.Output.{after_entries, after_status, same_members, written_if, written_to};
+ghost use Rattle.cli_follow.specs.Output.{after_entries, after_status, written_if, written_to};
 ghost use Rattle.cli_follow.specs.Output.{Wanted};
 ghost use Rattle.cli_follow.specs.Output as code;
 ghost use Rattle.cli_follow.specs.inner.Seen.{follower_of, wanted_of, due_in, loads_of, Wrote, Written};
@@ -46,7 +46,7 @@ impl From<AllocError> for WriteFault {
 }
 
 /// What an answer leads to.
-#[derive(Clone, Copy, PartialEq, Eq)]
+#[derive(Clone, Copy)]
 pub(crate) enum Due {
     /// Entries that weren't all: those behind them are asked for.
     More,
@@ -100,10 +100,7 @@ fn is_more(from: u32, to: u32, body: &[u8]) -> bool
 fn is_behind(front: Option<u32>, position: u32) -> bool
     ensures { result ≡ is_behind front position }
 {
-    match front {
-        Some(front) => front < position,
-        None => false,
-    }
+    front.is_some_and(|front| front < position)
 }
 
 /// Logs what was written for a position.
@@ -157,17 +154,6 @@ fn due_if(is_wanted: bool) -> Due
 }
 
 impl Nft {
-    /// From now on what these members send each other passes. Whether they are others than those before.
-    fn set_members(&mut self, members: Vec<Member>) -> bool
-        ensures other { result ≡ not (same_members self.old.kernel.members.items members.items) }
-        ensures members { self.new.kernel.members ≡ members }
-        ensures interfaces { self.new.kernel.interfaces ≡ self.old.kernel.interfaces }
-        ensures last { self.new.kernel.last ≡ self.old.kernel.last }
-        ensures guarded { self.new.is_guarded ≡ self.old.is_guarded }
-    {
-        self.kernel.set_members(members)
-    }
-
     /// Writes what a kernel is to load; a refusal is said.
     #[tactic(auto, using(cli_io::proofs::Fronts::nothing_written))]
     fn write<W: Write, E: Write>(
@@ -207,31 +193,22 @@ impl Follower {
             ≡ wanted (option_map (λ v. machine_of v.items) interfaces) is_guarded) }
     {
         let followed = FollowedConfiguration::new(alloc)?;
-        match interfaces {
-            Some(interfaces) => {
-                let kernel = Kernel::new(alloc, interfaces);
-                Ok(Follower {
-                    followed,
-                    nft: Some(Nft { kernel, is_guarded }),
-                    has_begun: false,
-                })
-            }
-            None => Ok(Follower {
-                followed,
-                nft: None,
-                has_begun: false,
-            }),
-        }
+        let nft = interfaces.map(|interfaces| Nft {
+            kernel: Kernel::new(alloc, interfaces),
+            is_guarded,
+        });
+        Ok(Follower {
+            followed,
+            nft,
+            has_begun: false,
+        })
     }
 
     /// Whether the node is asked where its members listen.
     fn is_guarded(&self) -> bool
         ensures { result ≡ (wanted_of self.now).is_guarded }
     {
-        match &self.nft {
-            Some(nft) => nft.is_guarded,
-            None => false,
-        }
+        self.nft.as_ref().is_some_and(|nft| nft.is_guarded)
     }
 
     /// What is due where all that is applied is there.
@@ -291,7 +268,7 @@ impl Follower {
     {
         match &mut self.nft {
             Some(nft) => {
-                let is_new = nft.set_members(members);
+                let is_new = nft.kernel.set_members(members);
                 due_if(is_wanted(self.followed.is_moved, is_new, self.has_begun))
             }
             None => Due::Rest,

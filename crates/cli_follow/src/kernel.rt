@@ -1,10 +1,10 @@
 //! What nft(8) is to load, one position after the other.
 
-ghost use Rattle.std.specs.Prelude.{◌≡◌, [], ◌↔◌, IfOk, None, false};
+ghost use Rattle.std.specs.Prelude.{◌≡◌, [], IfOk, None, not};
 ghost use Rattle.nft_rules.specs.Refusing.{Renders};
 ghost use Rattle.nft_rules.specs.Seen.{machine_of};
 ghost use Rattle.nft_text.specs.Loading.{transactions_value, rendered_lines};
-ghost use Rattle.cli_follow.specs.Output.{are_same, end_of, is_same, loads};
+ghost use Rattle.cli_follow.specs.Output.{are_same, end_of, is_same, loads, same_members};
 ghost use Rattle.cli_follow.specs.inner.Seen.{given_of, lines_of};
 
 use nft_rules::{MachineInterface, Member, RenderFault};
@@ -67,7 +67,7 @@ impl Kernel {
     /// From now on what these members send each other passes whatever the rules say. Answers whether they are others
     /// than those before.
     pub(crate) fn set_members(&mut self, members: Vec<Member>) -> bool
-        ensures same { result ≡ false ↔ self.old.members.items ≡ members.items }
+        ensures other { result ≡ not (same_members self.old.members.items members.items) }
         ensures members { self.new.members ≡ members }
         ensures interfaces { self.new.interfaces ≡ self.old.interfaces }
         ensures last { self.new.last ≡ self.old.last }
@@ -101,10 +101,7 @@ impl Kernel {
         };
         match self.rendered(alloc, config, last.position) {
             Ok(again) => Ok(are_same(&again, &last.lines)),
-            Err(fault) => match fault.code() {
-                Some(_) => Ok(false),
-                None => Err(AllocError),
-            },
+            Err(fault) => fault.code().map(|_| false).ok_or(AllocError),
         }
     }
 
@@ -113,13 +110,8 @@ impl Kernel {
         ensures { result.now ≡ end_of position (given_of self.now.last) }
     {
         match &self.last {
-            Some(last) => {
-                if last.position == position {
-                    return &[];
-                }
-                last.lines.end.as_bytes()
-            }
-            None => &[],
+            Some(last) if last.position != position => last.lines.end.as_bytes(),
+            _ => &[],
         }
     }
 
@@ -143,10 +135,7 @@ impl Kernel {
         }
         let lines = match self.rendered(alloc, config, position) {
             Ok(lines) => lines,
-            Err(fault) => match fault.code() {
-                Some(code) => return Ok(Step::Refused(code)),
-                None => return Err(AllocError),
-            },
+            Err(fault) => return Ok(Step::Refused(fault.code().ok_or(AllocError)?)),
         };
         let mut written = Vec::from_slice(alloc, lines.load.as_bytes())?;
         written.extend_from_slice(self.end_of(position))?;

@@ -22,13 +22,8 @@ fn texts_on<'w, 'a>(words: &'w [&'a str]) -> Option<&'w [&'a str]>
     ensures { option_map (λ ts. map (λ t. t.now) ts.now) result ≡ texts_on (map (λ w. w.now) words.now) }
 {
     match words {
-        [first, texts @ ..] => {
-            if *first == "members" {
-                return some_texts(texts);
-            }
-            None
-        }
-        [] => None,
+        [first, texts @ ..] if *first == "members" => some_texts(texts),
+        _ => None,
     }
 }
 

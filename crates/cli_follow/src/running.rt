@@ -175,13 +175,10 @@ fn is_another(due: Due) -> bool
     requires status { due ≡ Due.Status → ⊥ }
     ensures { (f : code.Follower) → stage_in f due ≡ stage_if result f }
 {
-    match due {
-        Due::Another => true,
-        _ => false,
-    }
+    matches!(due, Due::Another)
 }
 
-/// Says once that there is no answer, and waits before entries are asked for again, but for some that weren't all.
+/// Reports once that there is no answer, and waits before it asks for entries again, except for the rest of an answer.
 fn rest<RT: Pauses, C: Control, E: Write>(
     rt: &RT,
     control: &C,
