@@ -21,18 +21,12 @@ use std::fs;
 
 /// Whether a file has no byte, or isn't there.
 fn is_empty(rt: &HostRuntime, path: &str) -> bool {
-    match fs::metadata(rt, path) {
-        Ok(found) => found.len() == 0,
-        Err(_) => true,
-    }
+    fs::metadata(rt, path).map_or(true, |found| found.len() == 0)
 }
 
 /// Whether this is a file.
 fn is_file(rt: &HostRuntime, path: &str) -> bool {
-    match fs::metadata(rt, path) {
-        Ok(found) => found.is_file(),
-        Err(_) => false,
-    }
+    fs::metadata(rt, path).is_ok_and(|found| found.is_file())
 }
 
 /// The database in a file. Where there is no file 70 comes, and none is made; 73 where it has no byte and no log of
@@ -43,9 +37,7 @@ fn open_file(rt: &HostRuntime, path: &str) -> Result<Connection<FileStore<File>>
     if !is_file(rt, path) {
         return Err(Closed::Refused(70));
     }
-    let Ok(log) = format!(in rt.alloc(); "{path}-wal") else {
-        return Err(Closed::Memory);
-    };
+    let log = format!(in rt.alloc(); "{path}-wal").map_err(|_| Closed::Memory)?;
     if is_empty(rt, path) && is_empty(rt, log.as_str()) {
         return Err(Closed::Refused(73));
     }

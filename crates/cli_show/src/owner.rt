@@ -41,10 +41,7 @@ fn number_at(row: &Row, at: usize) -> Result<u64, Closed>
     ensures why { IfErr result (λ e. (e ≡ Closed.Memory) ⊎ (e ≡ Closed.Refused 72)) }
     ensures bad { result ≡ Err (Closed.Refused 72) → is_number (column row.now at) ≡ false }
 {
-    match row.get::<u64>(at) {
-        Ok(number) => Ok(number),
-        Err(error) => Err(closed_for_value(&error)),
-    }
+    row.get::<u64>(at).map_err(|error| closed_for_value(&error))
 }
 
 /// Whether there is such a member of such a cluster.
@@ -75,10 +72,7 @@ fn member_in(row: &Row) -> Result<Membership, Closed>
     let cluster = number_at(row, 1)?;
     let members = number_at(row, 2)?;
     let node = number_at(row, 3)?;
-    match member_of(cluster, members, node) {
-        Some(m) => Ok(m),
-        None => Err(Closed::Refused(72)),
-    }
+    member_of(cluster, members, node).ok_or(Closed::Refused(72))
 }
 
 /// Whether the row is of format 3.

@@ -101,10 +101,9 @@ fn listing_outcome<RT: Stores + Sources>(
 {
     match from_matches(alloc, matches, &[]) {
         Ok(action) => shown_of(rt, alloc, store, Wanted::Listing(&action)),
-        Err(fault) => match fault.code() {
-            Some(code) => Outcome::Refused(code),
-            None => Outcome::Memory,
-        },
+        Err(fault) => fault
+            .code()
+            .map_or(Outcome::Memory, |code| Outcome::Refused(code)),
     }
 }
 

@@ -1,9 +1,8 @@
 //! What is shown of a record.
 
-ghost use Rattle.std.specs.Prelude.{◌≡◌, ◌<◌, [], false, IfOk, IfErr, option_map};
+ghost use Rattle.std.specs.Prelude.{◌≡◌, ◌<◌, [], IfOk, IfErr, option_map};
 ghost use Rattle.px_model.specs.Node.{Record};
 ghost use Rattle.px_model.specs.Spelling.{Bytes};
-ghost use Rattle.px_model.specs.Step.{front};
 ghost use Rattle.pf_node.specs.Nodes.{learned_by, applied_of, kept_of, config_of};
 ghost use Rattle.cli_nft.specs.Outputs.{config_output};
 ghost use Rattle.cli_show.specs.Writing.{of_kernel, shown_value};

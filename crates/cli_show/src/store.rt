@@ -34,10 +34,7 @@ pub enum Closed {
 fn closed_by(code: Option<u8>) -> Closed
     ensures { result ≡ closed_by code }
 {
-    match code {
-        Some(code) => Closed::Refused(code),
-        None => Closed::Memory,
-    }
+    code.map_or(Closed::Memory, |code| Closed::Refused(code))
 }
 
 /// What the refusal of a store gives.

@@ -9,7 +9,7 @@ use clap::ArgMatches;
 use cli_io::{has_flag, value_in, values_in};
 
 /// What is asked for of a store.
-#[derive(Clone, Copy, PartialEq, Eq)]
+#[derive(Clone, Copy)]
 pub(crate) enum Kind {
     /// What pfctl's options list.
     Listing,
@@ -71,16 +71,9 @@ fn kind_behind(rest: &[&str]) -> Option<Kind>
 {
     match rest {
         [] => Some(Kind::Figures),
-        [argument] => if *argument == "log" {
-            Some(Kind::Log)
-        } else {
-            None
-        },
-        [argument, _, ..] => if *argument == "test" {
-            Some(Kind::Packets)
-        } else {
-            None
-        },
+        [argument] if *argument == "log" => Some(Kind::Log),
+        [argument, _, ..] if *argument == "test" => Some(Kind::Packets),
+        _ => None,
     }
 }
 
@@ -124,12 +117,8 @@ fn if_together(interfaces: bool, window: bool, kind: Option<Kind>) -> Option<Kin
     ensures { result ≡ if_together interfaces window kind }
 {
     match kind {
-        Some(kind) => if goes_with(interfaces, window, kind) {
-            Some(kind)
-        } else {
-            None
-        },
-        None => None,
+        Some(kind) if goes_with(interfaces, window, kind) => Some(kind),
+        _ => None,
     }
 }
 
