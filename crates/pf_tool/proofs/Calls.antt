@@ -1,9 +1,7 @@
--- The subcommand that a parse entered, and its packets.
+-- The subcommand that a parse entered.
 use Rattle.std.proofs.Common.{◌≡◌, ℕ, true, false, List, Option, Some, None, [], ◌∷◌, inl, inr, refl, subst, sym, ◌⊎◌, codes}
-use Rattle.std.specs.Prelude.{option_map}
-use Rattle.clap.specs.Words.{Row, Text, subcommand_rows_of, subcommand_rows, subcommand_name_of}
+use Rattle.clap.specs.Words.{Text, subcommand_rows_of}
 use Rattle.clap.specs.declared.parser.matches.ArgMatches.{ArgMatches}
-use Rattle.clap.specs.declared.parser.matches.ArgMatches.TheViews.{out-ArgMatches}
 use Rattle.clap.specs.Words.{App, HasMatchesOf, is_simple, subcommand_of, kind_of}
 use Rattle.clap.specs.Faults.{fault_of, is_simple_and_free}
 use Rattle.clap.specs.Kinds.{Kinds, HasKind}
@@ -17,29 +15,6 @@ use Rattle.cli_io.specs.declared.paragraph.Explanation.{Explanation}
 use Rattle.std.proofs.KnownBytes.{Appends-nil}
 use Rattle.pf_tool.specs.declared.reporting.Level.{Level}
 use Rattle.pf_tool.specs.Tool.{Ran, Reported}
-
--- a pair of two values of one thing
-abbrev paired : {T : Type 0} → (T → Text) → (T → List Row) → T → Text × List Row
-paired f g x = (f x, g x)
-
-both : (T : Type 0) (o : Option T) (f : T → Text) (g : T → List Row) (name : Text) (rows : List Row)
-    → option_map f o ≡ Some name → option_map {U = List Row} (λ (p : Text × List Row). p.1) (option_map (paired f g) o) ≡ Some rows
-    → option_map (paired f g) o ≡ Some (name, rows)
-both T None f g name rows e h = absurd cc
-both T (Some x) f g name rows e h = let a : f x ≡ name = cc in let b : g x ≡ rows = cc in rw (a, b) refl
-
-none_both : (T : Type 0) (o : Option T) (f : T → Text) (g : T → List Row) → option_map f o ≡ None → option_map (paired f g) o ≡ None
-none_both T None f g e = refl
-none_both T (Some x) f g e = absurd cc
-
--- the rows of the subcommand, which is this one
-pub rows_entered : (m : ArgMatches) (name : Text) (rows : List Row) → subcommand_name_of m ≡ Some name
-    → option_map (λ p. p.1) (subcommand_rows (out-ArgMatches m).subcommand) ≡ Some rows → subcommand_rows_of m ≡ Some (name, rows)
-rows_entered m name rows e f = both _ (out-ArgMatches m).subcommand _ _ name rows e f
-
--- no subcommand is entered
-pub none_entered : (m : ArgMatches) → subcommand_name_of m ≡ None → subcommand_rows_of m ≡ None
-none_entered m e = none_both _ (out-ArgMatches m).subcommand _ _ e
 
 -- a parse that passes gives what is called
 pub call_entered : (table : List Explanation) (arguments : List Text) (m : ArgMatches) → names_other arguments ≡ false → fault_of pfx_app arguments ≡ []

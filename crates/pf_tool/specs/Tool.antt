@@ -16,6 +16,7 @@ use Rattle.pf_show.specs.Shown.{shown}
 use Rattle.pf_config.specs.declared.fault.ConfigFault.{ConfigFault}
 use Rattle.pf_config.specs.Map.{Configuration}
 use Rattle.pf_config.specs.Changes.{load_ruleset}
+use Rattle.pf_command.specs.Effect.{empty}
 use Rattle.pf_config.specs.Codes.{fault_code}
 use Rattle.pf_eval.specs.Packets.{PacketValue}
 use Rattle.pf_eval.specs.PacketTexts.{packet_of}
@@ -93,14 +94,10 @@ abbrev pub tested_over : (source : Text) → List Text → Result Configuration 
 tested_over source packets (Err fault) = refused_load source (fault_code fault)
 tested_over source packets (Ok c) = verdict_lines c 1 packets
 
--- nothing is loaded
-abbrev pub nothing_loaded : Configuration
-nothing_loaded = record { skip = []; anchors = [] }
-
 -- the text's ruleset is loaded as the main one
 abbrev pub tested : (source : Text) → List Text → Result RulesetValue Refusal → Written
 tested source packets (Err refusal) = refused_ruleset source refusal
-tested source packets (Ok rules) = tested_over source packets (load_ruleset nothing_loaded [] rules)
+tested source packets (Ok rules) = tested_over source packets (load_ruleset empty [] rules)
 
 -- test PACKET.. over the text of this source
 unfoldable pub test_output : (source : Text) → List Text → List ℕ → Written

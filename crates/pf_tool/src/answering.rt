@@ -25,7 +25,7 @@ use std::alloc::{AllocError, AllocFailed, Global};
 use std::io::Read;
 
 /// Why there is no output.
-#[derive(Clone, Copy, PartialEq, Eq)]
+#[derive(Clone, Copy)]
 pub(crate) enum RunFault {
     /// A growth was refused.
     Memory,
@@ -75,8 +75,7 @@ fn test_input<R: Read>(
         ≡ rendered reporter.now (test_output (codes "stdin") (map (λ p. p.now) packets.now) input))) }
 {
     let input = input_of(alloc, reader)?;
-    let output = test_output(alloc, reporter, "stdin", packets, &input)?;
-    Ok(output)
+    Ok(test_output(alloc, reporter, "stdin", packets, &input)?)
 }
 
 /// `check` over the input.
@@ -90,8 +89,7 @@ fn check_input<R: Read>(
         (λ input. written o ≡ rendered reporter.now (check_output (codes "stdin") place input))) }
 {
     let input = input_of(alloc, reader)?;
-    let output = check_output(alloc, reporter, "stdin", place, &input)?;
-    Ok(output)
+    Ok(check_output(alloc, reporter, "stdin", place, &input)?)
 }
 
 /// `ctl` over the input.
@@ -104,8 +102,7 @@ fn ctl_input<R: Read>(
         (λ input. written o ≡ rendered reporter.now (scripted (printed input)))) }
 {
     let input = input_of(alloc, reader)?;
-    let output = script_output(alloc, reporter, &input)?;
-    Ok(output)
+    Ok(script_output(alloc, reporter, &input)?)
 }
 
 /// `lab` over the input.
@@ -118,8 +115,7 @@ fn lab_input<R: Read>(
         (λ input. written o ≡ rendered reporter.now (answered (lab.printed input)))) }
 {
     let input = input_of(alloc, reader)?;
-    let output = lab_output(alloc, reporter, &input)?;
-    Ok(output)
+    Ok(lab_output(alloc, reporter, &input)?)
 }
 
 /// `check` of these rulesets.

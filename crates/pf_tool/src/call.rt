@@ -2,14 +2,14 @@
 
 ghost use Rattle.std.specs.Prelude.{◌≡◌, Some, map, option_map};
 ghost use Rattle.std.specs.Option.{option_copied};
-ghost use Rattle.clap.specs.Words.{found_of, rows_of, first_of, subcommand_rows_of};
+ghost use Rattle.clap.specs.Words.{found_of, rows_of, subcommand_rows_of};
 ghost use Rattle.pf_tool.specs.Options.{place_for, is_given, check_call, test_call, packets_call, explain_as};
 ghost use Rattle.pf_tool.specs.Options.{called_by, called, is_other, names_other};
 ghost use Rattle.pf_tool.specs.Messages.{is_verbose};
 ghost use Rattle.pf_tool.specs.inner.Calls.{asked};
 
 use clap::ArgMatches;
-use cli_io::{Explanation, named, values_in};
+use cli_io::{Explanation, named, value_in, values_in};
 use pf_grammar::Place;
 use std::convert::AsStr;
 
@@ -45,10 +45,7 @@ pub(crate) enum Call<'m, 'a> {
 fn is_given(text: Option<&str>) -> bool
     ensures { result ≡ is_given (option_copied text.entry) }
 {
-    match text {
-        Some(text) => text == "true",
-        None => false,
-    }
+    matches!(text, Some("true"))
 }
 
 /// The place that the value of `--anchor` gives.
@@ -56,22 +53,9 @@ fn place_for(anchor: Option<&str>) -> Place
     ensures { result ≡ place_for (option_copied anchor.entry) }
 {
     match anchor {
-        Some(text) => {
-            if text == "true" {
-                Place::Anchor
-            } else {
-                Place::Main
-            }
-        }
-        None => Place::Main,
+        Some("true") => Place::Anchor,
+        _ => Place::Main,
     }
-}
-
-/// The value of an option.
-fn value_in<'a>(matches: &ArgMatches<'a>, id: &str) -> Option<&'a str>
-    ensures { option_copied result ≡ first_of id.now (rows_of (found_of matches.now)) }
-{
-    matches.get_str(id)
 }
 
 /// What `check` asks for.
@@ -82,17 +66,8 @@ fn check_call<'m, 'a>(inner: &'m ArgMatches<'a>) -> Call<'m, 'a>
     let quiet = is_given(value_in(inner, "quiet"));
     let files = values_in(inner, "file");
     match files {
-        [] => {
-            if quiet {
-                return Call::CheckFiles {
-                    place,
-                    quiet,
-                    files,
-                };
-            }
-            Call::Check(place)
-        }
-        [_, ..] => Call::CheckFiles {
+        [] if !quiet => Call::Check(place),
+        _ => Call::CheckFiles {
             place,
             quiet,
             files,
@@ -106,17 +81,13 @@ fn packets_call<'m, 'a>(quiet: bool, packets: &'m [&'a str]) -> Option<Call<'m, 
 {
     match packets {
         [] => None,
-        [_, ..] => {
-            if quiet {
-                return Some(Call::TestFiles {
-                    file: None,
-                    more: None,
-                    quiet,
-                    packets,
-                });
-            }
-            Some(Call::Test(packets))
-        }
+        _ if quiet => Some(Call::TestFiles {
+            file: None,
+            more: None,
+            quiet,
+            packets,
+        }),
+        _ => Some(Call::Test(packets)),
     }
 }
 
@@ -128,19 +99,15 @@ fn test_call<'m, 'a>(inner: &'m ArgMatches<'a>) -> Option<Call<'m, 'a>>
     let more = value_in(inner, "packets");
     let quiet = is_given(value_in(inner, "quiet"));
     let packets = values_in(inner, "packet");
-    let files = Call::TestFiles {
+    if file.is_none() && more.is_none() {
+        return packets_call(quiet, packets);
+    }
+    Some(Call::TestFiles {
         file,
         more,
         quiet,
         packets,
-    };
-    match file {
-        Some(_) => Some(files),
-        None => match more {
-            Some(_) => Some(files),
-            None => packets_call(quiet, packets),
-        },
-    }
+    })
 }
 
 /// What `explain` asks for, none where no refusal has the number.
@@ -149,10 +116,7 @@ fn explain_call<'m, 'a>(table: &'m [Explanation], code: Option<&str>) -> Option<
 {
     match code {
         None => Some(Call::Explain(None)),
-        Some(digits) => match named(table, digits) {
-            Some(row) => Some(Call::Explain(Some(row))),
-            None => None,
-        },
+        Some(digits) => Some(Call::Explain(Some(named(table, digits)?))),
     }
 }
 
@@ -189,10 +153,8 @@ pub(crate) fn call_in<'m, 'a>(
 ) -> Option<Call<'m, 'a>>
     ensures { option_map asked result ≡ called table.now (subcommand_rows_of matches.now) }
 {
-    match matches.subcommand() {
-        Some((subcommand, inner)) => call_by(table, subcommand, inner),
-        None => None,
-    }
+    let (subcommand, inner) = matches.subcommand()?;
+    call_by(table, subcommand, inner)
 }
 
 /// Whether `-v` was given.

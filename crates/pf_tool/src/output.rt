@@ -10,7 +10,7 @@ use cli_io::UNREADABLE;
 use std::alloc::{AllocError, Global};
 
 /// How a run ends that wrote all of its output.
-#[derive(Clone, Copy, PartialEq, Eq)]
+#[derive(Clone, Copy)]
 pub(crate) enum Ending {
     Done,
     Refused,
@@ -30,10 +30,7 @@ impl Output {
     pub(crate) fn is_refused(&self) -> bool
         ensures { result ≡ is_refused (written self.now).ending }
     {
-        match self.ending {
-            Ending::Done => false,
-            Ending::Refused => true,
-        }
+        matches!(self.ending, Ending::Refused)
     }
 }
 

@@ -15,7 +15,7 @@ use std::alloc::{AllocError, Global};
 use std::io::Write;
 
 /// Which messages are written.
-#[derive(Clone, Copy, PartialEq, Eq)]
+#[derive(Clone, Copy)]
 pub(crate) enum Level {
     /// None.
     Silent,
@@ -50,32 +50,21 @@ impl Reporter<'_> {
     pub(crate) fn has_refusals(&self) -> bool
         ensures { result ≡ has_refusals self.now.level }
     {
-        match self.level {
-            Level::Silent => false,
-            Level::Refusals => true,
-            Level::Rules => true,
-        }
+        !matches!(self.level, Level::Silent)
     }
 
     /// Whether the rules that decide are reported.
     fn has_rules(&self) -> bool
         ensures { result ≡ has_rules self.now.level }
     {
-        match self.level {
-            Level::Silent => false,
-            Level::Refusals => false,
-            Level::Rules => true,
-        }
+        matches!(self.level, Level::Rules)
     }
 
     /// The short name of a refusal.
     fn name_of(&self, code: u8) -> &str
         ensures { result.now ≡ name_of (row_of self.now.table.now code) }
     {
-        match explanation(self.table, code) {
-            Some(row) => row.name,
-            None => "refused",
-        }
+        explanation(self.table, code).map_or("refused", |row| row.name)
     }
 
     /// The line of a refusal, empty where refusals aren't reported.
@@ -126,8 +115,5 @@ impl Reporter<'_> {
 pub(crate) fn report<E: Write>(messages: &str, errors: &mut E)
     ensures { AppendsFront (E.contents errors.old) (E.contents errors.new) messages.now }
 {
-    match write_bytes(errors, messages.as_bytes()) {
-        Ok(()) => {}
-        Err(_) => {}
-    }
+    let _written = write_bytes(errors, messages.as_bytes());
 }

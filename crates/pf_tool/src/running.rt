@@ -58,10 +58,9 @@ fn answer<T: Sources, R: Read, W: Write, E: Write>(
 fn misnamed_words<W: Write>(text: &str, writer: &mut W) -> Status
     ensures { (result ≡ Status.Usage) ⊎ (result ≡ Status.Failed) }
 {
-    match writer.write_all(text.as_bytes()) {
-        Ok(()) => Status::Usage,
-        Err(_) => Status::Failed,
-    }
+    writer
+        .write_all(text.as_bytes())
+        .map_or(Status::Failed, |()| Status::Usage)
 }
 
 /// Runs what the arguments ask for, the program's name first, with the table of refusals, the input, the output and

@@ -32,10 +32,7 @@ impl Source<'_> {
     pub(crate) fn bytes(&self) -> Option<&[u8]>
         ensures { option_copied result ≡ (source_in self.now).text }
     {
-        match &self.text {
-            Some(text) => Some(text.as_slice()),
-            None => None,
-        }
+        self.text.as_deref()
     }
 }
 

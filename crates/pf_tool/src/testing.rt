@@ -3,7 +3,8 @@
 ghost use Rattle.std.specs.Prelude.{◌≡◌, [], Some, IfOk, map};
 ghost use Rattle.pf_rules.specs.Rulesets.{ruleset_of};
 ghost use Rattle.pf_config.specs.Changes.{load_ruleset};
-ghost use Rattle.pf_tool.specs.Tool.{refused_packet, verdict_lines, tested_over, nothing_loaded};
+ghost use Rattle.pf_command.specs.Effect.{empty};
+ghost use Rattle.pf_tool.specs.Tool.{refused_packet, verdict_lines, tested_over};
 ghost use Rattle.pf_tool.specs.Tool.{test_output, tested_texts, tested_sources};
 ghost use Rattle.pf_tool.specs.inner.Output.{written, rendered};
 ghost use Rattle.pf_tool.specs.inner.Sources.{source_in};
@@ -77,15 +78,15 @@ fn tested_over(
     packets: &[&str],
 ) -> Result<Output, AllocError>
     ensures { IfOk result (λ o. written o ≡ rendered reporter.now (tested_over source.now
-        (map (λ p. p.now) packets.now) (load_ruleset nothing_loaded [] (ruleset_of rules)))) }
+        (map (λ p. p.now) packets.now) (load_ruleset empty [] (ruleset_of rules)))) }
 {
     let mut config = Config::new(alloc)?;
     match config.load(&Path::main(alloc), rules) {
         Ok(()) => verdict_lines(alloc, reporter, &config, packets),
-        Err(fault) => match fault.code() {
-            Some(code) => refused(alloc, reporter, source, None, code),
-            None => Err(AllocError),
-        },
+        Err(fault) => {
+            let code = fault.code().ok_or(AllocError)?;
+            refused(alloc, reporter, source, None, code)
+        }
     }
 }
 
