@@ -2,7 +2,7 @@
 use Rattle.std.proofs.Common.{◌≡◌, ◌≢◌, ◌∙◌, ◌⊎◌, sym, ap, subst, refl, ℕ, zero, suc, ◌<◌, ◌≤◌, Bool, true, false, not, cond, nat_eq, List, [], ◌∷◌, ◌++◌, Some, slice_get, inl, inr, arith, append_assoc, eq-eqb, ne_eqb}
 use Rattle.std.specs.Prelude.{map}
 use Rattle.std.proofs.lemmas.Bool.{cond-true, cond-false}
-use Rattle.std.proofs.lemmas.Bool.Decides.{eqb_decides}
+use Rattle.std.proofs.lemmas.Bool.Decides.{eqb_tells}
 use Rattle.px_model.proofs.Basics.{among_left, among_right, among_cases}
 use Rattle.px_model.specs.Law.{Among}
 use Rattle.px_model.specs.Node as node
@@ -201,7 +201,7 @@ final_then : (g : Group) (m : ℕ) (ds : List TraceEvent) (c : Cluster) (nodes :
     FinalStates c nodes → Traced g m (c.nodes m) ds t → FinalStates (after (map (cluster_event m) ds) c) (put nodes m t)
 final_then g m ds c nodes t final_state l k =
     let d = after (map (cluster_event m) ds) c in
-    elim (eqb_decides k m) [
+    elim (eqb_tells k m) [
       | inl is ↦ ap (λ (j : ℕ). d.nodes j) is.1 ∙ final_here g m ds c t l ∙ sym (cond-true (nat_eq k m) t (nodes k) is.0)
       | inr other ↦ final_else m k ds c other.0 ∙ final_state k ∙ sym (cond-false (nat_eq k m) t (nodes k) other.0)
     ]
@@ -275,7 +275,7 @@ put_other nodes x k is = cond-false (nat_eq k x.member) (led_to (nodes x.member)
 -- where each member is led
 pub led_on : (nodes : ℕ → NodeState Bytes) (x : Stretch) (xs : List Stretch) (k : ℕ) →
     led_to (put_on nodes x k) (trace_in k xs) ≡ led_to (nodes k) (trace_in k (x ∷ xs))
-led_on nodes x xs k = elim (eqb_decides k x.member) [
+led_on nodes x xs k = elim (eqb_tells k x.member) [
   | inl is ↦ ap (λ (s : NodeState Bytes). led_to s (trace_in k xs)) (put_own nodes x k is.0 is.1)
       ∙ sym (led_then (nodes k) x.trace (trace_in k xs))
       ∙ ap (led_to (nodes k)) (sym (own_trace k x xs is.0))
@@ -297,7 +297,7 @@ leads_then g m s xs ys a b =
 
 -- after a stretch each member's trace goes on
 live_on : (g : Group) (nodes : ℕ → NodeState Bytes) (x : Stretch) (xs : List Stretch) → Live g nodes (x ∷ xs) → Live g (put_on nodes x) xs
-live_on g nodes x xs live k below = elim (eqb_decides k x.member) [
+live_on g nodes x xs live k below = elim (eqb_tells k x.member) [
   | inl is ↦ subst (λ (s : NodeState Bytes). Leads g k s (trace_in k xs)) (sym (put_own nodes x k is.0 is.1))
       (leads_back g k (nodes k) x.trace (trace_in k xs)
       (subst (λ (ds : List TraceEvent). Leads g k (nodes k) ds) (own_trace k x xs is.0) (live k below)))
@@ -308,7 +308,7 @@ live_on g nodes x xs live k below = elim (eqb_decides k x.member) [
 -- a stretch first
 pub live_first : (g : Group) (nodes : ℕ → NodeState Bytes) (x : Stretch) (xs : List Stretch) → IsStretch g (nodes x.member) x →
     Live g (put_on nodes x) xs → Live g nodes (x ∷ xs)
-live_first g nodes x xs first live k below = elim (eqb_decides k x.member) [
+live_first g nodes x xs first live k below = elim (eqb_tells k x.member) [
   | inl is ↦
       (let mine : Leads g k (nodes k) x.trace =
       subst (λ (j : ℕ). Leads g j (nodes j) x.trace) (sym is.1) first.traced in

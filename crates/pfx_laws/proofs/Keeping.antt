@@ -2,7 +2,7 @@
 use Rattle.std.proofs.Common.{◌≡◌, ◌∙◌, sym, ap, ℕ, nat_eq, List, [], ◌∷◌, Option, Some, None, inl, inr}
 use Rattle.std.specs.Prelude.{IfSome}
 use Rattle.std.proofs.lemmas.Bool.{cond-false}
-use Rattle.std.proofs.lemmas.Bool.Decides.{eqb_decides}
+use Rattle.std.proofs.lemmas.Bool.Decides.{eqb_tells}
 use Rattle.px_model.proofs.Rising.{steps_rise}
 use Rattle.px_model.specs.Node.{Record, Input, Entry, Plan, Change}
 use Rattle.px_model.specs.Node.Change.{NewRound, NewNumber, NewFloor, NewPromise, NewAccepted, NewLearned}
@@ -30,7 +30,7 @@ change_keeps d (Some (NewNumber n)) p e r h = h
 change_keeps d (Some (NewFloor b)) p e r h = h
 change_keeps d (Some (NewPromise q b)) p e r h = h
 change_keeps d (Some (NewAccepted q b f)) p e r h = h
-change_keeps d (Some (NewLearned q f)) p e r h = elim (eqb_decides p q) [
+change_keeps d (Some (NewLearned q f)) p e r h = elim (eqb_tells p q) [
   | inl is ↦ absurd (let none : None ≡ Some e = sym r ∙ ap d.learned (sym is.1) ∙ h in cc)
   | inr other ↦ cond-false (nat_eq p q) (Some f) (d.learned p) other.0 ∙ h
 ]

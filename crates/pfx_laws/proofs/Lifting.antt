@@ -1,7 +1,7 @@
 -- An order of what goes over lower layers of all members is one of what goes over the layers above.
 use Rattle.std.proofs.Common.{◌≡◌, ◌∙◌, ◌⊎◌, sym, ap, subst, refl, ℕ, zero, suc, ◌<◌, ◌≤◌, false, nat_eq, List, [], ◌∷◌, ◌++◌, map, Option, Some, None, inl, inr, arith, append_assoc}
 use Rattle.std.proofs.lemmas.Bool.{cond-true, cond-false, eq-eqb}
-use Rattle.std.proofs.lemmas.Bool.Decides.{eqb_decides}
+use Rattle.std.proofs.lemmas.Bool.Decides.{eqb_tells}
 use Rattle.std.proofs.lemmas.List.{append-nil}
 use Rattle.px_model.specs.Node.{Record}
 use Rattle.px_model.specs.Spelling.{Bytes}
@@ -20,7 +20,7 @@ tagged m (x ∷ xs) = (m, x) ∷ tagged m xs
 at_append : {X : Type 0} (m : ℕ) (xs ys : List (ℕ × X)) → events_at m (xs ++ ys) ≡ events_at m xs ++ events_at m ys
 at_append m [] ys = refl
 at_append m (x ∷ xs) ys =
-    elim (eqb_decides m x.0) [
+    elim (eqb_tells m x.0) [
       | inl is ↦ cond-true (nat_eq m x.0) _ _ is.0 ∙ ap (λ (zs : List _). x.1 ∷ zs) (at_append m xs ys)
           ∙ sym (ap (λ (zs : List _). zs ++ events_at m ys) (cond-true (nat_eq m x.0) (x.1 ∷ events_at m xs) (events_at m xs) is.0))
       | inr other ↦ cond-false (nat_eq m x.0) _ _ other.0 ∙ at_append m xs ys
@@ -57,7 +57,7 @@ each_first P n m x xs below each =
 pub each_rest : {X : Type 0} (P : ℕ → List X → Type 0) (n m : ℕ) (x : X) (xs : List (ℕ × X)) → P m (events_at m xs) →
     ((k : ℕ) → k < n → P k (events_at k ((m, x) ∷ xs))) → (k : ℕ) → k < n → P k (events_at k xs)
 each_rest P n m x xs mine each k l =
-    elim (eqb_decides k m) [
+    elim (eqb_tells k m) [
       | inl is ↦ subst (λ (j : ℕ). P j (events_at j xs)) (sym is.1) mine
       | inr other ↦ subst (λ (es : List _). P k es) (cond-false (nat_eq k m) (x ∷ events_at k xs) (events_at k xs) other.0) (each k l)
     ]
@@ -145,7 +145,7 @@ module _ {L A : Type 0} (lower : L → Option A) where
   ends_above steps zero m le = refl
   ends_above steps (suc k) m le =
       at_append m (tagged k (steps k)) (ends steps k)
-      ∙ elim (eqb_decides m k) [
+      ∙ elim (eqb_tells m k) [
         | inl is ↦ absurd (let same = is.1 in omega (arith, le, same))
         | inr other ↦ ap (λ (zs : List L). zs ++ events_at m (ends steps k)) (at_other m k (steps k) other.0)
             ∙ ends_above steps k m (omega (arith, le))
@@ -155,7 +155,7 @@ module _ {L A : Type 0} (lower : L → Option A) where
   ends_below steps zero m l = absurd (omega (arith, l))
   ends_below steps (suc k) m l =
       at_append m (tagged k (steps k)) (ends steps k)
-      ∙ elim (eqb_decides m k) [
+      ∙ elim (eqb_tells m k) [
         | inl is ↦ ap (λ (j : ℕ). events_at j (tagged k (steps k)) ++ events_at j (ends steps k)) is.1
             ∙ ap (λ (zs : List L). zs ++ events_at k (ends steps k)) (at_own k (steps k))
             ∙ ap (λ (zs : List L). steps k ++ zs) (ends_above steps k k (omega arith)) ∙ append-nil (steps k)
@@ -189,7 +189,7 @@ module _ {L A : Type 0} (lower : L → Option A) where
       let s = split (steps m) a (events_at m net) mine in
       let then = put steps m s.after in
       let r = lift n net then
-      (λ k l. elim (eqb_decides k m) [
+      (λ k l. elim (eqb_tells k m) [
         | inl is ↦ ap (λ (j : ℕ). events_at j net) is.1 ∙ sym s.rest ∙ ap lowers (sym (cond-true (nat_eq k m) s.after (steps k) is.0))
         | inr other ↦ sym (cond-false (nat_eq k m) _ _ other.0) ∙ own k l ∙ ap lowers (sym (cond-false (nat_eq k m) s.after (steps k) other.0))
       ]) within.1 in
@@ -198,7 +198,7 @@ module _ {L A : Type 0} (lower : L → Option A) where
         above = front ++ (m, s.it) ∷ r.above;
         own = λ k l.
             at_append k front ((m, s.it) ∷ r.above)
-            ∙ elim (eqb_decides k m) [
+            ∙ elim (eqb_tells k m) [
               | inl is ↦ ap (λ (zs : List L). events_at k front ++ zs) (cond-true (nat_eq k m) (s.it ∷ events_at k r.above) (events_at k r.above) is.0
                   ∙ ap (λ (zs : List L). s.it ∷ zs) (r.own k l ∙ cond-true (nat_eq k m) s.after (steps k) is.0))
                   ∙ ap (λ (j : ℕ). events_at j front ++ (s.it ∷ s.after)) is.1
@@ -260,7 +260,7 @@ module _ {K L X Y : Type 0} (low : L → Option X) (high : ℕ → L → List Y)
   upper_at k (x ∷ xs) =
       let hs = high_of x.0 x.1 in
       at_append k (tagged x.0 hs) (upper xs)
-      ∙ elim (eqb_decides k x.0) [
+      ∙ elim (eqb_tells k x.0) [
         | inl is ↦ ap (λ (j : ℕ). events_at j (tagged x.0 hs) ++ events_at k (upper xs)) is.1
             ∙ ap (λ (zs : List (RunEvent K Y)). zs ++ events_at k (upper xs)) (at_own x.0 hs)
             ∙ ap (λ (zs : List (RunEvent K Y)). hs ++ zs) (upper_at k xs)

@@ -1,7 +1,7 @@
 -- What members send to themselves they receive as it was sent.
 use Rattle.std.proofs.Common.{◌≡◌, ◌∙◌, ◌⊎◌, sym, ap, subst, refl, ℕ, ◌<◌, nat_eq, List, [], ◌∷◌, ◌++◌, Option, Some, None, inl, inr}
 use Rattle.std.proofs.lemmas.Bool.{cond-true, cond-false}
-use Rattle.std.proofs.lemmas.Bool.Decides.{eqb_decides}
+use Rattle.std.proofs.lemmas.Bool.Decides.{eqb_tells}
 use Rattle.px_model.proofs.Basics.{among_left, among_right, among_cases}
 use Rattle.px_model.specs.Law.{Among}
 use Rattle.px_model.specs.Spelling.{Bytes}
@@ -103,7 +103,7 @@ own_returned n m l xs kept below q = each_first (λ k ls. AreReturned ls (kept k
 returned_put : {K : Type 0} (n m : ℕ) (l : RunEvent K Loop) (xs : List (ℕ × RunEvent K Loop)) (kept : ℕ → List Bytes) (more : List Bytes) →
     AllReturned n ((m, l) ∷ xs) kept → AreReturned (events_at m xs) more → AllReturned n xs (put kept m more)
 returned_put {K} n m l xs kept more q mine k below =
-    elim (eqb_decides k m) [
+    elim (eqb_tells k m) [
       | inl is ↦ subst (λ (ds : List Bytes). AreReturned (events_at k xs) ds) (sym (cond-true (nat_eq k m) more (kept k) is.0))
           (subst (λ (j : ℕ). AreReturned (events_at j xs) more) (sym is.1) mine)
       | inr other ↦ subst (λ (ds : List Bytes). AreReturned (events_at k xs) ds) (sym (cond-false (nat_eq k m) more (kept k) other.0))
@@ -113,7 +113,7 @@ returned_put {K} n m l xs kept more q mine k below =
 handed_put : (n m : ℕ) (kept : ℕ → List Bytes) (more few many : List Bytes) → WereHanded n kept few → AreAmong few many →
     ((d : Bytes) → Among more d → Among many d) → WereHanded n (put kept m more) many
 handed_put n m kept more few many w a mine k d below among =
-    elim (eqb_decides k m) [
+    elim (eqb_tells k m) [
       | inl is ↦ mine d (subst (λ (ds : List Bytes). Among ds d) (cond-true (nat_eq k m) more (kept k) is.0) among)
       | inr other ↦ a d (w k d below (subst (λ (ds : List Bytes). Among ds d) (cond-false (nat_eq k m) more (kept k) other.0) among))
     ]

@@ -1,7 +1,7 @@
 -- From what goes over the members' wires, run after run, to stretches of their traces.
 use Rattle.std.proofs.Common.{◌≡◌, ◌∙◌, ◌⊎◌, sym, ap, subst, refl, true, ℕ, zero, suc, ◌<◌, ◌≤◌, Bool, nat_eq, List, [], ◌∷◌, ◌++◌, map, drop, Option, Some, None, inl, inr, arith, append_assoc}
 use Rattle.std.proofs.lemmas.Bool.{cond-true, cond-false, eq-eqb}
-use Rattle.std.proofs.lemmas.Bool.Decides.{eqb_decides}
+use Rattle.std.proofs.lemmas.Bool.Decides.{eqb_tells}
 use Rattle.std.proofs.lemmas.List.{append-nil}
 use Rattle.px_model.proofs.Basics.{among_left, among_cases}
 use Rattle.px_model.specs.Law.{Among}
@@ -249,7 +249,7 @@ finals plans (suc k) = record { member = k; trace = trace_of_acts (plans k); gav
 finals_above : {K : Type 0} (plans : ℕ → List (Act K)) (k m : ℕ) → k ≤ m → trace_in m (finals plans k) ≡ []
 finals_above plans zero m le = refl
 finals_above plans (suc k) m le =
-    elim (eqb_decides m k) [
+    elim (eqb_tells m k) [
       | inl is ↦ absurd (let same = is.1 in omega (arith, le, same))
       | inr other ↦ cond-false (nat_eq m k) _ _ other.0 ∙ finals_above plans k m (omega (arith, le))
     ]
@@ -257,7 +257,7 @@ finals_above plans (suc k) m le =
 finals_below : {K : Type 0} (plans : ℕ → List (Act K)) (k m : ℕ) → m < k → trace_in m (finals plans k) ≡ trace_of_acts (plans m)
 finals_below plans zero m l = absurd (omega (arith, l))
 finals_below plans (suc k) m l =
-    elim (eqb_decides m k) [
+    elim (eqb_tells m k) [
       | inl is ↦ cond-true (nat_eq m k) _ _ is.0
           ∙ ap (λ (ds : List TraceEvent). trace_of_acts (plans k) ++ ds) (finals_above plans k m (let same = is.1 in omega (arith, same)))
           ∙ append-nil (trace_of_acts (plans k))
@@ -328,7 +328,7 @@ carried_by : (g : Group) (m : ℕ) (bytes : Bytes) (handed : List Bytes) (sent :
 carried_by g m bytes handed sent spelled were (inr outside) = inr outside
 carried_by g m bytes handed sent spelled were (inl among) =
     let r = were bytes among in
-    elim (eqb_decides r.0 m) [
+    elim (eqb_tells r.0 m) [
       | inl is ↦ inl (subst (λ (to : ℕ). Among sent (to, bytes)) is.1 r.1)
       | inr other ↦ inr (λ from message d.
           let s = spelled (r.0, bytes) r.1 in
@@ -376,7 +376,7 @@ whole {K} g ((m, e) ∷ xs) handed sent came plans sound rests has a spelled c =
       | inr now ↦ carried_by g m b handed sent spelled a (f.1 b now)
     ] in
     let r = whole g xs (handed ++ more) later gone then
-    (λ k below. elim (eqb_decides k m) [
+    (λ k below. elim (eqb_tells k m) [
       | inl is ↦ subst (λ (q : List (Act K)). AreSound g k q (gone k) later) (sym (cond-true (nat_eq k m) s.then (plans k) is.0))
           (subst (λ (bs : List Bytes). AreSound g k s.then bs later) (sym (cond-true (nat_eq k m) here (came k) is.0))
           (subst (λ (j : ℕ). AreSound g j s.then here later) (sym is.1) s.sound))
@@ -384,11 +384,11 @@ whole {K} g ((m, e) ∷ xs) handed sent came plans sound rests has a spelled c =
           (subst (λ (bs : List Bytes). AreSound g k (plans k) bs later) (sym (cond-false (nat_eq k m) here (came k) other.0))
           (sound_more g k (plans k) (came k) (came k) sent later (among_all (came k)) on (sound k below)))
     ])
-    (λ k below. elim (eqb_decides k m) [
+    (λ k below. elim (eqb_tells k m) [
       | inl is ↦ ap happen (cond-true (nat_eq k m) s.then (plans k) is.0) ∙ s.rest_is ∙ ap (λ (j : ℕ). events_at j xs) (sym is.1)
       | inr other ↦ ap happen (cond-false (nat_eq k m) s.then (plans k) other.0) ∙ rests k below ∙ cond-false (nat_eq k m) _ _ other.0
     ])
-    (λ k b below n. carried_later g k b sent later on (elim (eqb_decides k m) [
+    (λ k b below n. carried_later g k b sent later on (elim (eqb_tells k m) [
       | inl is ↦ subst (λ (j : ℕ). IsCarried g sent j b) (sym is.1)
           (carried b (subst (λ (bs : List Bytes). Among bs b) (cond-true (nat_eq k m) here (came k) is.0) n))
       | inr other ↦ has k b below (subst (λ (bs : List Bytes). Among bs b) (cond-false (nat_eq k m) here (came k) other.0) n)
@@ -402,7 +402,7 @@ whole {K} g ((m, e) ∷ xs) handed sent came plans sound rests has a spelled c =
       stretches = record { member = m; trace = s.trace; gave = here } ∷ r.stretches;
       are = (f.0, s.brought, r.are);
       carried = (carried, r.carried);
-      trace = λ k below. elim (eqb_decides k m) [
+      trace = λ k below. elim (eqb_tells k m) [
         | inl is ↦ cond-true (nat_eq k m) _ _ is.0
             ∙ ap (λ (ds : List TraceEvent). s.trace ++ ds) (r.trace k below ∙ ap (λ (q : List (Act K)). trace_of_acts q) (cond-true (nat_eq k m) s.then (plans k) is.0))
             ∙ sym s.all ∙ ap (λ (j : ℕ). trace_of_acts (plans j)) (sym is.1)

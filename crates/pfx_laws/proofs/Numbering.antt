@@ -1,7 +1,7 @@
 -- Runs of members by numbers, in the order in which they start.
 use Rattle.std.proofs.Common.{◌≡◌, ◌∙◌, sym, ap, subst, refl, ℕ, zero, suc, ◌<◌, nat_eq, List, [], ◌∷◌, ◌++◌, map, length, inl, inr, arith}
 use Rattle.std.proofs.lemmas.Bool.{cond-true, cond-false, eq-eqb}
-use Rattle.std.proofs.lemmas.Bool.Decides.{eqb_decides}
+use Rattle.std.proofs.lemmas.Bool.Decides.{eqb_tells}
 use Rattle.px_packet.specs.Headers.{start_bytes}
 use Rattle.px_model.specs.Law.{Among, NoneTwice}
 use Rattle.px_model.specs.Node.{Record}
@@ -29,13 +29,13 @@ begun ((m, During x) ∷ xs) = begun xs
 
 pub begun_at : {X : Type 0} (m : ℕ) (xs : List (ℕ × RunEvent Keyed X)) → events_at m (begun xs) ≡ starts_in (events_at m xs)
 begun_at m [] = refl
-begun_at m ((k, Starts key) ∷ xs) = elim (eqb_decides m k) [
+begun_at m ((k, Starts key) ∷ xs) = elim (eqb_tells m k) [
   | inl is ↦ cond-true (nat_eq m k) _ _ is.0 ∙ ap (λ (ks : List Keyed). key ∷ ks) (begun_at m xs)
       ∙ ap (λ (es : List (RunEvent Keyed _)). starts_in es) (sym (cond-true (nat_eq m k) (Starts key ∷ events_at m xs) (events_at m xs) is.0))
   | inr other ↦ cond-false (nat_eq m k) _ _ other.0 ∙ begun_at m xs
       ∙ ap (λ (es : List (RunEvent Keyed _)). starts_in es) (sym (cond-false (nat_eq m k) (Starts key ∷ events_at m xs) (events_at m xs) other.0))
 ]
-begun_at m ((k, During x) ∷ xs) = elim (eqb_decides m k) [
+begun_at m ((k, During x) ∷ xs) = elim (eqb_tells m k) [
   | inl is ↦ begun_at m xs
       ∙ ap (λ (es : List (RunEvent Keyed _)). starts_in es) (sym (cond-true (nat_eq m k) (During x ∷ events_at m xs) (events_at m xs) is.0))
   | inr other ↦ begun_at m xs
@@ -113,7 +113,7 @@ among_starts (b ∷ bs) (suc i) l =
     let m = (run_at bs i).0 in
     let t = start_of (run_at bs i).1 in
     let there = among_starts bs i (omega (arith, l)) in
-    elim (eqb_decides m b.0) [
+    elim (eqb_tells m b.0) [
       | inl is ↦ subst (λ (ks : List Keyed). Among (map start_of ks) t) (sym (cond-true (nat_eq m b.0) (b.1 ∷ events_at m bs) (events_at m bs) is.0)) (inr there)
       | inr other ↦ subst (λ (ks : List Keyed). Among (map start_of ks) t) (sym (cond-false (nat_eq m b.0) (b.1 ∷ events_at m bs) (events_at m bs) other.0)) there
     ]

@@ -3,7 +3,7 @@ use Rattle.std.proofs.Common.{◌≡◌, ◌∙◌, ◌⊎◌, sym, ap, subst, r
 use Rattle.std.specs.Prelude.{if◌then◌else◌}
 use Rattle.std.specs.List.{Contains}
 use Rattle.std.proofs.lemmas.Bool.{cond-true, cond-false, eq-eqb}
-use Rattle.std.proofs.lemmas.Bool.Decides.{eqb_decides}
+use Rattle.std.proofs.lemmas.Bool.Decides.{eqb_tells}
 use Rattle.px_packet.specs.declared.fault.PacketFault.TheVariants as faults
 use Rattle.px_packet.specs.Headers.{header_fault, start_bytes}
 use Rattle.px_packet.specs.Packets.{front_of, is_authentic}
@@ -261,7 +261,7 @@ by_runs bs n ((m, Starts key) ∷ xs) run now k before handed nums from below go
     let own = each_first (λ j es. StepsGo j es (run j) (before (now j))) n m (Starts key) xs below.0 go in
     let new = next bs k (m, key) (begun xs) from in
     by_runs bs n xs (put run m (Some key)) (put now m k) (suc k) before handed
-    (λ j s e. elim (eqb_decides j m) [
+    (λ j s e. elim (eqb_tells j m) [
       | inl is ↦
           (let number : put now m k j ≡ k = cond-true (nat_eq j m) k (now j) is.0 in
           let one : key ≡ s = some_same key s (sym (cond-true (nat_eq j m) (Some key) (run j) is.0) ∙ e) in (
@@ -277,7 +277,7 @@ by_runs bs n ((m, Starts key) ∷ xs) run now k before handed nums from below go
             ap (λ (i : ℕ). run_at bs i) number ∙ old.2,
           ))
     ]) new.later below.1
-    (λ j l. elim (eqb_decides j m) [
+    (λ j l. elim (eqb_tells j m) [
       | inl is ↦ same_state j (events_at j xs) (Some key) (put run m (Some key) j) [] (before (put now m k j))
           (sym (cond-true (nat_eq j m) (Some key) (run j) is.0))
           (sym (fresh k (omega arith)) ∙ ap before (sym (cond-true (nat_eq j m) k (now j) is.0)))
@@ -296,7 +296,7 @@ by_runs bs n ((m, During x) ∷ xs) run now k before handed nums from below go f
 
     -- another run
     other_run : (j : ℕ) (s t : Keyed) → run m ≡ Some s → run j ≡ Some t → (j ≡ m → ⊥) → with_step before (now m) x (now j) ≡ before (now j)
-    other_run j s t e f differ = elim (eqb_decides (now j) (now m)) [
+    other_run j s t e f differ = elim (eqb_tells (now j) (now m)) [
       | inl is ↦ absurd (differ (ap (λ (b : ℕ × Keyed). b.0)
           (sym (nums j t f).2 ∙ ap (λ (i : ℕ). run_at bs i) is.1 ∙ (nums m s e).2)))
       | inr other ↦ cond-false (nat_eq (now j) (now m)) (x ∷ before (now j)) (before (now j)) other.0
@@ -321,7 +321,7 @@ by_runs bs n ((m, During x) ∷ xs) run now k before handed nums from below go f
         let is : IsStep (run_at bs (now m)).1.keys (run_at bs (now m)).1.sealer (before (now m)) x =
         subst (λ (b : ℕ × Keyed). IsStep b.1.keys b.1.sealer (before (now m)) x) (sym num.2) own.0 in
         let later = rest
-        (λ j l. elim (eqb_decides j m) [
+        (λ j l. elim (eqb_tells j m) [
           | inl is ↦ same_state j (events_at j xs) (Some s) (run j) (x ∷ before (now m)) (with_step before (now m) x (now j))
               (sym e ∙ ap run (sym is.1))
               (sym (cond-true (nat_eq (now m) (now m)) (x ∷ before (now m)) (before (now m)) (eq-eqb (now m) (now m) refl))
@@ -331,7 +331,7 @@ by_runs bs n ((m, During x) ∷ xs) run now k before handed nums from below go f
               (subst (λ (es : List (RunEvent Keyed Step)). StepsGo j es (run j) (before (now j)))
               (cond-false (nat_eq j m) (During x ∷ events_at j xs) (events_at j xs) other.0) (go j l))
         ])
-        (λ r le. elim (eqb_decides r (now m)) [
+        (λ r le. elim (eqb_tells r (now m)) [
           | inl is ↦ absurd (let same = is.1 in let l = num.0 in omega (arith, same, l, le))
           | inr other ↦ cond-false (nat_eq r (now m)) (x ∷ before r) (before r) other.0 ∙ fresh r le
         ]) in (

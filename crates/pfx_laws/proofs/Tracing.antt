@@ -1,7 +1,7 @@
 -- Members' traces make a history.
 use Rattle.std.proofs.Common.{sym, subst, refl, ℕ, ◌<◌, nat_eq, List, [], ◌∷◌, inl, inr}
 use Rattle.std.proofs.lemmas.Bool.{cond-true, cond-false, eq-eqb}
-use Rattle.std.proofs.lemmas.Bool.Decides.{eqb_decides}
+use Rattle.std.proofs.lemmas.Bool.Decides.{eqb_tells}
 use Rattle.px_model.specs.Step.{put}
 use Rattle.px_model.specs.World.{NodeState, started}
 use Rattle.px_model.specs.Spelling.{Bytes}
@@ -34,7 +34,7 @@ on g nodes h hs s t live mine m below =
     let k = member_of h in
     let yes = trace_event h ∷ trace_of m hs in
     let none = trace_of m hs in
-    elim (eqb_decides m k) [
+    elim (eqb_tells m k) [
       | inl is ↦ (
         t,
         subst (λ (z : NodeState Bytes). Traced g m z none t) (sym (cond-true (nat_eq m k) s (nodes m) is.0))
