@@ -1,6 +1,6 @@
 //! The files of a node beside its store: the secret of its key, and its starts.
 
-ghost use Rattle.std.specs.Prelude.{◌<◌, ⊤, ℕ, Bool, List, IfOk, map};
+ghost use Rattle.std.specs.Prelude.{◌<◌, ℕ, Bool, List, IfOk, map};
 ghost use Rattle.px_packet.specs.declared.start.Start as declared;
 ghost use Rattle.cli_files.specs.Clusters.{IsClusterKey, IsKeyOfFile};
 
@@ -48,8 +48,9 @@ impl<R: Files + Clock + RandomSource> NodeFiles for R {
     ghost makes = { λ _ cluster members _ key. ((text : List ℕ) × IsClusterKey text cluster members key)
         × IsKeyOfFile R.File.remaining cluster members key };
 
-    // no contract states what the system's clock and random source give
-    ghost raises = { λ _ _ _ _ _ _. ⊤ };
+    // a start that was never used has a number above 0; no contract states what the system's files, clock and random
+    // source give
+    ghost raises = { λ _ _ _ _ _ start. 0 < start.number };
 
     fn cluster_key(
         &self,

@@ -1,7 +1,7 @@
 -- Which stores are refused, and with what: first the format is asked for, then rows that no node writes, then the
 -- owner.
 use Rattle.std.specs.Prelude.{◌≡◌, ℕ, ◌^◌, Bool, true, false, ◌&&◌, ◌||◌, List, [], ◌∷◌, Option, Some}
-use Rattle.std.specs.Prelude.{None}
+use Rattle.std.specs.Prelude.{None, Result, Ok, Err}
 use Rattle.std.specs.Prelude.{nat_eq, nat_le, nat_lt, not, if◌then◌else◌}
 use Rattle.sqlite_value.specs.Order.{Row, column}
 use Rattle.sqlite.specs.Tree.{Trees}
@@ -48,6 +48,11 @@ is_owner i cluster members node =
 abbrev pub has_owner : Identity → Row → Bool
 has_owner i r = is_owner i (number_in (column r 2)) (number_in (column r 3)) (number_in (column r 4))
 
+-- the member that a row names
+abbrev pub identity_in : Row → Identity
+identity_in r =
+    record { cluster = number_in (column r 2); members = number_in (column r 3); node = number_in (column r 4) }
+
 -- ---- the floor: id, ballot
 
 -- no row, or one with the ballot of a member
@@ -81,6 +86,22 @@ refusal f i db = refusal_of (number_of f) i (seen meta_columns (db 0) 1) (seen f
 -- what it is answered about them where the store isn't new: without the row for the whole node it has lost its promises
 abbrev pub reopen_refusal : Format → Identity → Trees → Option AdoptFault
 reopen_refusal f i db = if has_rows (seen meta_columns (db 0) 1) then refusal f i db else Some BadStore
+
+-- ---- the owner
+
+-- by the rows for the whole node: 73 for one of another format, 72 where there isn't one alone that a node writes
+-- Example: 1 3 7 3 1 0 0 is node 1 of the 3 members of cluster 7 in format 3; of 1 3 7 3 3 0 0 comes 72, and in format
+-- 2 of both 73.
+abbrev pub owner_of : (format : ℕ) → (meta : List Row) → Result Identity AdoptFault
+owner_of format [] = Err BadStore
+owner_of format (r ∷ []) =
+    if not (has_format format r) then Err StoreVersion
+    else (if names_member r && has_numbers r then Ok (identity_in r) else Err BadStore)
+owner_of format (r ∷ x ∷ more) = Err BadStore
+
+-- whose a store with the tables of a format is, by its rows
+abbrev pub owner_in : Format → Trees → Result Identity AdoptFault
+owner_in f db = owner_of (number_of f) (seen meta_columns (db 0) 1)
 
 -- the rows of a store of format 3 that is this node's
 pub record IsOwn (i : Identity) (db : Trees) : Type 0 where

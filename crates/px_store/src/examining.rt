@@ -1,16 +1,15 @@
 //! What a node would be refused for of a store, which is looked at and not changed.
-ghost use Rattle.std.specs.Prelude.{◌≡◌, false, OnOk, Err, IfErr, Some, None};
+ghost use Rattle.std.specs.Prelude.{◌≡◌, false, true, OnOk, IfOk, Ok, Err, IfErr, Some, None};
 ghost use Rattle.sqlite.specs.Held.{state};
 ghost use Rattle.sqlite.specs.State.{HasCleanDisk};
 ghost use Rattle.px_store.specs.Formats.{schema_at};
 ghost use Rattle.px_store.specs.Adopting.{Began, IsVerdict, IsSame, LeavesOld};
-ghost use Rattle.px_store.specs.Judging.{refusal, reopen_refusal};
+ghost use Rattle.px_store.specs.Judging.{refusal, reopen_refusal, owner_in, is_member_of};
 
 use crate::calls::{Identity, Question};
 use crate::fault::AdoptFault;
-use crate::finding::{found_in_row, judge, look, read_store, refuse_lost, rows_in};
+use crate::finding::{judge, look, owner_in_rows, read_store, refuse_lost, rows_in};
 use crate::formats::Format;
-use crate::reading::ReadFault;
 use crate::tables::format_in;
 use sqlite::{Alter, Connection};
 
@@ -68,9 +67,18 @@ pub fn examine<S: Alter>(conn: &mut Connection<S>, identity: Identity) -> Result
     }
 }
 
-/// Whose a store is, by its row for the whole node: 73 without the tables of a format, 72 without one such row.
-/// Nothing is changed.
+/// Whose a store is, by its row for the whole node: 73 without the tables of a format or where the row has another one,
+/// else 72 without one such row alone. Nothing is changed.
 pub fn owner_in<S: Alter>(conn: &mut Connection<S>) -> Result<Identity, AdoptFault>
+    ensures known { OnOk result ((f : Format) × Began f (state S.Store conn.old)) }
+    ensures unknown { (state S.Store conn.old).in_transaction ≡ false →
+        ((f : Format) → (state S.Store conn.old).now.schema ≡ schema_at f → ⊥) →
+        (result ≡ Err AdoptFault.StoreVersion) × (conn.new ≡ conn.old) }
+    ensures owner { HasCleanDisk (state S.Store conn.new) → (f : Format) → Began f (state S.Store conn.old) →
+        IfOk result (λ owner. owner_in f (state S.Store conn.old).now.trees ≡ Ok owner) }
+    ensures refused { HasCleanDisk (state S.Store conn.new) → (f : Format) → Began f (state S.Store conn.old) →
+        IfErr result (λ e. IsVerdict e → owner_in f (state S.Store conn.old).now.trees ≡ Err e) }
+    ensures within { IfOk result (λ owner. is_member_of owner.cluster owner.members owner.node ≡ true) }
     ensures stays { HasCleanDisk (state S.Store conn.new) →
         OnOk result (IsSame (state S.Store conn.old) (state S.Store conn.new)) }
     ensures as_it_was { HasCleanDisk (state S.Store conn.new) →
@@ -90,16 +98,5 @@ pub fn owner_in<S: Alter>(conn: &mut Connection<S>) -> Result<Identity, AdoptFau
         Ok(rows) => rows,
         Err(fault) => return Err(fault),
     };
-    let [row] = rows_in(&rows) else {
-        return Err(AdoptFault::BadStore);
-    };
-    match found_in_row(row) {
-        Ok(found) => Ok(Identity {
-            cluster: found.cluster as u32,
-            members: found.members,
-            node: found.node as u8,
-        }),
-        Err(ReadFault::Memory) => Err(AdoptFault::Memory),
-        Err(ReadFault::Bad) => Err(AdoptFault::BadStore),
-    }
+    owner_in_rows(rows_in(&rows), format.number())
 }

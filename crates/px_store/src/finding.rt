@@ -12,7 +12,7 @@ ghost use Rattle.px_store.specs.Adopting.{Began, IsSame, IsVerdict};
 ghost use Rattle.px_store.specs.Judging.{has_rows, has_format, names_member, has_numbers, is_member_of};
 ghost use Rattle.px_store.specs.inner.Adopting.{IsRefused};
 ghost use Rattle.px_store.specs.inner.Judging.{rows_in};
-ghost use Rattle.px_store.specs.Judging.{is_owner, row_refusal, refusal_of};
+ghost use Rattle.px_store.specs.Judging.{is_owner, owner_of, row_refusal, refusal_of};
 ghost use Rattle.px_store.specs.inner.Questions.{Answers, table_of};
 ghost use Rattle.px_store.specs.declared.reading.TheConstants.{NUMBERS};
 
@@ -27,9 +27,7 @@ use sqlite::{Alter, Connection, Row};
 #[derive(Clone, Copy, PartialEq, Eq)]
 pub(crate) struct Found {
     pub(crate) has_row: bool,
-    pub(crate) cluster: u64,
-    pub(crate) members: u8,
-    pub(crate) node: u64,
+    pub(crate) owner: Identity,
     pub(crate) round: u64,
     pub(crate) number: u64,
 }
@@ -121,9 +119,10 @@ fn is_member_of(cluster: u64, members: u64, node: u64) -> bool
 pub(crate) fn found_in_row(row: &Row) -> Result<Found, ReadFault>
     ensures good { OnOk result ((names_member row.now && has_numbers row.now) ≡ true) }
     ensures bad { result ≡ Err ReadFault.Bad → (names_member row.now && has_numbers row.now) ≡ false }
-    ensures member { IfOk result (λ f. number_in (column row.now 3) ≡ f.members) }
-    ensures cluster { IfOk result (λ f. number_in (column row.now 2) ≡ f.cluster) }
-    ensures node { IfOk result (λ f. number_in (column row.now 4) ≡ f.node) }
+    ensures within { IfOk result (λ f. is_member_of f.owner.cluster f.owner.members f.owner.node ≡ true) }
+    ensures member { IfOk result (λ f. number_in (column row.now 3) ≡ f.owner.members) }
+    ensures cluster { IfOk result (λ f. number_in (column row.now 2) ≡ f.owner.cluster) }
+    ensures node { IfOk result (λ f. number_in (column row.now 4) ≡ f.owner.node) }
     ensures round { IfOk result (λ f. number_at 5 (row.now ∷ []) ≡ f.round) }
     ensures number { IfOk result (λ f. number_at 6 (row.now ∷ []) ≡ f.number) }
     ensures low { IfOk result (λ f. f.round < NUMBERS) }
@@ -142,9 +141,11 @@ pub(crate) fn found_in_row(row: &Row) -> Result<Found, ReadFault>
     }
     Ok(Found {
         has_row: true,
-        cluster,
-        members: members as u8,
-        node,
+        owner: Identity {
+            cluster: cluster as u32,
+            members: members as u8,
+            node: node as u8,
+        },
         round,
         number: counted,
     })
@@ -232,13 +233,13 @@ pub(crate) fn read_store<S: Alter>(
     })
 }
 
-/// Whether the row is this owner's.
-fn is_owner(found: &Found, identity: Identity) -> bool
-    ensures { result ≡ is_owner identity found.now.cluster found.now.members found.now.node }
+/// Whether a row with this owner is the node's that opens.
+fn is_owner(owner: Identity, identity: Identity) -> bool
+    ensures { result ≡ is_owner identity owner.cluster owner.members owner.node }
 {
-    found.cluster == u64::from(identity.cluster)
-        && found.members == identity.members
-        && found.node == u64::from(identity.node)
+    owner.cluster == identity.cluster
+        && owner.members == identity.members
+        && owner.node == identity.node
 }
 
 /// Judges a store that has a row for the whole node: 73, 72, 71, in this order.
@@ -258,12 +259,12 @@ fn judge_row(row: &Row, floor: &[Row], format: u64, identity: Identity) -> Resul
         Err(ReadFault::Memory) => return Err(AdoptFault::Memory),
         Err(ReadFault::Bad) => return Err(AdoptFault::BadStore),
     };
-    match floor_in_rows(floor, found.members) {
+    match floor_in_rows(floor, found.owner.members) {
         Ok(_) => {}
         Err(ReadFault::Memory) => return Err(AdoptFault::Memory),
         Err(ReadFault::Bad) => return Err(AdoptFault::BadStore),
     }
-    if !is_owner(&found, identity) {
+    if !is_owner(found.owner, identity) {
         return Err(AdoptFault::WrongNode);
     }
     Ok(found)
@@ -293,15 +294,32 @@ fn judge_rows(
             }
             Ok(Found {
                 has_row: false,
-                cluster: 0,
-                members: 0,
-                node: 0,
+                owner: identity,
                 round: 0,
                 number: 0,
             })
         }
         [row] => judge_row(row, floor, format, identity),
         _ => Err(AdoptFault::BadStore),
+    }
+}
+
+/// Whose a store is, by its rows for the whole node: 73, 72, in this order.
+pub(crate) fn owner_in_rows(rows: &[Row], format: u64) -> Result<Identity, AdoptFault>
+    ensures owner { IfOk result (λ owner. owner_of format rows.now ≡ Ok owner) }
+    ensures refused { IfErr result (λ e. IsVerdict e → owner_of format rows.now ≡ Err e) }
+    ensures within { IfOk result (λ owner. is_member_of owner.cluster owner.members owner.node ≡ true) }
+{
+    let [row] = rows else {
+        return Err(AdoptFault::BadStore);
+    };
+    if !has_format(row, format)? {
+        return Err(AdoptFault::StoreVersion);
+    }
+    match found_in_row(row) {
+        Ok(found) => Ok(found.owner),
+        Err(ReadFault::Memory) => Err(AdoptFault::Memory),
+        Err(ReadFault::Bad) => Err(AdoptFault::BadStore),
     }
 }
 

@@ -8,8 +8,8 @@
 //! - [`SqlRecords`] keeps [`Records`](px_records::Records) (`sql`): reads by a position (`looking`), writes of one row
 //!   each (`writing`), over one call that puts a row and one that asks for rows (`calls`). The decoding of rows is in
 //!   `reading`; `ahead` has rows of learned entries for a reader that asks them in turn.
-//! - [`examine`] and [`owner_in`] look at a store without changing it. `formats` has the formats of a store, `tables`
-//!   the schemas by which they are recognized.
+//! - [`examine`] and [`owner_in`] look at a store without changing it. [`Format`] is the format of a store, and
+//!   [`format_in`] recognizes its schema (`tables`).
 //! - Of px_records: [`Records`], what a node requires of its record's keeper, [`MemoryRecords`] and [`FaultyRecords`].
 //! - `specs/Tables.antt` has the tables, `inner/Tables.antt` the statements, `Seen.antt` the record that rows show,
 //!   `Formats.antt` that of an older format.
@@ -93,3 +93,4 @@ pub use fault::AdoptFault;
 pub use formats::Format;
 pub use keeper::SqlRecords;
 pub use px_records::{FaultyRecords, MemoryRecords, Records, StoreFault, When};
+pub use tables::format_in;

@@ -288,7 +288,7 @@ pub(crate) fn has_none(schema: &Schema) -> bool
 }
 
 /// The format of which a schema has the tables, and nothing else.
-pub(crate) fn format_in(schema: &Schema) -> Option<Format>
+pub fn format_in(schema: &Schema) -> Option<Format>
     ensures is { IfSome result (λ f. schema.now ≡ schema_at f) }
     ensures all { (f : Format) → schema.now ≡ schema_at f → result ≡ Some f }
 {

@@ -1,0 +1,14 @@
+use Rattle.std.proofs.Common.{rules, ◌≡◌}
+use Rattle.sqlite.specs.Held.{state}
+use Rattle.px_store.specs.Formats.{schema_at}
+use Rattle.px_store.proofs.examining.owner_in.Goals as goal
+
+pub returns-in-Err-clause-unknown : goal.returns-in-Err-clause-unknown
+returns-in-Err-clause-unknown g c = λ auto unknown.
+    let is : (state g.S.Store c.args.conn.now).now.schema ≡ schema_at c.in-Some.format = search rules in
+    absurd (unknown c.in-Some.format is)
+
+pub returns-clause-unknown : goal.returns-clause-unknown
+returns-clause-unknown g c = λ auto unknown.
+    let is : (state g.S.Store c.args.conn.now).now.schema ≡ schema_at c.in-Some.format = search rules in
+    absurd (unknown c.in-Some.format is)
