@@ -85,7 +85,7 @@ pub(crate) fn try_sockets(
     tried
 }
 
-/// Logs of a socket what a start would refuse, which isn't refused with `--check`.
+/// Logs why a start would be refused for a socket; `--check` doesn't refuse it.
 fn log_unsure<E: Display>(rt: &HostRuntime, what: &str, name: &str, why: &E) {
     let name = Shown(name);
     let _logged = eprintln!(rt; "pfx: info: {what} {name}: {why}; a start would be refused");

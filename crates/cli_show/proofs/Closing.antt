@@ -1,79 +1,79 @@
 -- Which store is refused.
-use Rattle.std.proofs.Common.{◌≡◌, ℕ, List, [], Some, Result, Ok, Err, refl, sym, ap, ◌∙◌, subst, inl, inr}
-use Rattle.std.specs.Prelude.{◌⊎◌, IfOk, IfErr}
-use Rattle.sqlite.specs.declared.error.Error.{Error}
-use Rattle.sqlite.specs.Held.{Held, state}
-use Rattle.sqlite.specs.State.{State, Shown as Answers, FailsToQuery}
-use Rattle.sqlite_trees.specs.declared.store.Store as store
-use Rattle.sqlite_value.specs.Order.{Row}
+use Rattle.std.proofs.Common.{◌≡◌, ℕ, List, [], ◌∷◌, cond, Bool, true, false, not, ◌&&◌, ◌||◌, ◌==◌, Option, None, Some, Result, Ok, Err, refl, sym, ap, ◌∙◌, subst, inl, inr}
+use Rattle.std.specs.Prelude.{IfErr}
+use Rattle.std.proofs.lemmas.Bool.{eq-eqb}
+use Rattle.sqlite.specs.Effect.{Database}
+use Rattle.sqlite.specs.State.{State}
+use Rattle.sqlite.specs.Tree.{Trees}
+use Rattle.sqlite_value.specs.Order.{Row, column}
 use Rattle.px_records.specs.declared.records.Records.{Ghosts}
 use Rattle.px_replica.specs.declared.fault.NodeFault.{NodeFault}
-use Rattle.px_wire.specs.declared.membership.Membership.{Membership}
 use Rattle.px_store.specs.Adopting.{Began, IsSame, IsVerdict}
-use Rattle.px_store.specs.Formats.{record_at}
+use Rattle.px_store.specs.Formats.{record_at, trees_at}
+use Rattle.px_store.specs.Judging.{identity_in, is_owner, has_format, names_member, has_numbers, has_owner, are_floor_rows, has_rows, owner_of, owner_in, row_refusal, refusal_of, reopen_refusal}
+use Rattle.px_store.specs.Seen.{seen, meta_columns, floor_columns, record_in, number_in}
 use Rattle.px_store.specs.declared.calls.Identity.{Identity}
-use Rattle.px_store.specs.declared.fault.AdoptFault.TheVariants.{WrongNode}
+use Rattle.px_store.specs.declared.fault.AdoptFault.{AdoptFault}
+use Rattle.px_store.specs.declared.fault.AdoptFault.TheVariants.{StoreVersion, BadStore, WrongNode}
 use Rattle.px_store.specs.declared.formats.Format.TheVariants.{Three}
-use Rattle.cli_show.specs.Owners.{identity_of, owner_of, IsOwner, get_owner, AnswersOwner, code_for, IsUnanswered, IsUnowned}
 use Rattle.cli_show.specs.Showing.{IsRefused}
-use Rattle.cli_show.specs.Stores.{closed_for, IsRefusedTo, IsClosed}
+use Rattle.cli_show.specs.Stores.{closed_for, IsOwned, IsRefusedTo, IsClosed}
 use Rattle.cli_show.specs.declared.shown.Shown.{Shown}
 use Rattle.cli_show.specs.declared.store.Closed.{Closed}
-use Rattle.cli_show.specs.declared.store.Closed.TheVariants as closed
-use Rattle.cli_show.proofs.Naming.{not_another}
 use Rattle.cli_show.proofs.Reading.{begins_again}
 
-pub same_fault : {V A B : Type 0} (r : Result V (A × B)) (a b : A) (x y : B) → r ≡ Err (b, y) → r ≡ Err (a, x) → a ≡ b
-same_fault {V} {A} {B} r a b x y f e = subst (λ (q : Result V (A × B)). IfErr q (λ p. a ≡ p.0)) (sym e ∙ f) refl
+-- ---- a store isn't refused to its owner as another node's
 
--- the database doesn't answer
-same_code : (a b : ℕ) → closed.Refused a ≡ closed.Refused b → a ≡ b
-same_code a b e = cc
+same_number : (n : ℕ) → (n == n) ≡ true
+same_number n = eq-eqb n n refl
 
-pub unanswered : (given came : State) (c : Closed) (e : Error) → (c ≡ closed.Memory) ⊎ (c ≡ closed.Refused (code_for e)) → FailsToQuery get_owner [] given came e →
-    IsUnanswered given came c
-unanswered given came closed.Memory e h fails = tt
-unanswered given came (closed.Refused code) e (inl h) fails = absurd (let same = h in cc)
-unanswered given came (closed.Refused code) e (inr h) fails = (e, (fails, same_code code (code_for e) h))
+owned : (c m n : ℕ) → is_owner (record { cluster = c; members = m; node = n }) c m n ≡ true
+owned c m n = rw (same_number c, same_number m, same_number n) refl
 
-pub unowned : (given came : State) (c : Closed) → IsUnanswered given came c → IsUnowned given came c
-unowned given came closed.Memory h = tt
-unowned given came (closed.Refused code) h = inr (inl h)
+named : (a b : Bool) (i owner : Identity) → cond {A = Result Identity AdoptFault} (not a) (Err StoreVersion) (cond b (Ok i) (Err BadStore)) ≡ Ok owner → owner ≡ i
+named false b i owner e = absurd cc
+named true false i owner e = absurd cc
+named true true i owner e = cc
 
--- the rows name the owner
-pub names_owner : (given came : State) (rows : List Row) (r : Result Membership Closed) → Answers get_owner [] given came rows → IsOwner r (owner_of rows) →
-    IfOk r (λ m. AnswersOwner given came (Ok (identity_of m)))
-names_owner given came rows (Ok m) shown is = (rows, (shown, is))
-names_owner given came rows (Err c) shown is = tt
+never : (a b c : Bool) → c ≡ true → cond (not a) (Some StoreVersion) (cond (not b) (Some BadStore) (cond c None (Some WrongNode))) ≡ Some WrongNode → ⊥
+never false b c is e = cc
+never true false c is e = cc
+never true true false is e = cc
+never true true true is e = cc
 
-pub names_nobody : (given came : State) (rows : List Row) (r : Result Membership Closed) → Answers get_owner [] given came rows → IsOwner r (owner_of rows) →
-    IfErr r (IsUnowned given came)
-names_nobody given came rows (Ok m) shown is = tt
-names_nobody given came rows (Err closed.Memory) shown is = tt
-names_nobody given came rows (Err (closed.Refused code)) shown is = inr (inr (rows, (shown, is)))
+of_row : (owner : Identity) (floor : List Row) (r : Row) → owner ≡ identity_in r → row_refusal 3 owner floor r ≡ Some WrongNode → ⊥
+of_row owner floor r is h = never (has_format 3 r)
+    (names_member r && has_numbers r && are_floor_rows (number_in (column r 3)) floor)
+    (has_owner (identity_in r) r) (owned (number_in (column r 2)) (number_in (column r 3)) (number_in (column r 4))) (rw is at h)
+
+of_rows : (owner : Identity) (meta floor : List Row) (more : Bool) → owner_of 3 meta ≡ Ok owner →
+    cond (has_rows meta) (refusal_of 3 owner meta floor more) (Some BadStore) ≡ Some WrongNode → ⊥
+of_rows owner [] floor more names h = cc
+of_rows owner (r ∷ x ∷ rest) floor more names h = cc
+of_rows owner (r ∷ []) floor more names h =
+    of_row owner floor r (named (has_format 3 r) (names_member r && has_numbers r) (identity_in r) owner names) h
+
+not_another : (owner : Identity) (db : Trees) → owner_in Three db ≡ Ok owner → reopen_refusal Three owner db ≡ Some WrongNode → ⊥
+not_another owner db names h =
+    of_rows owner (seen meta_columns (db 0) 1) (seen floor_columns (trees_at Three db 2) 1) (has_rows (db 1) || has_rows (trees_at Three db 3)) names h
 
 -- ---- why nothing is shown
 
-pub closed_unowned : {R S : Type 0} {G : Ghosts R} {g : store.Ghosts S} (given came : Held S) (c : Closed) → IsUnowned (state g given) (state g came) c → IsClosed G g given c
-closed_unowned given came c h = record { came = came; why = inl h }
+pub closed_refused : {R : Type 0} {G : Ghosts R} (given came : State) (c : Closed) (i : Identity) (o : IsOwned given) → IsSame given came →
+    i ≡ o.owner → (Began Three came → IsRefusedTo i came c) → IsClosed G given c
+closed_refused {R} {G} given came c i o same is refused =
+    let h : IsRefusedTo i came c = refused (begins_again given came o.began same) in
+    let judged : IsVerdict h.fault → reopen_refusal Three o.owner given.now.trees ≡ Some h.fault =
+    subst (λ (d : Database). IsVerdict h.fault → reopen_refusal Three o.owner d.trees ≡ Some h.fault) same.now
+    (subst (λ (x : Identity). IsVerdict h.fault → reopen_refusal Three x came.now.trees ≡ Some h.fault) is h.judged) in
+    let own : h.fault ≡ WrongNode → ⊥ = λ e. not_another o.owner given.now.trees o.names (judged (subst IsVerdict (sym e) tt) ∙ ap Some e) in
+    inr (o, inl (record { fault = h.fault; numbered = h.numbered; judged = judged }, own))
 
-pub closed_refused : {R S : Type 0} {G : Ghosts R} {g : store.Ghosts S} (given came : Held S) (c : Closed) (owner i : Identity) → AnswersOwner (state g given) (state g came) (Ok owner) →
-    (Began Three (state g given) → IsSame (state g given) (state g came)) → i ≡ owner → IsRefusedTo i (state g came) c → IsClosed G g given c
-closed_refused {R} {S} {G} {g} given came c owner i names stays is h =
-    let r : IsRefusedTo owner (state g came) c = subst (λ (i : Identity). IsRefusedTo i (state g came) c) is h in
-    let own : Began Three (state g given) → r.fault ≡ WrongNode → ⊥ = λ began e.
-    not_another (state g given) (state g came) owner began (stays began) names
-    (r.judged Three (begins_again (state g given) (state g came) began (stays began)) (subst IsVerdict (sym e) tt) ∙ ap Some e) in
-    record { came = came; why = inr (owner, (names, inl (r, own))) }
-
-pub closed_unopened : {R S : Type 0} {G : Ghosts R} {g : store.Ghosts S} (given came : Held S) (c : Closed) (owner : Identity) (answer : Result Shown NodeFault) (fault : NodeFault)
-    (adopted back : R) → AnswersOwner (state g given) (state g came) (Ok owner) → c ≡ closed_for fault → answer ≡ Err fault →
-    IfErr answer (λ e. IsRefused G owner.members adopted e back) →
-    (G.is_honest adopted → Began Three (state g came) → G.stored adopted ≡ record_at Three (state g came).now.trees) → IsClosed G g given c
-closed_unopened {R} {S} {G} {g} given came c owner answer fault adopted back names e is refused rows =
-    let h : IsRefused G owner.members adopted fault back =
-    subst (λ (r : Result Shown NodeFault). IfErr r (λ x. IsRefused G owner.members adopted x back)) is refused in
-    record {
-      came = came;
-      why = inr (owner, (names, inr (fault, (adopted, (back, (e, (h, rows)))))));
-    }
+pub closed_unopened : {R : Type 0} {G : Ghosts R} (given came : State) (c : Closed) (o : IsOwned given) (answer : Result Shown NodeFault) (fault : NodeFault)
+    (adopted back : R) → IsSame given came → c ≡ closed_for fault → answer ≡ Err fault →
+    IfErr answer (λ e. IsRefused G o.owner.members adopted e back) →
+    (G.is_honest adopted → Began Three came → G.stored adopted ≡ record_at Three came.now.trees) → IsClosed G given c
+closed_unopened {R} {G} given came c o answer fault adopted back same e is refused rows =
+    let h : IsRefused G o.owner.members adopted fault back =
+    subst (λ (r : Result Shown NodeFault). IfErr r (λ x. IsRefused G o.owner.members adopted x back)) is refused in
+    inr (o, inr (fault, (adopted, (back, (e, (h, λ honest. rows honest (begins_again given came o.began same) ∙ ap (λ (d : Database). record_in d.trees) same.now))))))

@@ -1,6 +1,5 @@
 pub mod Opened
 mod Reading
-mod Naming
 mod Misuse
 pub mod TextsShown
 pub mod LogScripts

@@ -1,6 +1,5 @@
 pub mod Writing
 pub mod Showing
-pub mod Owners
 pub mod Stores
 pub mod Arguments
 pub mod Outcomes

@@ -8,22 +8,20 @@ use Rattle.sqlite_trees.specs.declared.store.Store as store
 use Rattle.px_model.specs.Node.{Record}
 use Rattle.px_model.specs.Spelling.{Bytes}
 use Rattle.px_records.specs.declared.records.Records.{Ghosts}
+use Rattle.px_wire.specs.declared.membership.Membership.{Membership}
 use Rattle.px_replica.specs.Codes.{node_fault_code}
 use Rattle.px_replica.specs.declared.fault.NodeFault.{NodeFault}
-use Rattle.px_store.specs.Adopting.{Began, IsKnown, IsVerdict, code_of}
-use Rattle.px_store.specs.Formats.{record_at}
-use Rattle.px_store.specs.Judging.{reopen_refusal}
+use Rattle.px_store.specs.Adopting.{Began, IsVerdict, code_of}
+use Rattle.px_store.specs.Judging.{owner_in, reopen_refusal}
 use Rattle.px_store.specs.declared.calls.Identity.{Identity}
-use Rattle.px_store.specs.declared.formats.Format.{Format}
 use Rattle.px_store.specs.declared.formats.Format.TheVariants.{Three}
 use Rattle.px_store.specs.Ready.{MayLeave}
 use Rattle.px_store.specs.Seen.{record_in}
-use Rattle.px_store.specs.Tables.{no_schema}
+use Rattle.px_store.specs.Tables.{schema_3}
 use Rattle.px_store.specs.View.{connection_of}
 use Rattle.px_store.specs.declared.fault.AdoptFault.{AdoptFault}
 use Rattle.px_store.specs.declared.fault.AdoptFault.TheVariants.{StoreVersion, WrongNode}
 use Rattle.px_store.specs.declared.keeper.SqlRecords.{SqlRecords}
-use Rattle.cli_show.specs.Owners.{AnswersOwner, IsUnowned}
 use Rattle.cli_show.specs.Showing.{ShowsLog, IsRefused}
 use Rattle.cli_show.specs.declared.shown.Shown.{Shown}
 use Rattle.cli_show.specs.declared.shown.Wanted.{Wanted}
@@ -35,12 +33,16 @@ pub record ShowsStore {R : Type 0} (G : Ghosts R) (given : State) (back : R) (w 
   pub same : G.stored back ≡ record_in given.now.trees
   pub shows : ShowsLog (record_in given.now.trees).learned w s
 
+-- the owner of a member's store
+abbrev pub identity_of : Membership → Identity
+identity_of m = record { cluster = m.cluster; members = m.members; node = m.me }
+
 -- The store has an owner: it has format 3, and its row names a member.
 -- Example: one of format 2 hasn't, and isn't shown.
-pub record IsOwned {S : Type 0} (g : store.Ghosts S) (given : Held S) : Type 0 where
-  pub came : Held S
+pub record IsOwned (s : State) : Type 0 where
+  pub began : Began Three s
   pub owner : Identity
-  pub names : AnswersOwner (state g given) (state g came) (Ok owner)
+  pub names : owner_in Three s.now.trees ≡ Ok owner
 
 -- ---- refusals
 
@@ -61,30 +63,30 @@ closed_for fault = closed_by (node_fault_code fault)
 
 -- ---- which store is refused
 
--- A store is refused to its owner: one of a format as its rows are, with 72 for a bad one; with 73 one of no format.
+-- The owner of a store isn't known: it hasn't the tables of format 3 (73), or its row for the whole node names none.
+pub record IsUnowned (s : State) (c : Closed) : Type 0 where
+  pub fault : AdoptFault
+  pub numbered : c ≡ closed_of fault
+  pub judged : Began Three s → IsVerdict fault → owner_in Three s.now.trees ≡ Err fault
+  pub other : (s.now.schema ≡ schema_3 → ⊥) → fault ≡ StoreVersion
+
+-- A store of format 3 is refused to this owner: as its rows are, with 72 for a bad one.
 pub record IsRefusedTo (owner : Identity) (s : State) (c : Closed) : Type 0 where
   pub fault : AdoptFault
   pub numbered : c ≡ closed_of fault
-  pub judged : (f : Format) → Began f s → IsVerdict fault → reopen_refusal f owner s.now.trees ≡ Some fault
-  pub lost : s.now.schema ≡ no_schema → s.in_transaction ≡ false → fault ≡ StoreVersion
-  pub unknown : (IsKnown s.now.schema → ⊥) → s.in_transaction ≡ false → fault ≡ StoreVersion
-
--- and one of format 3 not as another node's
-abbrev pub IsRefusedToOwner : Identity → (given came : State) → Closed → Type 0
-IsRefusedToOwner owner given came c = (r : IsRefusedTo owner came c) × (Began Three given → r.fault ≢ WrongNode)
+  pub judged : IsVerdict fault → reopen_refusal Three owner s.now.trees ≡ Some fault
 
 -- a node of that many members doesn't open the record of these rows: with 72 for a bad entry
 abbrev pub IsUnopened : {R : Type 0} → (G : Ghosts R) → (members : ℕ) → State → Closed → Type 0
 IsUnopened {R} G members s c = (fault : NodeFault) × ((given : R) × ((back : R) × ((c ≡ closed_for fault)
     × (IsRefused G members given fault back
-    × (G.is_honest given → Began Three s → G.stored given ≡ record_at Three s.now.trees)))))
+    × (G.is_honest given → G.stored given ≡ record_in s.now.trees)))))
 
--- Nothing is shown of a store: its owner isn't known, or its rows are refused to the owner, or the record doesn't open.
-pub record IsClosed {R S : Type 0} (G : Ghosts R) (g : store.Ghosts S) (given : Held S) (c : Closed) : Type 0 where
-  pub came : Held S
-  pub why : IsUnowned (state g given) (state g came) c
-      ⊎ ((owner : Identity) × (AnswersOwner (state g given) (state g came) (Ok owner)
-      × (IsRefusedToOwner owner (state g given) (state g came) c ⊎ IsUnopened G owner.members (state g came) c)))
+-- Nothing is shown of a store: its owner isn't known, or its rows are refused to the owner, and not as another node's,
+-- or the record doesn't open.
+abbrev pub IsClosed : {R : Type 0} → (G : Ghosts R) → State → Closed → Type 0
+IsClosed G s c = IsUnowned s c ⊎ ((o : IsOwned s) × (((r : IsRefusedTo o.owner s c) × (r.fault ≢ WrongNode))
+    ⊎ IsUnopened G o.owner.members s c))
 
 -- ---- what is left of a store
 
@@ -97,7 +99,7 @@ LeavesRecord old new =
 pub record LeavesFile {S : Type 0} (g : store.Ghosts S) (holds : Database → (within : Bool) → Type 0)
     (is_closed : State → Type 0) (given back : Held S) : Type 0 where
   pub held : holds (state g given).now (state g given).in_transaction
-  pub left : HasCleanDisk (state g back) → Began Three (state g given) → LeavesRecord (state g given) (state g back)
+  pub left : HasCleanDisk (state g back) → LeavesRecord (state g given) (state g back)
   pub shut : is_closed (state g back)
 
 -- This is shown of the record in a file.
@@ -105,8 +107,8 @@ pub record ShowsFile {S : Type 0} (g : store.Ghosts S) (G : Ghosts (SqlRecords S
     (holds : Database → (within : Bool) → Type 0) (is_closed : State → Type 0) (w : Wanted) (s : Shown) : Type 0 where
   pub given : Held S
   pub back : SqlRecords S g
-  pub owned : G.is_honest back → IsOwned g given
-  pub shows : G.is_honest back → Began Three (state g given) → ShowsStore G (state g given) back w s
+  pub owned : G.is_honest back → IsOwned (state g given)
+  pub shows : G.is_honest back → ShowsStore G (state g given) back w s
   pub leaves : LeavesFile g holds is_closed given (connection_of back)
 
 -- The store in a file is refused.
@@ -114,7 +116,7 @@ pub record RefusesFile {S : Type 0} (g : store.Ghosts S) (G : Ghosts (SqlRecords
     (holds : Database → (within : Bool) → Type 0) (is_closed : State → Type 0) (c : Closed) : Type 0 where
   pub given : Held S
   pub back : Held S
-  pub why : HasCleanDisk (state g back) → IsClosed G g given c
+  pub why : HasCleanDisk (state g back) → IsClosed G (state g given) c
   pub leaves : LeavesFile g holds is_closed given back
 
 -- This is shown of the store at a path where databases are opened and closed, or it is refused.

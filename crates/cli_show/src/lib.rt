@@ -9,7 +9,7 @@
 //!   same of a node.
 //!
 //! Within: `arguments` has the arguments as `clap` reads them, `wanted` what they ask for, `file` opens the store,
-//! `owner` reads whose it is, `outcome` has what is written; `pfctl` has pfctl's listings and packets, `logged` the
+//! `outcome` has what is written; `pfctl` has pfctl's listings and packets, `logged` the
 //! log, `texts` rulesets for pfctl(8) that give the configuration, `scripts` a script that gives the configuration,
 //! `figures` how far it is.
 //!
@@ -33,7 +33,6 @@ mod figures;
 mod file;
 mod logged;
 mod outcome;
-mod owner;
 mod pfctl;
 mod running;
 mod scripts;

@@ -1,22 +1,21 @@
 //! What is shown of the record in a database.
 
-ghost use Rattle.std.specs.Prelude.{◌≡◌, IfOk, IfErr};
+ghost use Rattle.std.specs.Prelude.{◌≡◌, ◌<◌, Ok, IfOk, IfErr, OnOk};
 ghost use Rattle.sqlite.specs.Held.{state};
 ghost use Rattle.sqlite.specs.State.{HasCleanDisk};
-ghost use Rattle.px_store.specs.Adopting.{Began, IsBrought, LeavesOr};
+ghost use Rattle.px_store.specs.Adopting.{Began, IsBrought, IsSame, LeavesOld, LeavesOr};
 ghost use Rattle.px_store.specs.Formats.{record_at};
+ghost use Rattle.px_store.specs.Judging.{owner_in};
 ghost use Rattle.px_store.specs.View.{connection_of};
 ghost use Rattle.px_store.specs.declared.formats.Format.TheVariants.{Three};
-ghost use Rattle.cli_show.specs.Owners.{identity_of};
-ghost use Rattle.cli_show.specs.Stores.{ShowsStore, LeavesRecord, closed_by, closed_of, closed_for, IsRefusedTo};
-ghost use Rattle.cli_show.specs.Stores.{IsClosed, IsOwned};
+ghost use Rattle.cli_show.specs.Stores.{identity_of, ShowsStore, LeavesRecord, closed_by, closed_of, closed_for};
+ghost use Rattle.cli_show.specs.Stores.{IsClosed, IsOwned, IsRefusedTo, IsUnowned};
 
-use crate::owner::owner_of;
 use crate::showing::show_record;
 use crate::shown::{Shown, Wanted};
 use px_records::Records;
 use px_replica::{Membership, NodeFault};
-use px_store::{AdoptFault, Identity, SqlRecords};
+use px_store::{AdoptFault, Format, Identity, SqlRecords, format_in, owner_in};
 use sqlite::{Alter, Connection};
 use std::alloc::Global;
 
@@ -55,6 +54,33 @@ fn identity_of(m: Membership) -> Identity
     }
 }
 
+/// Whose store it is: 73 where it hasn't the tables of format 3, else as its row for the whole node has it. Nothing
+/// differs in the store.
+fn owner_of<S: Alter>(conn: &mut Connection<S>) -> Result<Membership, Closed>
+    ensures began { OnOk result (Began Three (state S.Store conn.old)) }
+    ensures owner { HasCleanDisk (state S.Store conn.new) → IfOk result (λ m.
+        owner_in Three (state S.Store conn.old).now.trees ≡ Ok (identity_of m)) }
+    ensures none { HasCleanDisk (state S.Store conn.new) → IfErr result (IsUnowned (state S.Store conn.old)) }
+    ensures here { IfOk result (λ m. m.me < m.members) }
+    ensures stays { HasCleanDisk (state S.Store conn.new) →
+        OnOk result (IsSame (state S.Store conn.old) (state S.Store conn.new)) }
+    ensures clean { HasCleanDisk (state S.Store conn.new) → HasCleanDisk (state S.Store conn.old) }
+    ensures stop { HasCleanDisk (state S.Store conn.new) →
+        LeavesOld (state S.Store conn.old) (state S.Store conn.new) }
+{
+    let Some(Format::Three) = format_in(conn.schema()) else {
+        return Err(closed_of(AdoptFault::StoreVersion));
+    };
+    let owner = match owner_in(conn) {
+        Ok(owner) => owner,
+        Err(fault) => return Err(closed_of(fault)),
+    };
+    match Membership::new(owner.cluster, owner.members, owner.node) {
+        Some(m) => Ok(m),
+        None => Err(closed_of(AdoptFault::BadStore)),
+    }
+}
+
 /// The record in a store: that of the rows that are there. A refusal gives the connection back.
 fn adopted<S: Alter + Drop>(
     alloc: Global,
@@ -73,7 +99,7 @@ fn adopted<S: Alter + Drop>(
         LeavesOr (IsBrought Three identity (state S.Store conn).now.trees) (state S.Store conn)
         (state S.Store e.1)) }
     ensures refused { IfErr result (λ e. HasCleanDisk (state S.Store e.1) → HasCleanDisk (state S.Store conn)
-        × IsRefusedTo identity (state S.Store conn) e.0) }
+        × (Began Three (state S.Store conn) → IsRefusedTo identity (state S.Store conn) e.0)) }
 {
     match SqlRecords::reopen(alloc, conn, identity) {
         Ok(records) => Ok(records),
@@ -98,14 +124,14 @@ pub fn show_store<S: Alter + Drop>(
     mut conn: Connection<S>,
     wanted: Wanted<'_>,
 ) -> Result<(Shown, SqlRecords<S>), (Closed, Connection<S>)>
-    ensures shown { IfOk result (λ r. ⟦<SqlRecords<S> as Records>⟧.is_honest r.1 → Began Three (state S.Store conn) →
+    ensures shown { IfOk result (λ r. ⟦<SqlRecords<S> as Records>⟧.is_honest r.1 →
         ShowsStore ⟦<SqlRecords<S> as Records>⟧ (state S.Store conn) r.1 wanted.entry r.0) }
-    ensures owned { IfOk result (λ r. ⟦<SqlRecords<S> as Records>⟧.is_honest r.1 → IsOwned S.Store conn) }
+    ensures owned { IfOk result (λ r. ⟦<SqlRecords<S> as Records>⟧.is_honest r.1 → IsOwned (state S.Store conn)) }
     ensures closed { IfErr result (λ e. HasCleanDisk (state S.Store e.1) →
-        IsClosed ⟦<SqlRecords<S> as Records>⟧ S.Store conn e.0) }
-    ensures stop { IfOk result (λ r. ⟦<SqlRecords<S> as Records>⟧.is_honest r.1 → Began Three (state S.Store conn) →
+        IsClosed ⟦<SqlRecords<S> as Records>⟧ (state S.Store conn) e.0) }
+    ensures stop { IfOk result (λ r. ⟦<SqlRecords<S> as Records>⟧.is_honest r.1 →
         LeavesRecord (state S.Store conn) (state S.Store (connection_of r.1))) }
-    ensures left { IfErr result (λ e. HasCleanDisk (state S.Store e.1) → Began Three (state S.Store conn) →
+    ensures left { IfErr result (λ e. HasCleanDisk (state S.Store e.1) →
         LeavesRecord (state S.Store conn) (state S.Store e.1)) }
 {
     let m = match owner_of(&mut conn) {

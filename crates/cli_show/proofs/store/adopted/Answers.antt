@@ -1,6 +1,4 @@
 -- what opened the store has it
-use Rattle.std.proofs.Common.{refl}
-use Rattle.cli_show.proofs.Closing.{same_fault}
 use Rattle.px_store.specs.declared.formats.Format.TheVariants.{Three}
 use Rattle.cli_show.proofs.store.adopted.Goals as goal
 
@@ -13,12 +11,10 @@ returns-in-Ok-clause-rows g c = λ honest began. (c.in-Ok.ensures.rows honest Th
 pub returns-in-Err-clause-refused : goal.returns-in-Err-clause-refused
 returns-in-Err-clause-refused g c = λ clean. (
   c.in-Err.ensures.refused clean,
-  record {
+  λ began. record {
     fault = c.in-Err.fault;
     numbered = c.closed_of.ensures;
-    judged = c.in-Err.ensures.judged clean;
-    lost = λ none auto. same_fault _ _ _ _ _ (c.in-Err.ensures.lost none auto) refl;
-    unknown = λ other auto. same_fault _ _ _ _ _ (c.in-Err.ensures.unknown other auto) refl;
+    judged = c.in-Err.ensures.judged clean Three began;
   },
 )
 
