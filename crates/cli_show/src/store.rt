@@ -1,11 +1,12 @@
 //! What is shown of the record in a database.
 
-ghost use Rattle.std.specs.Prelude.{◌≡◌, ◌<◌, Ok, IfOk, IfErr, OnOk};
+ghost use Rattle.std.specs.Prelude.{◌≡◌, ◌<◌, ◌↔◌, Ok, IfOk, IfErr, IsTrue, OnOk};
 ghost use Rattle.sqlite.specs.Held.{state};
 ghost use Rattle.sqlite.specs.State.{HasCleanDisk};
 ghost use Rattle.px_store.specs.Adopting.{Began, IsBrought, IsSame, LeavesOld, LeavesOr};
 ghost use Rattle.px_store.specs.Formats.{record_at};
 ghost use Rattle.px_store.specs.Judging.{owner_in};
+ghost use Rattle.px_store.specs.Tables.{schema_3};
 ghost use Rattle.px_store.specs.View.{connection_of};
 ghost use Rattle.px_store.specs.declared.formats.Format.TheVariants.{Three};
 ghost use Rattle.cli_show.specs.Stores.{identity_of, ShowsStore, LeavesRecord, closed_by, closed_of, closed_for};
@@ -54,6 +55,13 @@ fn identity_of(m: Membership) -> Identity
     }
 }
 
+/// Whether a store has the tables of format 3.
+fn is_three<S: Alter>(conn: &Connection<S>) -> bool
+    ensures { IsTrue result ↔ ((state S.Store conn.now).now.schema ≡ schema_3) }
+{
+    matches!(format_in(conn.schema()), Some(Format::Three))
+}
+
 /// Whose store it is: 73 where it hasn't the tables of format 3, else as its row for the whole node has it. Nothing
 /// differs in the store.
 fn owner_of<S: Alter>(conn: &mut Connection<S>) -> Result<Membership, Closed>
@@ -68,9 +76,9 @@ fn owner_of<S: Alter>(conn: &mut Connection<S>) -> Result<Membership, Closed>
     ensures stop { HasCleanDisk (state S.Store conn.new) →
         LeavesOld (state S.Store conn.old) (state S.Store conn.new) }
 {
-    let Some(Format::Three) = format_in(conn.schema()) else {
+    if !is_three(conn) {
         return Err(closed_of(AdoptFault::StoreVersion));
-    };
+    }
     let owner = match owner_in(conn) {
         Ok(owner) => owner,
         Err(fault) => return Err(closed_of(fault)),

@@ -22,7 +22,7 @@ const NEAR_THE_END: u32 = 900_000;
 const POSITIONS: u32 = 1_000_000;
 
 /// The most members.
-const MEMBERS: usize = 15;
+const MEMBERS: usize = px_wire::MEMBERS as usize;
 
 /// What is to be looked at where others aren't heard.
 const ADVICE: &str =

@@ -6,4 +6,4 @@
 pub(crate) const PACKET: usize = 1_200;
 
 /// How many members there are at most.
-pub(crate) const MEMBERS: usize = 15;
+pub(crate) const MEMBERS: usize = px_wire::MEMBERS as usize;

@@ -4,6 +4,7 @@ ghost use Rattle.std.specs.Prelude.{◌≡◌};
 ghost use Rattle.node_loop.specs.Progress.{shown_by, noted, looked, reaching, lacking, lacked, with_learned, accepting};
 ghost use Rattle.node_loop.specs.Progress.{unseen};
 
+use crate::packet::MEMBERS;
 use px_wire::{Head, Kind};
 
 /// What was seen of other members since the start, by the messages that came to this one. It decides when the clock
@@ -18,7 +19,7 @@ pub(crate) struct PeerProgress {
     pub(crate) accepting: u32,
     /// For each member that has shown since the last look how far it is: one more than the position from which on it is
     /// to be sent what it lacks; 0 for the others.
-    lacking: [u32; 15],
+    lacking: [u32; MEMBERS],
 }
 
 impl PeerProgress {
@@ -30,7 +31,7 @@ impl PeerProgress {
             reached: 0,
             has_learned: false,
             accepting: 0,
-            lacking: [0; 15],
+            lacking: [0; MEMBERS],
         }
     }
 
@@ -42,7 +43,7 @@ impl PeerProgress {
             reached: self.reached,
             has_learned: false,
             accepting: 0,
-            lacking: [0; 15],
+            lacking: [0; MEMBERS],
         }
     }
 
@@ -67,7 +68,7 @@ impl PeerProgress {
         ensures { result ≡ lacking member next self }
     {
         let place = usize::from(member);
-        if place >= 15 {
+        if place >= MEMBERS {
             return self;
         }
         let mut lacking = self.lacking;

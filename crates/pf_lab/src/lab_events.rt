@@ -25,7 +25,7 @@ use px_records::MemoryRecords;
 use std::alloc::Global;
 
 /// How many messages a member sends in a step at most.
-const MESSAGES: usize = 15;
+const MESSAGES: usize = px_core::MEMBERS as usize;
 
 impl Lab {
     /// The action happens in the world.

@@ -17,7 +17,7 @@ use pf_scripts::{Waiting, cut_line, push_refusal, words_in};
 use std::alloc::{AllocError, Global};
 
 /// How many members there are at most.
-const MEMBERS: u64 = 15;
+const MEMBERS: u64 = px_core::MEMBERS as u64;
 
 /// How many members the line `members N` names; none for other arguments, or unless there are 1 to 15.
 fn members_in(words: &[&str]) -> Option<u8>
