@@ -15,7 +15,8 @@ use Rattle.sqlite_tied.specs.Compute.{everything}
 use Rattle.sqlite.specs.Listing.{understood, reads_listing}
 use Rattle.sqlite.proofs.Callers.{IsPlain, command_of}
 use Rattle.px_store.specs.Tables.{schema_3}
-use Rattle.px_store.specs.inner.Tables.{put_meta, put_slot, put_floor, put_learned, get_meta, get_slot, get_floor}
+use Rattle.px_store.specs.Adopting.{get_meta}
+use Rattle.px_store.specs.inner.Tables.{put_meta, put_slot, put_floor, put_learned, get_slot, get_floor}
 use Rattle.px_store.specs.inner.Tables.{get_learned, get_span, get_top, get_end, get_last}
 use Rattle.px_store.specs.Formats.{schema_at, has_table}
 use Rattle.px_store.specs.declared.formats.Format.{Format}

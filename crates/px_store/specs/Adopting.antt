@@ -1,7 +1,11 @@
 -- What opening a store does to it.
-use Rattle.std.specs.Prelude.{◌≡◌, ◌⊎◌, ⊤, ℕ, true, false, List, [], ◌∷◌, Option, Some, None}
+use Rattle.std.specs.Prelude.{◌≡◌, ◌⊎◌, ⊤, ℕ, pos, true, false, List, [], ◌∷◌, Option, Some, None, codes}
 use Rattle.sqlite_value.specs.Order.{Row}
-use Rattle.sqlite.specs.State.{State}
+use Rattle.sqlite.specs.Held.{Held, state}
+use Rattle.sqlite.specs.State.{State, FailsToQuery}
+use Rattle.sqlite_trees.specs.declared.store.Store as store
+use Rattle.sqlite.specs.declared.error.Error.{Error}
+use Rattle.sqlite.specs.declared.types.Value.TheVariants.{Int}
 use Rattle.sqlite.specs.Tree.{Trees}
 use Rattle.px_model.specs.Node.{Record}
 use Rattle.px_model.specs.Spelling.{Bytes}
@@ -32,6 +36,15 @@ IsVerdict Failed = ⊥
 IsVerdict StoreVersion = ⊤
 IsVerdict BadStore = ⊤
 IsVerdict WrongNode = ⊤
+
+-- the question for the row for the whole node, of id 1
+abbrev pub get_meta : List ℕ
+get_meta = codes "SELECT id, format, cluster, members, node, round, number FROM meta WHERE id = ?1"
+
+-- the database doesn't answer it
+abbrev pub IsUnread : {S : Type 0} → (g : store.Ghosts S) → Held S → Type 0
+IsUnread {S} g given =
+    (came : Held S) × ((e : Error) × FailsToQuery get_meta (Int (pos 1) ∷ []) (state g given) (state g came) e)
 
 -- there are no tables, or those of a format
 abbrev pub IsKnown : Schema → Type 0

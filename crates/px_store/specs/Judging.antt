@@ -87,21 +87,21 @@ refusal f i db = refusal_of (number_of f) i (seen meta_columns (db 0) 1) (seen f
 abbrev pub reopen_refusal : Format → Identity → Trees → Option AdoptFault
 reopen_refusal f i db = if has_rows (seen meta_columns (db 0) 1) then refusal f i db else Some BadStore
 
--- ---- the owner
+-- ---- whose a store is
 
--- by the rows for the whole node: 73 for one of another format, 72 where there isn't one alone that a node writes
--- Example: 1 3 7 3 1 0 0 is node 1 of the 3 members of cluster 7 in format 3; of 1 3 7 3 3 0 0 comes 72, and in format
--- 2 of both 73.
-abbrev pub owner_of : (format : ℕ) → (meta : List Row) → Result Identity AdoptFault
-owner_of format [] = Err BadStore
-owner_of format (r ∷ []) =
+-- by the rows for the whole node: 73 for one of another format, 72 for a bad one and unless there is one alone
+-- Example: 1 3 7 3 1 0 0 is node 1 of the 3 members of cluster 7 in format 3; of 1 3 7 3 3 0 0 comes 72. In format 2 73
+-- comes of both.
+abbrev pub owner_in_rows : (format : ℕ) → (meta : List Row) → Result Identity AdoptFault
+owner_in_rows format [] = Err BadStore
+owner_in_rows format (r ∷ []) =
     if not (has_format format r) then Err StoreVersion
     else (if names_member r && has_numbers r then Ok (identity_in r) else Err BadStore)
-owner_of format (r ∷ x ∷ more) = Err BadStore
+owner_in_rows format (r ∷ x ∷ more) = Err BadStore
 
 -- whose a store with the tables of a format is, by its rows
 abbrev pub owner_in : Format → Trees → Result Identity AdoptFault
-owner_in f db = owner_of (number_of f) (seen meta_columns (db 0) 1)
+owner_in f db = owner_in_rows (number_of f) (seen meta_columns (db 0) 1)
 
 -- the rows of a store of format 3 that is this node's
 pub record IsOwn (i : Identity) (db : Trees) : Type 0 where

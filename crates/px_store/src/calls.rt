@@ -1,6 +1,6 @@
 //! The SQL of reads and writes: a row of format 3 is put by one call, and rows of each format are asked for by another.
 
-ghost use Rattle.std.specs.Prelude.{◌≡◌, ◌<◌, ◌↔◌, pos, true, [], Err, IfOk, IfErr, IsTrue};
+ghost use Rattle.std.specs.Prelude.{◌≡◌, ◌<◌, ◌↔◌, pos, true, [], Err, IfOk, IfErr, IsTrue, OnErr};
 ghost use Rattle.sqlite.specs.Held.{state};
 ghost use Rattle.sqlite.specs.State.{HasCleanDisk, Survives, Executes, CommitsBy};
 ghost use Rattle.sqlite.specs.State.{Shown, FailsToQuery, CommitsShowing};
@@ -8,7 +8,7 @@ ghost use Rattle.px_store.specs.inner.Effect.{Serves};
 ghost use Rattle.px_store.specs.Adopting.{LeavesOld};
 ghost use Rattle.px_store.specs.Formats.{has_table};
 ghost use Rattle.px_store.specs.Adopting.{Began};
-ghost use Rattle.px_store.specs.inner.Questions.{asked_by, given_with, table_of, Looked};
+ghost use Rattle.px_store.specs.inner.Questions.{asked_by, given_with, table_of, IsUnanswered, Looked};
 ghost use Rattle.px_store.specs.inner.NewRows.{text_of, params_of, AreIntegers, Wrote};
 ghost use Rattle.px_store.specs.declared.reading.TheConstants.{INTEGERS};
 
@@ -247,6 +247,8 @@ pub(crate) fn get<S: Alter>(
     question: Question,
 ) -> Result<Vec<Row>, Trouble>
     ensures clean { HasCleanDisk (state S.Store conn.new) → HasCleanDisk (state S.Store conn.old) }
+    ensures unanswered { HasCleanDisk (state S.Store conn.new) →
+        OnErr result (IsUnanswered S.Store question conn.old) }
     ensures looked { HasCleanDisk (state S.Store conn.new) → (f : Format) → Began f (state S.Store conn.old) →
         has_table (table_of question) f ≡ true → Looked question result (state S.Store conn.old)
         (state S.Store conn.new) }

@@ -3,7 +3,7 @@ ghost use Rattle.std.specs.Prelude.{◌≡◌, false, true, OnOk, IfOk, Ok, Err,
 ghost use Rattle.sqlite.specs.Held.{state};
 ghost use Rattle.sqlite.specs.State.{HasCleanDisk};
 ghost use Rattle.px_store.specs.Formats.{schema_at};
-ghost use Rattle.px_store.specs.Adopting.{Began, IsVerdict, IsSame, LeavesOld};
+ghost use Rattle.px_store.specs.Adopting.{Began, IsUnread, IsVerdict, IsSame, LeavesOld};
 ghost use Rattle.px_store.specs.Judging.{refusal, reopen_refusal, owner_in, is_member_of};
 
 use crate::calls::{Identity, Question};
@@ -67,8 +67,9 @@ pub fn examine<S: Alter>(conn: &mut Connection<S>, identity: Identity) -> Result
     }
 }
 
-/// Whose a store is, by its row for the whole node: 73 without the tables of a format or where the row has another one,
-/// else 72 without one such row alone. Nothing is changed.
+/// Whose a store is, by its row for the whole node: 70 in a transaction, or where the database doesn't answer; 73 without
+/// the tables of a format, and nothing else, or where the row has another format; 72 without that row, or for a bad one.
+/// Nothing is changed.
 pub fn owner_in<S: Alter>(conn: &mut Connection<S>) -> Result<Identity, AdoptFault>
     ensures known { OnOk result ((f : Format) × Began f (state S.Store conn.old)) }
     ensures unknown { (state S.Store conn.old).in_transaction ≡ false →
@@ -78,6 +79,8 @@ pub fn owner_in<S: Alter>(conn: &mut Connection<S>) -> Result<Identity, AdoptFau
         IfOk result (λ owner. owner_in f (state S.Store conn.old).now.trees ≡ Ok owner) }
     ensures refused { HasCleanDisk (state S.Store conn.new) → (f : Format) → Began f (state S.Store conn.old) →
         IfErr result (λ e. IsVerdict e → owner_in f (state S.Store conn.old).now.trees ≡ Err e) }
+    ensures unread { HasCleanDisk (state S.Store conn.new) → (state S.Store conn.old).in_transaction ≡ false →
+        result ≡ Err AdoptFault.Failed → IsUnread S.Store conn.old }
     ensures within { IfOk result (λ owner. is_member_of owner.cluster owner.members owner.node ≡ true) }
     ensures stays { HasCleanDisk (state S.Store conn.new) →
         OnOk result (IsSame (state S.Store conn.old) (state S.Store conn.new)) }

@@ -1,5 +1,5 @@
 //! What a store holds as it is found.
-ghost use Rattle.std.specs.Prelude.{◌≡◌, ◌<◌, ◌≤◌, ◌^◌, ℕ, false, [], ◌∷◌, length};
+ghost use Rattle.std.specs.Prelude.{◌≡◌, ◌≢◌, ◌<◌, ◌≤◌, ◌^◌, ℕ, false, [], ◌∷◌, length};
 ghost use Rattle.std.specs.Prelude.{◌⊎◌, IfOk, OnOk, OnErr, IfErr, Ok, Err, Some, None, true, ◌&&◌, ◌||◌};
 ghost use Rattle.sqlite.specs.Held.{state};
 ghost use Rattle.sqlite.specs.State.{HasCleanDisk};
@@ -12,8 +12,8 @@ ghost use Rattle.px_store.specs.Adopting.{Began, IsSame, IsVerdict};
 ghost use Rattle.px_store.specs.Judging.{has_rows, has_format, names_member, has_numbers, is_member_of};
 ghost use Rattle.px_store.specs.inner.Adopting.{IsRefused};
 ghost use Rattle.px_store.specs.inner.Judging.{rows_in};
-ghost use Rattle.px_store.specs.Judging.{is_owner, owner_of, row_refusal, refusal_of};
-ghost use Rattle.px_store.specs.inner.Questions.{Answers, table_of};
+ghost use Rattle.px_store.specs.Judging.{is_owner, owner_in_rows, row_refusal, refusal_of};
+ghost use Rattle.px_store.specs.inner.Questions.{Answers, IsUnanswered, table_of};
 ghost use Rattle.px_store.specs.declared.reading.TheConstants.{NUMBERS};
 
 use crate::calls::{Identity, Question, Trouble, get};
@@ -23,7 +23,7 @@ use crate::reading::{NUMBERS, ReadFault, floor_in_rows, number};
 use crate::tables::format_in;
 use sqlite::{Alter, Connection, Row};
 
-/// What the row for the whole node has, or nothing.
+/// What the row for the whole node has; where there is none it is the one to be made, of the node that opens.
 #[derive(Clone, Copy, PartialEq, Eq)]
 pub(crate) struct Found {
     pub(crate) has_row: bool,
@@ -39,6 +39,8 @@ pub(crate) fn look<S: Alter>(
     question: Question,
 ) -> Result<Option<Vec<Row>>, AdoptFault>
     ensures why { OnErr result ((result ≡ Err AdoptFault.Memory) ⊎ (result ≡ Err AdoptFault.Failed)) }
+    ensures unanswered { HasCleanDisk (state S.Store conn.new) →
+        OnErr result (IsUnanswered S.Store question conn.old) }
     ensures rows { HasCleanDisk (state S.Store conn.new) → Began format (state S.Store conn.old) →
         IfOk result (λ rows. Answers question (trees_at format (state S.Store conn.old).now.trees) (rows_in rows)) }
     ensures clean { HasCleanDisk (state S.Store conn.new) → HasCleanDisk (state S.Store conn.old) }
@@ -233,7 +235,7 @@ pub(crate) fn read_store<S: Alter>(
     })
 }
 
-/// Whether a row with this owner is the node's that opens.
+/// Whether this owner of a row is the node that opens.
 fn is_owner(owner: Identity, identity: Identity) -> bool
     ensures { result ≡ is_owner identity owner.cluster owner.members owner.node }
 {
@@ -306,8 +308,9 @@ fn judge_rows(
 
 /// Whose a store is, by its rows for the whole node: 73, 72, in this order.
 pub(crate) fn owner_in_rows(rows: &[Row], format: u64) -> Result<Identity, AdoptFault>
-    ensures owner { IfOk result (λ owner. owner_of format rows.now ≡ Ok owner) }
-    ensures refused { IfErr result (λ e. IsVerdict e → owner_of format rows.now ≡ Err e) }
+    ensures owner { IfOk result (λ owner. owner_in_rows format rows.now ≡ Ok owner) }
+    ensures refused { IfErr result (λ e. IsVerdict e → owner_in_rows format rows.now ≡ Err e) }
+    ensures read { result ≢ Err AdoptFault.Failed }
     ensures within { IfOk result (λ owner. is_member_of owner.cluster owner.members owner.node ≡ true) }
 {
     let [row] = rows else {

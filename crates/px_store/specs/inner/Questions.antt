@@ -3,14 +3,17 @@ use Rattle.std.specs.Prelude.{◌≡◌, ℕ, List, [], IfOk, Result, Err, Vec}
 use Rattle.std.specs.declared.alloc.Global.{Global}
 use Rattle.sqlite_value.specs.Order.{Row}
 use Rattle.sqlite.specs.Tree.{Trees}
-use Rattle.sqlite.specs.State.{State}
-use Rattle.px_store.specs.inner.Tables.{get_meta, get_slot, get_floor, get_learned, get_span, get_top}
+use Rattle.sqlite.specs.declared.error.Error.{Error}
+use Rattle.sqlite.specs.Held.{Held, state}
+use Rattle.sqlite.specs.State.{State, FailsToQuery}
+use Rattle.sqlite_trees.specs.declared.store.Store as store
+use Rattle.px_store.specs.inner.Tables.{get_slot, get_floor, get_learned, get_span, get_top}
 use Rattle.px_store.specs.inner.Tables.{get_end, get_last, key_params, span_params}
 use Rattle.px_store.specs.Seen.{seen, meta_columns, slot_columns, floor_columns, learned_columns}
 use Rattle.px_store.specs.Seen.{has_ballot, any_row}
 use Rattle.px_store.specs.inner.Seen.{IsLast}
 use Rattle.px_store.specs.inner.Effect.{IsAlike, IsStill}
-use Rattle.px_store.specs.Adopting.{LeavesOld}
+use Rattle.px_store.specs.Adopting.{LeavesOld, get_meta}
 use Rattle.px_store.specs.inner.Ahead.{AreAlike}
 use Rattle.px_store.specs.declared.calls.Question.{Question}
 use Rattle.px_store.specs.declared.calls.Question.TheVariants.{Meta, Floor, Slot, Learned, Span, Top, End, LastSlot}
@@ -60,6 +63,11 @@ Answers (Span first end) db rows = AreAlike first end (db 3) rows
 Answers Top db rows = IsLast has_ballot (db 1) rows
 Answers End db rows = IsLast any_row (db 3) rows
 Answers LastSlot db rows = IsLast any_row (db 1) rows
+
+-- the database doesn't answer it
+abbrev pub IsUnanswered : {S : Type 0} → (g : store.Ghosts S) → Question → Held S → Type 0
+IsUnanswered {S} g q given =
+    (came : Held S) × ((e : Error) × FailsToQuery (asked_by q) (given_with q) (state g given) (state g came) e)
 
 -- What reading makes of a connection: after Ok the rows answer it and nothing differs; when out of memory nothing
 -- differs; and a stop leaves what it left before.

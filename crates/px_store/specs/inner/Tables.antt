@@ -42,9 +42,6 @@ put_floor = codes "INSERT OR REPLACE INTO floor VALUES (1, ?1)"
 abbrev pub put_learned : List ℕ
 put_learned = codes "INSERT OR REPLACE INTO learned VALUES (?1, ?2)"
 
-abbrev pub get_meta : List ℕ
-get_meta = codes "SELECT id, format, cluster, members, node, round, number FROM meta WHERE id = ?1"
-
 abbrev pub get_slot : List ℕ
 get_slot = codes "SELECT position, promised, ballot, entry FROM slots WHERE position = ?1"
 

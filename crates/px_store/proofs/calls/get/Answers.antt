@@ -15,3 +15,7 @@ returns-in-Err-clause-looked g c = λ clean f began has.
     let settled = c.is_autocommit-settled.ensures.settled (rw auto refl) in
     let mid = c.cause_of.ensures.clean clean in
     not_looked f c.args.question has (state g.S.Store c.args.conn.now) (state g.S.Store c.ask.new.conn) began settled mid c.in-Err.ensures.survives (state g.S.Store c.cause_of.new.conn) c.in-Err.error _ (c.in-Err.ensures.err mid) (c.cause_of.ensures.crash clean) (c.cause_of.ensures.serves clean)
+
+pub returns-in-Err-clause-unanswered : goal.returns-in-Err-clause-unanswered
+returns-in-Err-clause-unanswered g c = λ clean.
+    (c.ask.new.conn, (c.in-Err.error, c.in-Err.ensures.err (c.cause_of.ensures.clean clean)))
