@@ -48,8 +48,7 @@ impl<R: Files + Clock + RandomSource> NodeFiles for R {
     ghost makes = { λ _ cluster members _ key. ((text : List ℕ) × IsClusterKey text cluster members key)
         × IsKeyOfFile R.File.remaining cluster members key };
 
-    // a start that was never used has a number above 0; no contract states what the system's files, clock and random
-    // source give
+    // the number of a start is from 1 on; no contract states what the system's files, clock and random source give
     ghost raises = { λ _ _ _ _ _ start. 0 < start.number };
 
     fn cluster_key(

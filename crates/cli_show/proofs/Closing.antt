@@ -3,14 +3,16 @@ use Rattle.std.proofs.Common.{◌≡◌, ℕ, List, [], ◌∷◌, cond, Bool, t
 use Rattle.std.specs.Prelude.{IfErr}
 use Rattle.std.proofs.lemmas.Bool.{eq-eqb}
 use Rattle.sqlite.specs.Effect.{Database}
+use Rattle.sqlite.specs.Held.{Held, state}
 use Rattle.sqlite.specs.State.{State}
+use Rattle.sqlite_trees.specs.declared.store.Store as store
 use Rattle.sqlite.specs.Tree.{Trees}
 use Rattle.sqlite_value.specs.Order.{Row, column}
 use Rattle.px_records.specs.declared.records.Records.{Ghosts}
 use Rattle.px_replica.specs.declared.fault.NodeFault.{NodeFault}
 use Rattle.px_store.specs.Adopting.{Began, IsSame, IsVerdict}
 use Rattle.px_store.specs.Formats.{record_at, trees_at}
-use Rattle.px_store.specs.Judging.{identity_in, is_owner, has_format, names_member, has_numbers, has_owner, are_floor_rows, has_rows, owner_of, owner_in, row_refusal, refusal_of, reopen_refusal}
+use Rattle.px_store.specs.Judging.{identity_in, is_owner, has_format, names_member, has_numbers, has_owner, are_floor_rows, has_rows, owner_in_rows, owner_in, row_refusal, refusal_of, reopen_refusal}
 use Rattle.px_store.specs.Seen.{seen, meta_columns, floor_columns, record_in, number_in}
 use Rattle.px_store.specs.declared.calls.Identity.{Identity}
 use Rattle.px_store.specs.declared.fault.AdoptFault.{AdoptFault}
@@ -46,7 +48,7 @@ of_row owner floor r is h = never (has_format 3 r)
     (names_member r && has_numbers r && are_floor_rows (number_in (column r 3)) floor)
     (has_owner (identity_in r) r) (owned (number_in (column r 2)) (number_in (column r 3)) (number_in (column r 4))) (rw is at h)
 
-of_rows : (owner : Identity) (meta floor : List Row) (more : Bool) → owner_of 3 meta ≡ Ok owner →
+of_rows : (owner : Identity) (meta floor : List Row) (more : Bool) → owner_in_rows 3 meta ≡ Ok owner →
     cond (has_rows meta) (refusal_of 3 owner meta floor more) (Some BadStore) ≡ Some WrongNode → ⊥
 of_rows owner [] floor more names h = cc
 of_rows owner (r ∷ x ∷ rest) floor more names h = cc
@@ -59,9 +61,10 @@ not_another owner db names h =
 
 -- ---- why nothing is shown
 
-pub closed_refused : {R : Type 0} {G : Ghosts R} (given came : State) (c : Closed) (i : Identity) (o : IsOwned given) → IsSame given came →
-    i ≡ o.owner → (Began Three came → IsRefusedTo i came c) → IsClosed G given c
-closed_refused {R} {G} given came c i o same is refused =
+pub closed_refused : {R S : Type 0} {G : Ghosts R} {g : store.Ghosts S} (held : Held S) (came : State) (c : Closed) (i : Identity) (o : IsOwned (state g held)) →
+    IsSame (state g held) came → i ≡ o.owner → (Began Three came → IsRefusedTo i came c) → IsClosed G g held c
+closed_refused {R} {S} {G} {g} held came c i o same is refused =
+    let given = state g held in
     let h : IsRefusedTo i came c = refused (begins_again given came o.began same) in
     let judged : IsVerdict h.fault → reopen_refusal Three o.owner given.now.trees ≡ Some h.fault =
     subst (λ (d : Database). IsVerdict h.fault → reopen_refusal Three o.owner d.trees ≡ Some h.fault) same.now
@@ -69,11 +72,20 @@ closed_refused {R} {G} given came c i o same is refused =
     let own : h.fault ≡ WrongNode → ⊥ = λ e. not_another o.owner given.now.trees o.names (judged (subst IsVerdict (sym e) tt) ∙ ap Some e) in
     inr (o, inl (record { fault = h.fault; numbered = h.numbered; judged = judged }, own))
 
-pub closed_unopened : {R : Type 0} {G : Ghosts R} (given came : State) (c : Closed) (o : IsOwned given) (answer : Result Shown NodeFault) (fault : NodeFault)
-    (adopted back : R) → IsSame given came → c ≡ closed_for fault → answer ≡ Err fault →
+pub closed_unopened : {R S : Type 0} {G : Ghosts R} {g : store.Ghosts S} (held : Held S) (came : State) (c : Closed) (o : IsOwned (state g held)) (answer : Result Shown NodeFault)
+    (fault : NodeFault) (adopted back : R) → IsSame (state g held) came → G.is_honest back → G.is_honest adopted → c ≡ closed_for fault → answer ≡ Err fault →
     IfErr answer (λ e. IsRefused G o.owner.members adopted e back) →
-    (G.is_honest adopted → Began Three came → G.stored adopted ≡ record_at Three came.now.trees) → IsClosed G given c
-closed_unopened {R} {G} given came c o answer fault adopted back same e is refused rows =
+    (G.is_honest adopted → Began Three came → G.stored adopted ≡ record_at Three came.now.trees) → IsClosed G g held c
+closed_unopened {R} {S} {G} {g} held came c o answer fault adopted back same honest was e is refused rows =
     let h : IsRefused G o.owner.members adopted fault back =
     subst (λ (r : Result Shown NodeFault). IfErr r (λ x. IsRefused G o.owner.members adopted x back)) is refused in
-    inr (o, inr (fault, (adopted, (back, (e, (h, λ honest. rows honest (begins_again given came o.began same) ∙ ap (λ (d : Database). record_in d.trees) same.now))))))
+    inr (o, inr (record {
+      fault = fault;
+      numbered = e;
+      given = adopted;
+      back = back;
+      refused = h;
+      honest = honest;
+      was = was;
+      rows = rows was (begins_again (state g held) came o.began same) ∙ ap (λ (d : Database). record_in d.trees) same.now;
+    }))

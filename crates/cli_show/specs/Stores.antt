@@ -11,7 +11,7 @@ use Rattle.px_records.specs.declared.records.Records.{Ghosts}
 use Rattle.px_wire.specs.declared.membership.Membership.{Membership}
 use Rattle.px_replica.specs.Codes.{node_fault_code}
 use Rattle.px_replica.specs.declared.fault.NodeFault.{NodeFault}
-use Rattle.px_store.specs.Adopting.{Began, IsVerdict, code_of}
+use Rattle.px_store.specs.Adopting.{Began, IsUnread, IsVerdict, code_of}
 use Rattle.px_store.specs.Judging.{owner_in, reopen_refusal}
 use Rattle.px_store.specs.declared.calls.Identity.{Identity}
 use Rattle.px_store.specs.declared.formats.Format.TheVariants.{Three}
@@ -20,7 +20,7 @@ use Rattle.px_store.specs.Seen.{record_in}
 use Rattle.px_store.specs.Tables.{schema_3}
 use Rattle.px_store.specs.View.{connection_of}
 use Rattle.px_store.specs.declared.fault.AdoptFault.{AdoptFault}
-use Rattle.px_store.specs.declared.fault.AdoptFault.TheVariants.{StoreVersion, WrongNode}
+use Rattle.px_store.specs.declared.fault.AdoptFault.TheVariants.{Failed, StoreVersion, WrongNode}
 use Rattle.px_store.specs.declared.keeper.SqlRecords.{SqlRecords}
 use Rattle.cli_show.specs.Showing.{ShowsLog, IsRefused}
 use Rattle.cli_show.specs.declared.shown.Shown.{Shown}
@@ -37,7 +37,7 @@ pub record ShowsStore {R : Type 0} (G : Ghosts R) (given : State) (back : R) (w 
 abbrev pub identity_of : Membership → Identity
 identity_of m = record { cluster = m.cluster; members = m.members; node = m.me }
 
--- The store has an owner: it has format 3, and its row names a member.
+-- The store has an owner: it has format 3, outside a transaction, and its row is one that a node of the owner writes.
 -- Example: one of format 2 hasn't, and isn't shown.
 pub record IsOwned (s : State) : Type 0 where
   pub began : Began Three s
@@ -51,7 +51,7 @@ abbrev pub closed_by : (code : Option ℕ) → Closed
 closed_by None = closed.Memory
 closed_by (Some code) = closed.Refused code
 
--- a store that is refused to its owner
+-- a store that is refused, to its owner or as nobody's
 -- Example: 72 of a bad row.
 abbrev pub closed_of : AdoptFault → Closed
 closed_of fault = closed_by (code_of fault)
@@ -63,12 +63,14 @@ closed_for fault = closed_by (node_fault_code fault)
 
 -- ---- which store is refused
 
--- The owner of a store isn't known: it hasn't the tables of format 3 (73), or its row for the whole node names none.
-pub record IsUnowned (s : State) (c : Closed) : Type 0 where
+-- The owner of a store isn't known: it hasn't the tables of format 3 alone (73), or its row for the whole node is refused
+-- (73, 72) or isn't read (70).
+pub record IsUnowned {S : Type 0} (g : store.Ghosts S) (given : Held S) (c : Closed) : Type 0 where
   pub fault : AdoptFault
   pub numbered : c ≡ closed_of fault
-  pub judged : Began Three s → IsVerdict fault → owner_in Three s.now.trees ≡ Err fault
-  pub other : (s.now.schema ≡ schema_3 → ⊥) → fault ≡ StoreVersion
+  pub other : ((state g given).now.schema ≡ schema_3 → ⊥) → fault ≡ StoreVersion
+  pub judged : Began Three (state g given) → IsVerdict fault → owner_in Three (state g given).now.trees ≡ Err fault
+  pub unread : Began Three (state g given) → fault ≡ Failed → IsUnread g given
 
 -- A store of format 3 is refused to this owner: as its rows are, with 72 for a bad one.
 pub record IsRefusedTo (owner : Identity) (s : State) (c : Closed) : Type 0 where
@@ -76,17 +78,23 @@ pub record IsRefusedTo (owner : Identity) (s : State) (c : Closed) : Type 0 wher
   pub numbered : c ≡ closed_of fault
   pub judged : IsVerdict fault → reopen_refusal Three owner s.now.trees ≡ Some fault
 
--- a node of that many members doesn't open the record of these rows: with 72 for a bad entry
-abbrev pub IsUnopened : {R : Type 0} → (G : Ghosts R) → (members : ℕ) → State → Closed → Type 0
-IsUnopened {R} G members s c = (fault : NodeFault) × ((given : R) × ((back : R) × ((c ≡ closed_for fault)
-    × (IsRefused G members given fault back
-    × (G.is_honest given → G.stored given ≡ record_in s.now.trees)))))
+-- A node of that many members doesn't open the record of these rows: with 72 for a bad entry.
+pub record IsUnopened {R : Type 0} (G : Ghosts R) (members : ℕ) (s : State) (c : Closed) : Type 0 where
+  pub fault : NodeFault
+  pub numbered : c ≡ closed_for fault
+  pub given : R
+  pub back : R
+  pub refused : IsRefused G members given fault back
+  pub honest : G.is_honest back
+  pub was : G.is_honest given
+  pub rows : G.stored given ≡ record_in s.now.trees
 
 -- Nothing is shown of a store: its owner isn't known, or its rows are refused to the owner, and not as another node's,
 -- or the record doesn't open.
-abbrev pub IsClosed : {R : Type 0} → (G : Ghosts R) → State → Closed → Type 0
-IsClosed G s c = IsUnowned s c ⊎ ((o : IsOwned s) × (((r : IsRefusedTo o.owner s c) × (r.fault ≢ WrongNode))
-    ⊎ IsUnopened G o.owner.members s c))
+abbrev pub IsClosed : {R S : Type 0} → (G : Ghosts R) → (g : store.Ghosts S) → Held S → Closed → Type 0
+IsClosed G g given c = IsUnowned g given c ⊎ ((o : IsOwned (state g given)) ×
+    (((r : IsRefusedTo o.owner (state g given) c) × (r.fault ≢ WrongNode))
+    ⊎ IsUnopened G o.owner.members (state g given) c))
 
 -- ---- what is left of a store
 
@@ -116,7 +124,7 @@ pub record RefusesFile {S : Type 0} (g : store.Ghosts S) (G : Ghosts (SqlRecords
     (holds : Database → (within : Bool) → Type 0) (is_closed : State → Type 0) (c : Closed) : Type 0 where
   pub given : Held S
   pub back : Held S
-  pub why : HasCleanDisk (state g back) → IsClosed G (state g given) c
+  pub why : HasCleanDisk (state g back) → IsClosed G g given c
   pub leaves : LeavesFile g holds is_closed given back
 
 -- This is shown of the store at a path where databases are opened and closed, or it is refused.

@@ -9,9 +9,9 @@
 //!   same of a node.
 //!
 //! Within: `arguments` has the arguments as `clap` reads them, `wanted` what they ask for, `file` opens the store,
-//! `outcome` has what is written; `pfctl` has pfctl's listings and packets, `logged` the
-//! log, `texts` rulesets for pfctl(8) that give the configuration, `scripts` a script that gives the configuration,
-//! `figures` how far it is.
+//! `store` has whose it is and takes its record, `outcome` has what is written; `pfctl` has pfctl's listings and
+//! packets, `logged` the log, `texts` rulesets for pfctl(8) that give the configuration, `scripts` a script that gives
+//! the configuration, `figures` how far it is.
 //!
 //! # Why
 //!

@@ -23,7 +23,7 @@ use std::alloc::Global;
 /// Why nothing is shown of a store.
 #[derive(Clone, Copy, PartialEq, Eq)]
 pub enum Closed {
-    /// A growth was refused.
+    /// Out of memory.
     Memory,
     /// The number of the refusal: 70 where there is no store, or one that is in use or that the system refuses, 73
     /// where it hasn't format 3, 72 for a bad row.
@@ -55,20 +55,19 @@ fn identity_of(m: Membership) -> Identity
     }
 }
 
-/// Whether a store has the tables of format 3.
+/// Whether a store has the tables of format 3, and nothing else.
 fn is_three<S: Alter>(conn: &Connection<S>) -> bool
     ensures { IsTrue result ↔ ((state S.Store conn.now).now.schema ≡ schema_3) }
 {
     matches!(format_in(conn.schema()), Some(Format::Three))
 }
 
-/// Whose store it is: 73 where it hasn't the tables of format 3, else as its row for the whole node has it. Nothing
-/// differs in the store.
-fn owner_of<S: Alter>(conn: &mut Connection<S>) -> Result<Membership, Closed>
+/// The member whose store it is: 73 unless it has the tables of format 3, and nothing else, then by [`owner_in`].
+fn member_in<S: Alter>(conn: &mut Connection<S>) -> Result<Membership, Closed>
     ensures began { OnOk result (Began Three (state S.Store conn.old)) }
     ensures owner { HasCleanDisk (state S.Store conn.new) → IfOk result (λ m.
         owner_in Three (state S.Store conn.old).now.trees ≡ Ok (identity_of m)) }
-    ensures none { HasCleanDisk (state S.Store conn.new) → IfErr result (IsUnowned (state S.Store conn.old)) }
+    ensures none { HasCleanDisk (state S.Store conn.new) → IfErr result (IsUnowned S.Store conn.old) }
     ensures here { IfOk result (λ m. m.me < m.members) }
     ensures stays { HasCleanDisk (state S.Store conn.new) →
         OnOk result (IsSame (state S.Store conn.old) (state S.Store conn.new)) }
@@ -136,13 +135,13 @@ pub fn show_store<S: Alter + Drop>(
         ShowsStore ⟦<SqlRecords<S> as Records>⟧ (state S.Store conn) r.1 wanted.entry r.0) }
     ensures owned { IfOk result (λ r. ⟦<SqlRecords<S> as Records>⟧.is_honest r.1 → IsOwned (state S.Store conn)) }
     ensures closed { IfErr result (λ e. HasCleanDisk (state S.Store e.1) →
-        IsClosed ⟦<SqlRecords<S> as Records>⟧ (state S.Store conn) e.0) }
+        IsClosed ⟦<SqlRecords<S> as Records>⟧ S.Store conn e.0) }
     ensures stop { IfOk result (λ r. ⟦<SqlRecords<S> as Records>⟧.is_honest r.1 →
         LeavesRecord (state S.Store conn) (state S.Store (connection_of r.1))) }
     ensures left { IfErr result (λ e. HasCleanDisk (state S.Store e.1) →
         LeavesRecord (state S.Store conn) (state S.Store e.1)) }
 {
-    let m = match owner_of(&mut conn) {
+    let m = match member_in(&mut conn) {
         Ok(m) => m,
         Err(closed) => return Err((closed, conn)),
     };

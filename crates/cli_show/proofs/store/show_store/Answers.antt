@@ -10,7 +10,7 @@ use Rattle.cli_show.proofs.store.show_store.Goals as goal
 
 pub returns-in-Ok-shown-clause-shown : goal.returns-in-Ok-shown-clause-shown
 returns-in-Ok-shown-clause-shown g c =
-    shows_store _ (state g.S.Store c.args.conn) (state g.S.Store c.owner_of.new.conn) c.in-Ok-adopted.records
+    shows_store _ (state g.S.Store c.args.conn) (state g.S.Store c.member_in.new.conn) c.in-Ok-adopted.records
     c.show_record-shown.result.1 c.args.wanted c.in-Ok-shown.shown c.show_record-shown.result.0 c.in-Ok.ensures.began c.in-Ok.ensures.stays
     c.in-Ok-adopted.ensures.clean c.in-Ok-adopted.ensures.rows c.show_record-shown.ensures.shows c.in-Ok-shown.is
 
@@ -27,18 +27,19 @@ returns-in-Err-clause-closed g c = λ clean. inl (c.in-Err.ensures.none clean)
 pub returns-in-Err-adopted-clause-closed : goal.returns-in-Err-adopted-clause-closed
 returns-in-Err-adopted-clause-closed g c = λ clean.
     let refused = c.in-Err-adopted.ensures.refused clean in
-    closed_refused (state g.S.Store c.args.conn) (state g.S.Store c.owner_of.new.conn) c.in-Err-adopted.refused.0 c.identity_of.result
+    closed_refused c.args.conn (state g.S.Store c.member_in.new.conn) c.in-Err-adopted.refused.0 c.identity_of.result
     (record { began = c.in-Ok.ensures.began; owner = identity_of c.in-Ok.m; names = c.in-Ok.ensures.owner refused.0 })
     (c.in-Ok.ensures.stays refused.0) c.identity_of.ensures refused.1
 
 pub returns-in-Err-shown-clause-closed : goal.returns-in-Err-shown-clause-closed
 returns-in-Err-shown-clause-closed g c = λ clean.
     let back = subst (λ h. HasCleanDisk (state g.S.Store h)) c.release.ensures clean in
-    let came = c.in-Ok-adopted.ensures.clean (c.show_record-shown.ensures.was back) in
-    closed_unopened (state g.S.Store c.args.conn) (state g.S.Store c.owner_of.new.conn) c.closed_for.result
+    let was = c.show_record-shown.ensures.was back in
+    let came = c.in-Ok-adopted.ensures.clean was in
+    closed_unopened c.args.conn (state g.S.Store c.member_in.new.conn) c.closed_for.result
     (record { began = c.in-Ok.ensures.began; owner = identity_of c.in-Ok.m; names = c.in-Ok.ensures.owner came })
     c.show_record-shown.result.0 c.in-Err-shown.fault c.in-Ok-adopted.records c.show_record-shown.result.1
-    (c.in-Ok.ensures.stays came) c.closed_for.ensures c.in-Err-shown.is c.show_record-shown.ensures.refused c.in-Ok-adopted.ensures.rows
+    (c.in-Ok.ensures.stays came) back was c.closed_for.ensures c.in-Err-shown.is c.show_record-shown.ensures.refused c.in-Ok-adopted.ensures.rows
 
 -- ---- what is left of it
 
@@ -47,17 +48,17 @@ returns-in-Ok-shown-clause-stop g c = λ honest.
     let was = c.show_record-shown.ensures.was honest in
     let came = c.in-Ok-adopted.ensures.clean was in
     leaves_less (state g.S.Store c.args.conn) (state g.S.Store (connection_of c.in-Ok-adopted.records)) (state g.S.Store (connection_of c.show_record-shown.result.1))
-    (leaves_record (state g.S.Store c.args.conn) (state g.S.Store c.owner_of.new.conn) (state g.S.Store (connection_of c.in-Ok-adopted.records)) c.identity_of.result
+    (leaves_record (state g.S.Store c.args.conn) (state g.S.Store c.member_in.new.conn) (state g.S.Store (connection_of c.in-Ok-adopted.records)) c.identity_of.result
     c.in-Ok.ensures.began (c.in-Ok.ensures.stays came) (c.in-Ok.ensures.stop came) (c.in-Ok-adopted.ensures.stop was))
     (c.show_record-shown.ensures.stop honest)
 
 pub returns-in-Err-clause-left : goal.returns-in-Err-clause-left
-returns-in-Err-clause-left g c = λ clean. leaves_old (state g.S.Store c.args.conn) (state g.S.Store c.owner_of.new.conn) (c.in-Err.ensures.stop clean)
+returns-in-Err-clause-left g c = λ clean. leaves_old (state g.S.Store c.args.conn) (state g.S.Store c.member_in.new.conn) (c.in-Err.ensures.stop clean)
 
 pub returns-in-Err-adopted-clause-left : goal.returns-in-Err-adopted-clause-left
 returns-in-Err-adopted-clause-left g c = λ clean.
     let came = (c.in-Err-adopted.ensures.refused clean).0 in
-    leaves_record (state g.S.Store c.args.conn) (state g.S.Store c.owner_of.new.conn) (state g.S.Store c.in-Err-adopted.refused.1) c.identity_of.result
+    leaves_record (state g.S.Store c.args.conn) (state g.S.Store c.member_in.new.conn) (state g.S.Store c.in-Err-adopted.refused.1) c.identity_of.result
     c.in-Ok.ensures.began (c.in-Ok.ensures.stays came) (c.in-Ok.ensures.stop came) (c.in-Err-adopted.ensures.left clean)
 
 pub returns-in-Err-shown-clause-left : goal.returns-in-Err-shown-clause-left
@@ -66,6 +67,6 @@ returns-in-Err-shown-clause-left g c = λ clean.
     let was = c.show_record-shown.ensures.was back in
     let came = c.in-Ok-adopted.ensures.clean was in
     subst (λ h. LeavesRecord (state g.S.Store c.args.conn) (state g.S.Store h)) (sym c.release.ensures) (leaves_less (state g.S.Store c.args.conn) (state g.S.Store (connection_of c.in-Ok-adopted.records)) (state g.S.Store (connection_of c.show_record-shown.result.1))
-    (leaves_record (state g.S.Store c.args.conn) (state g.S.Store c.owner_of.new.conn) (state g.S.Store (connection_of c.in-Ok-adopted.records)) c.identity_of.result
+    (leaves_record (state g.S.Store c.args.conn) (state g.S.Store c.member_in.new.conn) (state g.S.Store (connection_of c.in-Ok-adopted.records)) c.identity_of.result
     c.in-Ok.ensures.began (c.in-Ok.ensures.stays came) (c.in-Ok.ensures.stop came) (c.in-Ok-adopted.ensures.stop was))
     (c.show_record-shown.ensures.stop back))
