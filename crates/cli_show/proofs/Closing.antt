@@ -79,13 +79,16 @@ pub closed_unopened : {R S : Type 0} {G : Ghosts R} {g : store.Ghosts S} (held :
 closed_unopened {R} {S} {G} {g} held came c o answer fault adopted back same honest was e is refused rows =
     let h : IsRefused G o.owner.members adopted fault back =
     subst (λ (r : Result Shown NodeFault). IfErr r (λ x. IsRefused G o.owner.members adopted x back)) is refused in
-    inr (o, inr (record {
-      fault = fault;
-      numbered = e;
-      given = adopted;
-      back = back;
-      refused = h;
-      honest = honest;
-      was = was;
-      rows = rows was (begins_again (state g held) came o.began same) ∙ ap (λ (d : Database). record_in d.trees) same.now;
-    }))
+    inr (
+      o,
+      inr (record {
+        fault = fault;
+        numbered = e;
+        given = adopted;
+        back = back;
+        refused = h;
+        honest = honest;
+        was = was;
+        rows = rows was (begins_again (state g held) came o.began same) ∙ ap (λ (d : Database). record_in d.trees) same.now;
+      }),
+    )

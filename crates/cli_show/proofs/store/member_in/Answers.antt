@@ -12,6 +12,6 @@ returns-in-Err-clause-none g c = λ clean. record {
   judged = λ began verdict. c.in-Err.ensures.refused clean Three began verdict;
   unread = λ began failed. c.in-Err.ensures.unread clean began.auto (ap Err failed);
   other = λ none.
-    let is : (state g.S.Store c.args.conn.now).now.schema ≡ schema_3 = search rules in
-    absurd (none is);
+      let is : (state g.S.Store c.args.conn.now).now.schema ≡ schema_3 = search rules in
+      absurd (none is);
 }
