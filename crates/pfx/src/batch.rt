@@ -64,10 +64,7 @@ fn command<'a>(alloc: Global) -> Result<Command<'a>, AllocError> {
 fn after(written: io::Result<()>, status: Status) -> Status
     ensures { (result ≡ status) ⊎ (result ≡ Status.Failed) }
 {
-    match written {
-        Ok(()) => status,
-        Err(_) => Status::Failed,
-    }
+    written.map_or(Status::Failed, |()| status)
 }
 
 /// Writes a line behind its mark.
@@ -82,9 +79,7 @@ fn set_modes<F: Files>(files: &F, arguments: &[&str]) -> Result<Status, LineFaul
     let [_, _, digits, paths @ ..] = arguments else {
         return Err(BAD_MODE);
     };
-    let Some(mode) = mode_of(digits) else {
-        return Err(BAD_MODE);
-    };
+    let mode = mode_of(digits).ok_or(BAD_MODE)?;
     if paths.is_empty() {
         return Err(BAD_MODE);
     }

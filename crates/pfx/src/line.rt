@@ -51,10 +51,7 @@ fn after_mark<'i>(arguments: &'i [u8], mark: &[u8]) -> (&'i [u8], bool) {
 
 /// The command line that begins this part of a batch, with its input.
 pub(crate) fn line_of<'i>(part: &'i [u8]) -> Line<'i> {
-    let (header, text) = match part.split_once_str(b"\n") {
-        Some(both) => both,
-        None => (part, b"".as_slice()),
-    };
+    let (header, text) = part.split_once_str(b"\n").unwrap_or((part, b""));
     let arguments = header.strip_prefix(b" ").unwrap_or(b"");
     let (arguments, _must_fail) = after_mark(arguments, b"!\t");
     let (arguments, is_piped) = after_mark(arguments, b"|\t");
@@ -73,9 +70,7 @@ fn push<'i>(arguments: &mut Vec<&'i str>, argument: &'i str) -> Result<(), LineF
 
 /// Adds each shared line as an argument, but for empty ones and comments.
 fn push_shared<'i>(arguments: &mut Vec<&'i str>, shared: &'i [u8]) -> Result<(), LineFault> {
-    let Ok(shared) = std::str::from_utf8(shared) else {
-        return Err(NO_TEXT);
-    };
+    let shared = std::str::from_utf8(shared).map_err(|_| NO_TEXT)?;
     for line in shared.lines() {
         if !line.is_empty() && !line.starts_with('#') {
             push(arguments, line)?;
@@ -90,9 +85,7 @@ pub(crate) fn arguments_of<'i>(
     shared: &'i [u8],
     line: &'i [u8],
 ) -> Result<Vec<&'i str>, LineFault> {
-    let Ok(line) = std::str::from_utf8(line) else {
-        return Err(NO_TEXT);
-    };
+    let line = std::str::from_utf8(line).map_err(|_| NO_TEXT)?;
     let mut arguments = Vec::new(alloc);
     push(&mut arguments, "pfx")?;
     for argument in line.split('\t') {
@@ -110,8 +103,7 @@ pub(crate) fn arguments_of<'i>(
 
 /// A file's mode in octal digits.
 pub(crate) fn mode_of(digits: &str) -> Option<u32> {
-    match u32::from_str_radix(digits, 8) {
-        Ok(mode) if mode <= 0o7777 => Some(mode),
-        _ => None,
-    }
+    u32::from_str_radix(digits, 8)
+        .ok()
+        .filter(|mode| *mode <= 0o7777)
 }

@@ -28,10 +28,9 @@ pub(crate) struct Output<W> {
 fn refusal_in(printed: &[u8]) -> Option<u8> {
     let behind = printed.strip_prefix(b"refused ")?;
     let behind = std::str::from_utf8(behind).ok()?;
-    let digits = match behind.split_once(' ') {
-        Some((digits, _)) => digits,
-        None => behind.trim_end(),
-    };
+    let digits = behind
+        .split_once(' ')
+        .map_or(behind.trim_end(), |(digits, _)| digits);
     digits.parse::<u8>().ok()
 }
 

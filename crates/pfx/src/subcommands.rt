@@ -139,10 +139,7 @@ fn help_ask<
 
 /// Writes which program this is.
 fn print_version<W: Write>(writer: &mut W) -> Status {
-    match write_version(writer) {
-        Ok(()) => Status::Done,
-        Err(_) => Status::Failed,
-    }
+    write_version(writer).map_or(Status::Failed, |()| Status::Done)
 }
 
 /// Does what the arguments ask for, as the crate of their subcommand has it. All subcommands but `batch`.
