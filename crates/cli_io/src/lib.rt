@@ -42,7 +42,11 @@ mod writing;
 pub use files::{knock, make_private, open_regular};
 pub use input::{InputFault, read_all};
 pub use lookup::{explain_all, explanation, named};
-pub use numbers::{NO_PACKET, NO_SCRIPT, POSITIONS_SPENT, ROUNDS_SPENT, UNREADABLE, WAITING_FULL};
+pub use numbers::{
+    BAD_ADDRESS, BAD_CONTROL_SOCKET, BAD_INTERFACES, BAD_KEY, BAD_ROW, BAD_SETTINGS, BROKEN_ANSWER,
+    FILE_EXISTS, INVALID_ARGUMENTS, NO_PACKET, NO_SCRIPT, NO_STORE, NOBODY_ANSWERS, NODE_FAILED,
+    POSITIONS_SPENT, ROUNDS_SPENT, STORE_FAILED, UNKNOWN_STORE, UNREADABLE, WAITING_FULL,
+};
 pub use options::{
     Argument, given_in, has_flag, number_in, program_with, value_in, values_in, with_options,
 };

@@ -1,7 +1,9 @@
 //! The table of refusals.
 
 use crate::numbers::{
-    NO_PACKET, NO_SCRIPT, POSITIONS_SPENT, ROUNDS_SPENT, UNREADABLE, WAITING_FULL,
+    BAD_ADDRESS, BAD_CONTROL_SOCKET, BAD_INTERFACES, BAD_KEY, BAD_ROW, BAD_SETTINGS, BROKEN_ANSWER,
+    FILE_EXISTS, INVALID_ARGUMENTS, NO_PACKET, NO_SCRIPT, NO_STORE, NOBODY_ANSWERS, NODE_FAILED,
+    POSITIONS_SPENT, ROUNDS_SPENT, STORE_FAILED, UNKNOWN_STORE, UNREADABLE, WAITING_FULL,
 };
 use crate::paragraph::Explanation;
 
@@ -164,7 +166,7 @@ pub const REFUSALS: [Explanation; 44] = [
             udp alone, an icmp-type as a number.",
     },
     Explanation {
-        code: 40,
+        code: INVALID_ARGUMENTS,
         name: "invalid arguments",
         meaning: "arguments that form no command, another file than -, an unknown line",
         after: COMMAND_STAYS,
@@ -205,7 +207,7 @@ pub const REFUSALS: [Explanation; 44] = [
             ask --script asks of a new cluster.",
     },
     Explanation {
-        code: 70,
+        code: STORE_FAILED,
         name: "store failed",
         meaning: "a store that can't be opened or fails, or is no file; another process\n         \
             has it open",
@@ -222,7 +224,7 @@ pub const REFUSALS: [Explanation; 44] = [
         remedy: "Give --cluster, --me and as many addresses as when the store was made.",
     },
     Explanation {
-        code: 72,
+        code: BAD_ROW,
         name: "bad row in the store",
         meaning: "a store with a row that no node writes, or without its node's row",
         after: STORE_STAYS,
@@ -230,14 +232,14 @@ pub const REFUSALS: [Explanation; 44] = [
             this number on an older copy.",
     },
     Explanation {
-        code: 73,
+        code: UNKNOWN_STORE,
         name: "unknown store",
         meaning: "a store with other tables, or of a later version",
         after: STORE_STAYS,
         remedy: "See that the file is a node's store; run the program that wrote it.",
     },
     Explanation {
-        code: 80,
+        code: NODE_FAILED,
         name: "node failed",
         meaning: "any request to a node whose store failed",
         after: "The node learns and sends nothing more.",
@@ -251,7 +253,7 @@ pub const REFUSALS: [Explanation; 44] = [
         remedy: "Nodes count from 0; the line sent prints the numbers of messages.",
     },
     Explanation {
-        code: 82,
+        code: BAD_ADDRESS,
         name: "bad address",
         meaning: "a malformed address, or one that the system refuses",
         after: "No socket is open, and the store stays as it was.",
@@ -259,7 +261,7 @@ pub const REFUSALS: [Explanation; 44] = [
             family; see that the node's port is free.",
     },
     Explanation {
-        code: 83,
+        code: BAD_KEY,
         name: "bad key file",
         meaning: "a key file: it can't be read or created, isn't 64 hexadecimal digits,\n         \
             or others may read it",
@@ -268,7 +270,7 @@ pub const REFUSALS: [Explanation; 44] = [
             0600).",
     },
     Explanation {
-        code: 84,
+        code: BAD_CONTROL_SOCKET,
         name: "bad control socket",
         meaning: "a control socket: another node answers there, something else is there,\n         \
             or the system refuses the socket",
@@ -277,7 +279,7 @@ pub const REFUSALS: [Explanation; 44] = [
             may write.",
     },
     Explanation {
-        code: 85,
+        code: NOBODY_ANSWERS,
         name: "nobody answers",
         meaning: "a request, since nobody answers at the control socket",
         after: "Nothing was asked.",
@@ -285,7 +287,7 @@ pub const REFUSALS: [Explanation; 44] = [
             may open the socket.",
     },
     Explanation {
-        code: 86,
+        code: BROKEN_ANSWER,
         name: "broken answer",
         meaning: "an answer at a control socket that is cut short, or isn't HTTP",
         after: "The request may have been accepted.",
@@ -308,7 +310,7 @@ pub const REFUSALS: [Explanation; 44] = [
         remedy: "Let fewer anchor rules name one anchor, or nest them less deep.",
     },
     Explanation {
-        code: 89,
+        code: BAD_INTERFACES,
         name: "bad file of interfaces",
         meaning: "a file of interfaces: it can't be read, has a malformed name, a name\n         \
             twice, or more than 1,024",
@@ -332,7 +334,7 @@ pub const REFUSALS: [Explanation; 44] = [
         remedy: "Look by -s at what the store holds, and load it by hand.",
     },
     Explanation {
-        code: 92,
+        code: BAD_SETTINGS,
         name: "bad file of settings",
         meaning: "a node's settings: the file isn't TOML, or has an unknown setting or a\n         \
             value of another type; me, cluster or store is given neither there nor\n         \
@@ -343,7 +345,7 @@ pub const REFUSALS: [Explanation; 44] = [
             example in pfx-node(8).",
     },
     Explanation {
-        code: 93,
+        code: NO_STORE,
         name: "no store",
         meaning: "a node's store that is missing or empty, with settings from a file and\n         \
             without --new",
@@ -353,7 +355,7 @@ pub const REFUSALS: [Explanation; 44] = [
             mounted.",
     },
     Explanation {
-        code: 94,
+        code: FILE_EXISTS,
         name: "file exists",
         meaning: "a file to create that exists: a store with --new, a new key file",
         after: "Nothing is created, and the file stays as it was.",

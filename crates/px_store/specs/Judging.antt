@@ -89,7 +89,8 @@ reopen_refusal f i db = if has_rows (seen meta_columns (db 0) 1) then refusal f 
 
 -- ---- whose a store is
 
--- by the rows for the whole node: 73 for one of another format, 72 for a bad one and unless there is one alone
+-- by the rows for the whole node: 73 where the only one has another format, 72 where it is bad, or where there isn't
+-- exactly one
 -- Example: 1 3 7 3 1 0 0 is node 1 of the 3 members of cluster 7 in format 3; of 1 3 7 3 3 0 0 comes 72. In format 2 73
 -- comes of both.
 abbrev pub owner_in_rows : (format : ℕ) → (meta : List Row) → Result Identity AdoptFault

@@ -67,8 +67,8 @@ pub fn examine<S: Alter>(conn: &mut Connection<S>, identity: Identity) -> Result
     }
 }
 
-/// Whose a store is, by its row for the whole node: 70 in a transaction, or where the database doesn't answer; 73 without
-/// the tables of a format, and nothing else, or where the row has another format; 72 without that row, or for a bad one.
+/// Whose a store is, by its row for the whole node. 70 in a transaction, or where the database doesn't answer; 73 where
+/// the tables aren't exactly those of a format, or the row has another format; 72 where the row is missing, or bad.
 /// Nothing is changed.
 pub fn owner_in<S: Alter>(conn: &mut Connection<S>) -> Result<Identity, AdoptFault>
     ensures known { OnOk result ((f : Format) × Began f (state S.Store conn.old)) }

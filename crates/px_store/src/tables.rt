@@ -287,7 +287,7 @@ pub(crate) fn has_none(schema: &Schema) -> bool
     has_tables_alone(schema) && schema.tables.is_empty()
 }
 
-/// The format of which a schema has the tables, and nothing else.
+/// The format of a schema; none where its tables aren't exactly those of one, or where it has more than tables.
 pub fn format_in(schema: &Schema) -> Option<Format>
     ensures is { IfSome result (λ f. schema.now ≡ schema_at f) }
     ensures all { (f : Format) → schema.now ≡ schema_at f → result ≡ Some f }
