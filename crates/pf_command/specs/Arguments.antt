@@ -6,18 +6,12 @@ use Rattle.pf_rules.specs.Names.{Name}
 use Rattle.pf_entry.specs.Entry.{Address, Command, load, flush_rules, flush_tables, flush_all, add, delete, replace}
 use Rattle.pf_entry.specs.Entry.{flush_table}
 use Rattle.pf_command.specs.Effect.{entry_of}
-use Rattle.pf_show.specs.Shown.{entry_part}
-
--- names with slashes between them
-abbrev pub joined : Path → List ℕ
-joined [] = []
-joined (n ∷ []) = n
-joined (n ∷ m ∷ p) = n ++ 47 ∷ joined (m ∷ p)
+use Rattle.pf_show.specs.Shown.{slashed, spaced_entry}
 
 -- -a PATH; of the main ruleset nothing
 abbrev pub path_words : Path → List ℕ
 path_words [] = []
-path_words (n ∷ p) = (codes "-a " ++ joined (n ∷ p)) ++ codes " "
+path_words (n ∷ p) = codes "-a " ++ slashed (n ∷ p) ++ codes " "
 
 -- -t TABLE -T WORD
 abbrev pub table_words : Path → Name → List ℕ → List ℕ
@@ -25,7 +19,7 @@ table_words p table word = path_words p ++ codes "-t " ++ table ++ codes " -T " 
 
 -- an address, with a blank before it
 abbrev pub address_word : Address → List ℕ
-address_word a = 32 ∷ entry_part (entry_of a)
+address_word a = spaced_entry (entry_of a)
 
 -- a load's text is only counted
 -- Source: pfctl(8). Example: a load of 120 bytes at x: -a x -f - (120).

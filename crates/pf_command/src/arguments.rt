@@ -1,159 +1,99 @@
 //! A command's arguments, as an operator types them.
 
-ghost use Rattle.std.specs.Prelude.{◌≡◌, ◌++◌, ◌∷◌, OnOk, codes, decimal, length, string_bytes};
-ghost use Rattle.std.specs.List.{flat_map};
-ghost use Rattle.pf_show.specs.Shown.{entry_part};
-ghost use Rattle.pf_entry.specs.Owned.{addresses_value, command_value};
-ghost use Rattle.pf_command.specs.Arguments.{joined, path_words, table_words, address_word, command_words};
+ghost use Rattle.std.specs.Prelude.{◌≡◌, Some};
+ghost use Rattle.pf_entry.specs.Owned.{command_value};
+ghost use Rattle.pf_command.specs.Arguments.{path_words, table_words, command_words};
 
-use pf_entry::{Command, Name, TableEntry};
-use std::alloc::{AllocError, Global};
+use pf_entry::{Command, Name, Path, TableName};
+use pf_show::{Entries, Slashed};
+use std::fmt;
 
-/// Puts names behind the text, with slashes between them.
-fn push_joined(out: &mut String, path: &[Name]) -> Result<(), AllocError>
-    ensures { OnOk result (string_bytes out.new ≡ string_bytes out.old ++ joined path.now) }
-{
-    let mut left = path;
-    while let [first, rest @ ..] = left {
-        out.push_str(first.as_str())?;
-        if !rest.is_empty() {
-            out.push('/')?;
+/// `-a PATH` and a blank; of the main ruleset nothing.
+#[derive(Clone, Copy)]
+pub struct PathArguments<'a>(pub &'a [Name]);
+
+impl fmt::Display for PathArguments<'_> {
+    ghost output = { λ p. Some (path_words p.0.now) };
+
+    fn fmt<W: fmt::Write>(&self, f: &mut fmt::Formatter<W>) -> fmt::Result {
+        match self.0 {
+            [] => Ok(()),
+            [_, ..] => write!(f, "-a {} ", Slashed(self.0)),
         }
-        left = rest;
     }
-    Ok(())
 }
 
-/// Puts `-a PATH` behind the text; of the main ruleset nothing.
-pub fn push_path(out: &mut String, path: &[Name]) -> Result<(), AllocError>
-    ensures { OnOk result (string_bytes out.new ≡ string_bytes out.old ++ path_words path.now) }
-{
-    if path.is_empty() {
-        return Ok(());
+/// `-t TABLE -T WORD` at a path.
+#[derive(Clone, Copy)]
+pub struct TableArguments<'a> {
+    /// The path.
+    pub path: &'a [Name],
+    /// The table.
+    pub table: &'a str,
+    /// What is done with it.
+    pub word: &'a str,
+}
+
+impl fmt::Display for TableArguments<'_> {
+    ghost output = { λ t. Some (table_words t.path.now t.table.now t.word.now) };
+
+    fn fmt<W: fmt::Write>(&self, f: &mut fmt::Formatter<W>) -> fmt::Result {
+        let path = PathArguments(self.path);
+        write!(f, "{path}-t {} -T {}", self.table, self.word)
     }
-    out.push_str("-a ")?;
-    push_joined(out, path)?;
-    out.push(' ')
 }
 
-/// Puts `-t TABLE -T WORD` behind the text.
-fn push_table(out: &mut String, path: &[Name], table: &str, word: &str) -> Result<(), AllocError>
-    ensures { OnOk result (string_bytes out.new
-        ≡ string_bytes out.old ++ table_words path.now table.now word.now) }
-{
-    push_path(out, path)?;
-    out.push_str("-t ")?;
-    out.push_str(table)?;
-    out.push_str(" -T ")?;
-    out.push_str(word)
-}
+/// A command's arguments, without `pfctl`; a load's text is only counted.
+#[derive(Clone, Copy)]
+pub struct CommandArguments<'a>(pub &'a Command);
 
-/// Puts an address behind the text, with a blank before it.
-fn push_address(alloc: Global, out: &mut String, entry: &TableEntry) -> Result<(), AllocError>
-    ensures { OnOk result (string_bytes out.new ≡ string_bytes out.old ++ (32 ∷ entry_part entry.now)) }
+/// The arguments for a table of a path.
+fn on<'a>(path: &'a Path, table: &'a TableName, word: &'a str) -> TableArguments<'a>
+    ensures { table_words result.path.now result.table.now result.word.now
+        ≡ table_words path.entry.now table.entry.now word.entry.now }
 {
-    out.push(' ')?;
-    if entry.negated {
-        out.push('!')?;
+    TableArguments {
+        path: path.names(),
+        table: table.as_str(),
+        word,
     }
-    let shown = entry.prefix.to_string(alloc)?;
-    out.push_str(shown.as_str())
 }
 
-/// Puts addresses behind the text, each with a blank before it.
-fn push_addresses(alloc: Global, out: &mut String, list: &[TableEntry]) -> Result<(), AllocError>
-    ensures { OnOk result (string_bytes out.new
-        ≡ string_bytes out.old ++ flat_map address_word (addresses_value list.now)) }
-{
-    for entry in list {
-        push_address(alloc, out, entry)?;
-    }
-    Ok(())
-}
+impl fmt::Display for CommandArguments<'_> {
+    ghost output = { λ c. Some (command_words (command_value c.0.now)) };
 
-/// Puts `-f - (BYTES)` behind the text.
-fn push_load(alloc: Global, out: &mut String, path: &[Name], text: &[u8]) -> Result<(), AllocError>
-    ensures { OnOk result (string_bytes out.new ≡ string_bytes out.old
-        ++ (path_words path.now ++ codes "-f - (" ++ decimal (length text.now) ++ codes ")")) }
-{
-    push_path(out, path)?;
-    out.push_str("-f - (")?;
-    let shown = (text.len() as u64).to_string(alloc)?;
-    out.push_str(shown.as_str())?;
-    out.push(')')
-}
-
-/// Puts a flush behind the text.
-fn push_flush(out: &mut String, path: &[Name], word: &str) -> Result<(), AllocError>
-    ensures { OnOk result (string_bytes out.new ≡ string_bytes out.old ++ (path_words path.now ++ word.now)) }
-{
-    push_path(out, path)?;
-    out.push_str(word)
-}
-
-/// Puts a change of a table's entries behind the text.
-fn push_change(
-    alloc: Global,
-    out: &mut String,
-    path: &[Name],
-    table: &str,
-    word: &str,
-    list: &[TableEntry],
-) -> Result<(), AllocError>
-    ensures { OnOk result (string_bytes out.new ≡ string_bytes out.old
-        ++ (table_words path.now table.now word.now ++ flat_map address_word (addresses_value list.now))) }
-{
-    push_table(out, path, table, word)?;
-    push_addresses(alloc, out, list)
-}
-
-/// Appends a command's arguments to the text, without `pfctl`; a load's text is only counted.
-pub fn push_command(alloc: Global, out: &mut String, command: &Command) -> Result<(), AllocError>
-    ensures { OnOk result (string_bytes out.new ≡ string_bytes out.old ++ command_words (command_value command.now)) }
-{
-    match command {
-        Command::Load { path, text, .. } => push_load(alloc, out, path.names(), text),
-        Command::FlushRules { path } => push_flush(out, path.names(), "-F rules"),
-        Command::FlushTables { path } => push_flush(out, path.names(), "-F Tables"),
-        Command::FlushAll { path } => push_flush(out, path.names(), "-F all"),
-        Command::Add {
-            path,
-            table,
-            addresses,
-        } => push_change(
-            alloc,
-            out,
-            path.names(),
-            table.as_str(),
-            "add",
-            &addresses.items,
-        ),
-        Command::Delete {
-            path,
-            table,
-            addresses,
-        } => push_change(
-            alloc,
-            out,
-            path.names(),
-            table.as_str(),
-            "delete",
-            &addresses.items,
-        ),
-        Command::Replace {
-            path,
-            table,
-            addresses,
-        } => push_change(
-            alloc,
-            out,
-            path.names(),
-            table.as_str(),
-            "replace",
-            addresses,
-        ),
-        Command::FlushTable { path, table } => {
-            push_table(out, path.names(), table.as_str(), "flush")
+    #[tactic(auto, using(crate::proofs::Arguments::addresses_are))]
+    fn fmt<W: fmt::Write>(&self, f: &mut fmt::Formatter<W>) -> fmt::Result {
+        match self.0 {
+            Command::Load { path, text, .. } => {
+                write!(f, "{}-f - ({})", PathArguments(path.names()), text.len())
+            }
+            Command::FlushRules { path } => write!(f, "{}-F rules", PathArguments(path.names())),
+            Command::FlushTables { path } => write!(f, "{}-F Tables", PathArguments(path.names())),
+            Command::FlushAll { path } => write!(f, "{}-F all", PathArguments(path.names())),
+            Command::Add {
+                path,
+                table,
+                addresses,
+            } => { write!(f, "{}{}", on(path, table, "add"), Entries(&addresses.items)) }
+            Command::Delete {
+                path,
+                table,
+                addresses,
+            } => {
+                write!(
+                    f,
+                    "{}{}",
+                    on(path, table, "delete"),
+                    Entries(&addresses.items)
+                )
+            }
+            Command::Replace {
+                path,
+                table,
+                addresses,
+            } => { write!(f, "{}{}", on(path, table, "replace"), Entries(addresses)) }
+            Command::FlushTable { path, table } => write!(f, "{}", on(path, table, "flush")),
         }
     }
 }

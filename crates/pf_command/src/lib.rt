@@ -4,8 +4,8 @@
 //!
 //! - [`apply`] changes a configuration by a command, as it is in an entry's bytes, and counts what was added to a table
 //!   and went from it: [`Applied`], or [`ApplyFault`].
-//! - [`push_command`]: a command in pfctl's arguments, without `pfctl`, a load's ruleset counted alone; [`push_path`]:
-//!   the option for a path.
+//! - [`CommandArguments`]: a command in pfctl's arguments, without `pfctl`, a load's ruleset counted alone;
+//!   [`TableArguments`] and [`PathArguments`]: the options for a table and for a path.
 //! - Of the crates below: [`Command`], [`Entry`] and their bytes (`pf_entry`); [`pfctl_args`], [`from_matches`] and the
 //!   [`Action`] that arguments ask for (`pf_arguments`).
 //! - `specs/Effect` is what is to be believed: `effect`, a command's change or its refusal, and `after`, the
@@ -28,7 +28,7 @@ mod counts;
 mod fault;
 mod laws;
 
-pub use arguments::{push_command, push_path};
+pub use arguments::{CommandArguments, PathArguments, TableArguments};
 pub use commands::{Applied, apply};
 pub use fault::ApplyFault;
 pub use laws::a_log_goes_on;

@@ -4,8 +4,8 @@ use Rattle.std.specs.List.{flat_map}
 use Rattle.pf_rules.specs.declared.ruleset.TableDef.{TableDef}
 use Rattle.pf_rules.specs.declared.ruleset.TableEntry.{TableEntry}
 use Rattle.pf_rules.specs.Rulesets.{TableValue, table_of}
-use Rattle.pf_show.specs.Shown.{Part, entry_part, entries_parts, word_parts, table_sign, table_parts, table_lines, more_parts, line}
-use Rattle.pf_show.specs.inner.Spaced.{spaced, spaced_entry, table_line}
+use Rattle.pf_show.specs.Shown.{Part, entry_part, entries_parts, word_parts, table_sign, table_parts, table_lines, more_parts, line, spaced_entry}
+use Rattle.pf_show.specs.inner.Spaced.{spaced, table_line}
 use Rattle.pf_show.proofs.Spacing.{spaced_append, more_is}
 
 -- entries behind blanks, and the brace behind them

@@ -1,2 +1,3 @@
+pub mod Seen
 pub mod Shown
 pub mod inner

@@ -268,6 +268,10 @@ skip_line (name ∷ names) = line (codes "set" ∷ codes "skip" ∷ codes "on" �
 abbrev pub entry_part : TableEntry → Part
 entry_part e = negated_part e.negated (shown_prefix e.prefix)
 
+-- an entry behind a blank
+abbrev pub spaced_entry : TableEntry → List ℕ
+spaced_entry e = 32 ∷ entry_part e
+
 -- { e e }, where there is a list
 abbrev pub entries_parts : Option (List TableEntry) → List Part
 entries_parts None = []

@@ -29,7 +29,7 @@ impl fmt::Display for SlashNames<'_> {
 
 /// Names between slashes.
 #[derive(Clone, Copy)]
-struct Slashed<'a>(&'a [Name]);
+pub struct Slashed<'a>(pub &'a [Name]);
 
 impl fmt::Display for Slashed<'_> {
     ghost output = { λ n. Some (slashed n.0.now) };

@@ -3,6 +3,8 @@
 //! # Organization
 //!
 //! - [`show`] and [`show_items`] write a ruleset or its rules in one form, a line for each rule.
+//! - [`SkipLine`], [`TableLine`], [`Entries`], [`Entry`], [`Slashed`]: parts of that form by themselves, which are
+//!   shown by `write!`.
 //!
 //! Within: `items` writes rules and blocks, `tables` tables.
 //!
@@ -16,4 +18,6 @@ mod items;
 mod shown;
 mod tables;
 
-pub use shown::{show, show_items};
+pub use items::Slashed;
+pub use shown::{SkipLine, show, show_items};
+pub use tables::{Entries, Entry, TableLine};

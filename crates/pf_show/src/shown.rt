@@ -499,7 +499,7 @@ impl fmt::Display for Names<'_> {
 
 /// The line of what is skipped, if anything is.
 #[derive(Clone, Copy)]
-struct SkipLine<'a>(&'a [InterfaceName]);
+pub struct SkipLine<'a>(pub &'a [InterfaceName]);
 
 impl fmt::Display for SkipLine<'_> {
     ghost output = { λ n. Some (skip_line n.0.now) };

@@ -1,19 +1,20 @@
 //! Tables as text: a line for each.
 
-ghost use Rattle.std.specs.Prelude.{Some};
-ghost use Rattle.pf_show.specs.Shown.{entries_parts, word_parts};
-ghost use Rattle.pf_show.specs.inner.Spaced.{spaced, spaced_entry, table_line};
+ghost use Rattle.std.specs.Prelude.{◌≡◌, Some, option_map};
+ghost use Rattle.std.specs.List.{flat_map};
+ghost use Rattle.pf_rules.specs.Rulesets.{table_of};
+ghost use Rattle.pf_show.specs.Shown.{entries_parts, line, spaced_entry, table_parts, word_parts};
+ghost use Rattle.pf_show.specs.Seen.{table_in};
+ghost use Rattle.pf_show.specs.inner.Spaced.{spaced, table_line};
 
 use pf_rules::{TableDef, TableEntry};
 use std::fmt;
 
 /// Entries, each behind a blank.
 #[derive(Clone, Copy)]
-struct Entries<'a>(&'a [TableEntry]);
+pub struct Entries<'a>(pub &'a [TableEntry]);
 
 impl fmt::Display for Entries<'_> {
-    ghost use Rattle.std.specs.List.{flat_map};
-
     ghost output = { λ e. Some (flat_map spaced_entry e.0.now) };
 
     fn fmt<W: fmt::Write>(&self, f: &mut fmt::Formatter<W>) -> fmt::Result {
@@ -26,7 +27,7 @@ impl fmt::Display for Entries<'_> {
 
 /// An entry behind a blank.
 #[derive(Clone, Copy)]
-struct Entry(TableEntry);
+pub struct Entry(pub TableEntry);
 
 impl fmt::Display for Entry {
     ghost output = { λ e. Some (spaced_entry e.0) };
@@ -42,12 +43,10 @@ impl fmt::Display for Entry {
 
 /// The list of entries behind a blank, if there is one.
 #[derive(Clone, Copy)]
-struct EntriesParts<'a>(&'a Option<Vec<TableEntry>>);
+struct EntriesParts<'a>(Option<&'a [TableEntry]>);
 
 impl fmt::Display for EntriesParts<'_> {
-    ghost use Rattle.std.specs.Prelude.{option_map};
-
-    ghost output = { λ e. Some (spaced (entries_parts (option_map (λ v. v.items) e.0.now))) };
+    ghost output = { λ e. Some (spaced (entries_parts (option_map (λ v. v.now) e.0))) };
 
     #[tactic(auto, using(crate::proofs::TableSpacing::entries_are))]
     fn fmt<W: fmt::Write>(&self, f: &mut fmt::Formatter<W>) -> fmt::Result {
@@ -77,26 +76,47 @@ impl fmt::Display for WordPart<'_> {
     }
 }
 
-/// The line of a table.
+/// The line that defines a table.
 #[derive(Clone, Copy)]
-struct TableLine<'a>(&'a TableDef);
+pub struct TableLine<'a> {
+    /// Its name.
+    pub name: &'a str,
+    /// Whether it stays where no rule refers to it.
+    pub persist: bool,
+    /// Whether no command changes its entries.
+    pub is_const: bool,
+    /// Its entries, if they are listed.
+    pub entries: Option<&'a [TableEntry]>,
+}
 
 impl fmt::Display for TableLine<'_> {
-    ghost output = { λ t. Some (table_line t.0.now) };
+    ghost output = { λ t. Some (line (table_parts (table_in t))) };
 
     #[tactic(auto, using(crate::proofs::TableSpacing::table_line_is))]
     fn fmt<W: fmt::Write>(&self, f: &mut fmt::Formatter<W>) -> fmt::Result {
-        let name = self.0.name.as_str();
+        let name = self.name;
         let persist = WordPart {
-            said: self.0.persist,
+            said: self.persist,
             word: "persist",
         };
         let is_const = WordPart {
-            said: self.0.is_const,
+            said: self.is_const,
             word: "const",
         };
-        let entries = EntriesParts(&self.0.entries);
+        let entries = EntriesParts(self.entries);
         writeln!(f, "table <{name}>{persist}{is_const}{entries}")
+    }
+}
+
+/// The line of a table of a ruleset.
+fn line_of(table: &TableDef) -> TableLine<'_>
+    ensures { table_in result ≡ table_of table.now }
+{
+    TableLine {
+        name: table.name.as_str(),
+        persist: table.persist,
+        is_const: table.is_const,
+        entries: table.entries.as_deref(),
     }
 }
 
@@ -105,13 +125,11 @@ impl fmt::Display for TableLine<'_> {
 pub(crate) struct TableLines<'a>(pub(crate) &'a [TableDef]);
 
 impl fmt::Display for TableLines<'_> {
-    ghost use Rattle.std.specs.List.{flat_map};
-
     ghost output = { λ t. Some (flat_map table_line t.0.now) };
 
     fn fmt<W: fmt::Write>(&self, f: &mut fmt::Formatter<W>) -> fmt::Result {
         for table in self.0 {
-            write!(f, "{}", TableLine(table))?;
+            write!(f, "{}", line_of(table))?;
         }
         Ok(())
     }

@@ -6,8 +6,7 @@ use Rattle.pf_rules.specs.declared.parts.PortTest.{PortTest}
 use Rattle.pf_rules.specs.declared.item.Item.{Item}
 use Rattle.pf_rules.specs.Seen.{item_of, rule_of}
 use Rattle.pf_rules.specs.Names.{Name}
-use Rattle.pf_show.specs.Shown.{Part, rule_parts, line, entry_part, table_parts, any_rule_line, shown_item}
-use Rattle.pf_rules.specs.declared.ruleset.TableEntry.{TableEntry}
+use Rattle.pf_show.specs.Shown.{Part, rule_parts, line, table_parts, any_rule_line, shown_item}
 use Rattle.pf_rules.specs.declared.ruleset.TableDef.{TableDef}
 use Rattle.pf_rules.specs.Rulesets.{table_of}
 
@@ -44,10 +43,6 @@ item_text item = shown_item (item_of item)
 -- a name behind a slash
 abbrev pub slash_name : Name → List ℕ
 slash_name name = 47 ∷ name
-
--- an entry behind a blank
-abbrev pub spaced_entry : TableEntry → List ℕ
-spaced_entry e = 32 ∷ entry_part e
 
 -- the line of a table
 abbrev pub table_line : TableDef → List ℕ

@@ -1,7 +1,7 @@
 use Rattle.std.proofs.Common.{take}
 use Rattle.std.specs.Fmt.{HasWritten, IsPlainFormatter}
 use Rattle.std.specs.List.{flat_map}
-use Rattle.pf_show.specs.inner.Spaced.{spaced_entry}
+use Rattle.pf_show.specs.Shown.{spaced_entry}
 use Rattle.pf_show.proofs.tables.EntriesDisplay.fmt.Given as goal
 
 -- what is written so far is what was gone past
