@@ -2,4 +2,4 @@ pub mod Counting
 pub mod Contents
 pub mod Applying
 pub mod Log
-pub mod Arguments
+pub mod EntryTexts

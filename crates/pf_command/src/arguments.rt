@@ -62,7 +62,7 @@ fn on<'a>(path: &'a Path, table: &'a TableName, word: &'a str) -> TableArguments
 impl fmt::Display for CommandArguments<'_> {
     ghost output = { λ c. Some (command_words (command_value c.0.now)) };
 
-    #[tactic(auto, using(crate::proofs::Arguments::addresses_are))]
+    #[tactic(auto, using(crate::proofs::EntryTexts::addresses_are))]
     fn fmt<W: fmt::Write>(&self, f: &mut fmt::Formatter<W>) -> fmt::Result {
         match self.0 {
             Command::Load { path, text, .. } => {

@@ -12,7 +12,7 @@ ghost use Rattle.pf_scripts.specs.Seen.{printed_value};
 ghost use Rattle.pf_scripts.specs.inner.Seen.{Does, rows_matched};
 
 use crate::pfctl::matches_in;
-use crate::printing::{Printed, push_number};
+use crate::printing::Printed;
 use crate::reading::read_matches;
 use crate::words_read::WordsRead;
 use clap::ArgMatches;
@@ -21,6 +21,7 @@ use pf_command::{Applied, ApplyFault, apply};
 use pf_config::Config;
 use pf_entry::BadEntry;
 use std::alloc::{AllocError, Global};
+use std::fmt::Write;
 
 /// Whether a command's counts are printed: it changes one table.
 pub fn is_counted(command: &CommandView) -> bool
@@ -39,23 +40,15 @@ pub fn is_counted(command: &CommandView) -> bool
 }
 
 /// Puts `ok` behind the output, with counts where they are printed.
-pub fn push_counts(
-    alloc: Global,
-    out: &mut String,
-    counts: bool,
-    applied: Applied,
-) -> Result<(), AllocError>
+pub fn push_counts(out: &mut String, counts: bool, applied: Applied) -> Result<(), AllocError>
     ensures { OnOk result (string_bytes out.new
         ≡ string_bytes out.old ++ counts_line counts applied.added applied.removed) }
 {
-    out.push_str("ok")?;
     if counts {
-        out.push(' ')?;
-        push_number(alloc, out, applied.added as u64)?;
-        out.push(' ')?;
-        push_number(alloc, out, applied.removed as u64)?;
+        writeln!(out, "ok {} {}", applied.added, applied.removed).map_err(|_| AllocError)
+    } else {
+        out.push_str("ok\n")
     }
-    out.push('\n')
 }
 
 /// What is printed of a change that was made.
@@ -63,7 +56,7 @@ fn made(alloc: Global, counts: bool, applied: Applied) -> Result<Printed, AllocE
     ensures { IfOk result (λ p. printed_value p ≡ Lines (counts_line counts applied.added applied.removed)) }
 {
     let mut line = String::new(alloc);
-    push_counts(alloc, &mut line, counts, applied)?;
+    push_counts(&mut line, counts, applied)?;
     Ok(Printed::Lines(line))
 }
 

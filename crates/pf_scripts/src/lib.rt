@@ -7,7 +7,7 @@
 //!   it asks for; [`list`]: what an action lists.
 //! - For scripts of other kinds: [`cut_line`] and [`words_in`] cut; [`takes_text`] and [`Waiting`] are of the text
 //!   after a line of pfctl's arguments, [`matches_in`], [`file_in`] and [`is_standard`] of those arguments;
-//!   [`push_line`], [`push_number`], [`push_counts`], [`push_refusal`] and [`test_packet`] print.
+//!   [`push_line`], [`push_counts`], [`push_refusal`] and [`test_packet`] print.
 //!
 //! Within: `lines` cuts scripts and lines, `order` and `listing` are what is listed, `pfctl` is a line of pfctl's
 //! arguments as `clap` reads it, `reading` what it asks for, a value of `words_read`, `acting` what it does, `stepping`
@@ -43,7 +43,7 @@ pub use acting::{is_counted, push_counts};
 pub use lines::{Line, cut_line, push_bytes, spaced, texts, words_in};
 pub use listing::list;
 pub use pfctl::{file_in, is_standard, matches_in, takes_text};
-pub use printing::{Printed, push_line, push_number, push_refusal};
+pub use printing::{Printed, push_line, push_refusal};
 pub use reading::{read_change, read_words};
 pub use running::ctl;
 pub use stepping::test_packet;

@@ -1,11 +1,12 @@
 //! What lines print.
 
-ghost use Rattle.std.specs.Prelude.{◌≡◌, ◌++◌, OnOk, string_bytes, codes, decimal};
+ghost use Rattle.std.specs.Prelude.{◌≡◌, ◌++◌, OnOk, string_bytes};
 ghost use Rattle.pf_scripts.specs.Lines.{line, refused_line};
 ghost use Rattle.pf_scripts.specs.Ctl.{text_of};
 ghost use Rattle.pf_scripts.specs.Seen.{printed_value};
 
-use std::alloc::{AllocError, AllocFailed, Global};
+use std::alloc::AllocError;
+use std::fmt::Write;
 
 /// What a line of a script prints.
 #[derive(Drop)]
@@ -20,38 +21,26 @@ pub enum Printed {
 pub fn push_line(out: &mut String, shown: &str) -> Result<(), AllocError>
     ensures { OnOk result (string_bytes out.new ≡ string_bytes out.old ++ line shown.now) }
 {
-    out.push_str(shown)?;
-    out.push('\n')
-}
-
-/// Puts a number behind the text.
-pub fn push_number(alloc: Global, out: &mut String, n: u64) -> Result<(), AllocError>
-    ensures { OnOk result (string_bytes out.new ≡ string_bytes out.old ++ decimal n) }
-{
-    let shown = n.to_string(alloc)?;
-    out.push_str(shown.as_str())
+    writeln!(out, "{shown}").map_err(|_| AllocError)
 }
 
 /// Puts a refusal behind the text: its number, and the line of a refused text, 0 where there is none.
-pub fn push_refusal(alloc: Global, out: &mut String, code: u8, at: u64) -> Result<(), AllocError>
+pub fn push_refusal(out: &mut String, code: u8, at: u64) -> Result<(), AllocError>
     ensures { OnOk result (string_bytes out.new ≡ string_bytes out.old ++ refused_line code at) }
 {
-    out.push_str("refused ")?;
-    push_number(alloc, out, u64::from(code))?;
-    if at != 0 {
-        out.push_str(" line ")?;
-        push_number(alloc, out, at)?;
+    if at == 0 {
+        return writeln!(out, "refused {code}").map_err(|_| AllocError);
     }
-    out.push('\n')
+    writeln!(out, "refused {code} line {at}").map_err(|_| AllocError)
 }
 
 impl Printed {
     /// Puts it behind the text.
-    pub fn push_to(&self, alloc: Global, out: &mut String) -> Result<(), AllocError>
+    pub fn push_to(&self, out: &mut String) -> Result<(), AllocError>
         ensures { OnOk result (string_bytes out.new ≡ string_bytes out.old ++ text_of (printed_value self.now)) }
     {
         match self {
-            Printed::Refused(code, at) => push_refusal(alloc, out, *code, *at),
+            Printed::Refused(code, at) => push_refusal(out, *code, *at),
             Printed::Lines(text) => out.push_str(text.as_str()),
         }
     }

@@ -15,7 +15,7 @@ ghost use Rattle.pf_scripts.specs.inner.Seen.{rows_matched};
 
 use crate::listing::list;
 use crate::pfctl::{file_in, is_standard, matches_in};
-use crate::printing::{Printed, push_line};
+use crate::printing::Printed;
 use crate::words_read::{ChangeFault, WordsRead};
 use clap::ArgMatches;
 use pf_arguments::{Action, Command, USAGE, from_matches};
@@ -75,9 +75,8 @@ fn check_text(alloc: Global, path: &[Name], text: &[u8]) -> Result<WordsRead, Al
 {
     match parse(alloc, text, place_at(path), Profile::Two) {
         Ok(_rules) => {
-            let mut out = String::new(alloc);
-            push_line(&mut out, "ok")?;
-            Ok(WordsRead::Printed(Printed::Lines(out)))
+            let ok = String::from_str(alloc, "ok\n")?;
+            Ok(WordsRead::Printed(Printed::Lines(ok)))
         }
         Err(ParseFault::Memory) => Err(AllocError),
         Err(ParseFault::Refused(refusal)) => Ok(refused(refusal.cause.code(), refusal.line)),
