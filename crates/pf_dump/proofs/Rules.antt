@@ -13,7 +13,7 @@ use Rattle.pf_config.specs.Map.{Configuration, Path, rules_at}
 use Rattle.pf_dump.specs.Texts.{Text, text_paths}
 use Rattle.pf_dump.specs.Seen.{text_of}
 use Rattle.pf_dump.specs.declared.path_texts.PathText.{PathText}
-use Rattle.pf_dump.specs.Written.{skip_text, skip_word, without_name, anchor_front, rules_behind, rules_text, text_at, texts_of}
+use Rattle.pf_dump.specs.Written.{without_name, anchor_front, rules_behind, rules_text, text_at, texts_of}
 
 -- the line of one rule
 pub line_one : (x : Item) → shown_items (map rule_of (x ∷ [])) ≡ any_rule_line (rule_of x)
@@ -45,20 +45,6 @@ without_some name text rest h =
 
 pub without_none : (name text : List ℕ) → FindsTextPrefix (anchor_front name) text None → without_name name text ≡ text
 without_none name text h = rw (absent (anchor_front name) text h) refl
-
--- ---- what was appended piece by piece
-
-pub two : (o a b x y : List ℕ) → x ≡ o ++ a → y ≡ x ++ b → y ≡ o ++ (a ++ b)
-two o a b x y e f = f ∙ ap (λ w. w ++ b) e ∙ append_assoc o a b
-
-pub three : (o a b d x y z : List ℕ) → x ≡ o ++ a → y ≡ x ++ b → z ≡ y ++ d → z ≡ o ++ (a ++ b ++ d)
-three o a b d x y z e f g = two o (a ++ b) d y z (two o a b x y e f) g
-
--- ---- skipped interfaces
-
-pub skip_some : (names : List Name) → 1 ≤ length names → skip_text names ≡ codes "set skip on {" ++ flat_map skip_word names ++ codes " }\n"
-skip_some [] h = absurd (omega (arith, h))
-skip_some (n ∷ ns) h = refl
 
 -- ---- depths
 

@@ -6,9 +6,10 @@ use Rattle.std.specs.List.{flat_map, list_any}
 use Rattle.std.specs.Str.{trim_end}
 use Rattle.pf_rules.specs.Names.{Name}
 use Rattle.pf_rules.specs.Items.{Target, Heading, AnyRule, FilterRule, AnchorRule}
+use Rattle.pf_rules.specs.Rulesets as rulesets
 use Rattle.pf_rules.specs.declared.ruleset.TableEntry.{TableEntry}
 use Rattle.pf_tables.specs.Tables.{TableValue}
-use Rattle.pf_show.specs.Shown.{entry_part, any_rule_line}
+use Rattle.pf_show.specs.Shown.{any_rule_line, line, skip_line, spaced_entry, table_parts}
 use Rattle.pf_config.specs.Map.{Configuration, Path, path_eq, rules_at, table_names, table_at}
 use Rattle.pf_entry.specs.Entry.{Command, load}
 use Rattle.pf_command.specs.Arguments.{path_words, table_words, command_words}
@@ -16,27 +17,19 @@ use Rattle.pf_dump.specs.Texts.{Text, text_paths}
 
 -- ---- tables
 
--- a keyword, if it is given
-abbrev pub if_said : Bool → List ℕ → List ℕ
-if_said said word = if said then word else []
-
--- an entry, with a blank before it
-abbrev pub entry_word : TableEntry → List ℕ
-entry_word e = 32 ∷ entry_part e
-
-abbrev pub entry_words : List TableEntry → List ℕ
-entry_words entries = flat_map entry_word entries
-
--- the list of a table's entries, where they are listed
-abbrev pub listed_text : Bool → List TableEntry → List ℕ
-listed_text listed entries = if listed then codes " {" ++ entry_words entries ++ codes " }" else []
+-- a table of this name as its line has it: with its entries, if they are listed
+abbrev pub defined : (listed : Bool) → Name → TableValue → rulesets.TableValue
+defined listed name t = record {
+  name = name;
+  persist = t.persist;
+  is_const = t.is_const;
+  entries = if listed then Some t.entries else None;
+}
 
 -- the line that defines a table
 -- Example: table <t> persist { 10.0.0.0/8 }
 abbrev pub table_text : (listed : Bool) → Name → TableValue → List ℕ
-table_text listed name t =
-    codes "table <" ++ name ++ codes ">" ++ if_said t.persist (codes " persist") ++
-    if_said t.is_const (codes " const") ++ listed_text listed t.entries ++ codes "\n"
+table_text listed name t = line (table_parts (defined listed name t))
 
 abbrev pub table_text_if : (listed : Bool) → Name → Option TableValue → List ℕ
 table_text_if listed name None = []
@@ -45,16 +38,6 @@ table_text_if listed name (Some t) = table_text listed name t
 -- the lines that define the tables of a path
 abbrev pub tables_text : (listed : Bool) → Configuration → Path → List ℕ
 tables_text listed c p = flat_map (λ (n : Name). table_text_if listed n (table_at c p n)) (table_names c p)
-
--- ---- skipped interfaces
-
-abbrev pub skip_word : Name → List ℕ
-skip_word name = 32 ∷ name
-
--- set skip on { a b }
-abbrev pub skip_text : List Name → List ℕ
-skip_text [] = []
-skip_text (n ∷ ns) = codes "set skip on {" ++ flat_map skip_word (n ∷ ns) ++ codes " }\n"
 
 -- ---- rules
 
@@ -154,7 +137,7 @@ rules_text (suc d) hidden c p = rules_behind (rules_text d true c) c p hidden []
 -- ---- the text of a path
 
 abbrev pub skip_at : Configuration → Path → List ℕ
-skip_at c [] = skip_text c.skip
+skip_at c [] = skip_line c.skip
 skip_at c (n ∷ p) = []
 
 -- the skipped interfaces of main, the tables, with their entries if they are listed, and the rules
@@ -200,8 +183,8 @@ table_command p name word = codes "pfctl " ++ table_words p name word
 abbrev pub addresses_text : Path → Name → (room : ℕ) → List TableEntry → List ℕ
 addresses_text p name room [] = codes "\n"
 addresses_text p name zero (e ∷ es) =
-    codes "\n" ++ table_command p name (codes "add") ++ entry_word e ++ addresses_text p name 1599 es
-addresses_text p name (suc room) (e ∷ es) = entry_word e ++ addresses_text p name room es
+    codes "\n" ++ table_command p name (codes "add") ++ spaced_entry e ++ addresses_text p name 1599 es
+addresses_text p name (suc room) (e ∷ es) = spaced_entry e ++ addresses_text p name room es
 
 -- the commands that give a table its entries: a replacement, and where they are too many additions
 abbrev pub entries_lines : Path → Name → List TableEntry → List ℕ

@@ -6,7 +6,7 @@
 //!   one of a log's commands.
 //! - [`gives`]: whether a script, done on an empty configuration, gives a configuration.
 //! - [`texts`]: rulesets for pfctl(8), one for each path, that give a configuration; a [`PathText`] is loaded by `pfctl
-//!   -a PATH -f -`, the option for its path by [`pf_command::push_path`].
+//!   -a PATH -f -`, the option for its path by [`pf_command::PathArguments`].
 //! - [`is_same`]: whether two configurations skip the same interfaces, and have the same rules and tables at the same
 //!   paths.
 //!

@@ -9,12 +9,14 @@ ghost use Rattle.pf_dump.specs.Written.{entries_lines_if, all_entries_lines, pat
 ghost use Rattle.pf_dump.specs.Written.{words_line};
 
 use crate::path_texts::text_paths;
-use crate::text::{push_entry, push_text};
+use crate::text::push_text;
 use pf_arguments::Command;
-use pf_command::{push_command, push_path};
+use pf_command::{CommandArguments, PathArguments, TableArguments};
 use pf_config::{Config, Table};
 use pf_rules::{Name, TableEntry};
+use pf_show::Entry;
 use std::alloc::{AllocError, Global};
+use std::fmt::Write;
 
 /// How many bytes a ruleset has at most, so that an entry has room for it.
 const TEXT_MAX: usize = 32_000;
@@ -44,9 +46,7 @@ fn push_load(
 ) -> Result<(), AllocError>
     ensures { OnOk result (script.new.items ≡ script.old.items ++ load_lines path.now text.now) }
 {
-    let mut line = String::from_str(alloc, "pfctl ")?;
-    push_path(&mut line, path)?;
-    line.push_str("-f -\n")?;
+    let line = format!(in alloc; "pfctl {}-f -\n", PathArguments(path))?;
     script.extend_from_slice(line.as_bytes())?;
     script.extend_from_slice(text)?;
     if is_open(text) {
@@ -69,28 +69,21 @@ pub fn push_change(alloc: Global, script: &mut Vec<u8>, command: &Command) -> Re
 fn push_words(alloc: Global, script: &mut Vec<u8>, command: &Command) -> Result<(), AllocError>
     ensures { OnOk result (script.new.items ≡ script.old.items ++ words_line (command_value command.now)) }
 {
-    let mut line = String::from_str(alloc, "pfctl ")?;
-    push_command(alloc, &mut line, command)?;
-    line.push('\n')?;
+    let line = format!(in alloc; "pfctl {}\n", CommandArguments(command))?;
     script.extend_from_slice(line.as_bytes())
 }
 
 /// Puts a command on a table behind the text, up to its addresses.
-fn push_begin(out: &mut String, path: &[Name], name: &str, word: &str) -> Result<(), AllocError>
+fn push_begin(out: &mut String, path: &[Name], table: &str, word: &str) -> Result<(), AllocError>
     ensures { OnOk result (string_bytes out.new
-        ≡ string_bytes out.old ++ table_command path.now name.now word.now) }
+        ≡ string_bytes out.old ++ table_command path.now table.now word.now) }
 {
-    out.push_str("pfctl ")?;
-    push_path(out, path)?;
-    out.push_str("-t ")?;
-    out.push_str(name)?;
-    out.push_str(" -T ")?;
-    out.push_str(word)
+    let begin = TableArguments { path, table, word };
+    write!(out, "pfctl {begin}").map_err(|_| AllocError)
 }
 
 /// Puts addresses behind the text, with a new command where one has no room for more.
 fn push_addresses(
-    alloc: Global,
     out: &mut String,
     path: &[Name],
     name: &str,
@@ -107,7 +100,7 @@ fn push_addresses(
             push_begin(out, path, name, "add")?;
             room = ADDRESSES;
         }
-        push_entry(alloc, out, entry)?;
+        write!(out, "{}", Entry(*entry)).map_err(|_| AllocError)?;
         room -= 1;
         left = rest;
     }
@@ -127,7 +120,7 @@ fn push_entries(
     let entries = table.gathered(alloc)?;
     let mut line = String::new(alloc);
     push_begin(&mut line, path, name, "replace")?;
-    push_addresses(alloc, &mut line, path, name, &entries)?;
+    push_addresses(&mut line, path, name, &entries)?;
     script.extend_from_slice(line.as_bytes())
 }
 

@@ -1,23 +1,22 @@
 //! The text of a path.
 
 ghost use Rattle.std.specs.Prelude.{◌≡◌, ◌++◌, ◌≤◌, IfOk, OnOk, map, option_map, string_bytes};
-ghost use Rattle.std.specs.List.{flat_map};
 ghost use Rattle.std.specs.Option.{option_copied};
 ghost use Rattle.pf_rules.specs.Seen.{heading_of, rule_of, target_of};
 ghost use Rattle.pf_show.specs.Shown.{any_rule_line};
 ghost use Rattle.pf_config.specs.Map as configs;
 ghost use Rattle.pf_dump.specs.Written as text;
-ghost use Rattle.pf_dump.specs.Written.{if_said, entry_word, entry_words, listed_text, table_text, table_text_if};
-ghost use Rattle.pf_dump.specs.Written.{tables_text, skip_word, skip_text, heading_in, block_name, is_on};
+ghost use Rattle.pf_dump.specs.Written.{table_text, table_text_if, tables_text, heading_in, block_name, is_on};
 ghost use Rattle.pf_dump.specs.Written.{unnamed_in, has_rules, without_name, heading_text, rules_text, skip_at};
 ghost use Rattle.pf_dump.specs.Written.{path_text};
 ghost use Rattle.pf_dump.specs.inner.Seen.{opens_of};
 
 use crate::same_rules::same_names;
 use pf_config::{Config, Table};
-use pf_rules::{AnchorHeading, InterfaceName, Item, Name, TableEntry};
-use pf_show::show_items;
+use pf_rules::{AnchorHeading, Item, Name};
+use pf_show::{SkipLine, TableLine, show_items};
 use std::alloc::{AllocError, Global};
+use std::fmt::Write;
 use std::slice;
 
 /// How deep rulesets are in one another at most: a path has at most 8 names.
@@ -46,86 +45,6 @@ impl Opens<'_> {
     }
 }
 
-/// Appends a keyword to the text, if it is given.
-fn push_if(out: &mut String, said: bool, word: &str) -> Result<(), AllocError>
-    ensures { OnOk result (string_bytes out.new ≡ string_bytes out.old ++ if_said said word.now) }
-{
-    if said {
-        return out.push_str(word);
-    }
-    Ok(())
-}
-
-/// Puts names behind the text, each with a blank before it.
-fn push_names(out: &mut String, names: &[InterfaceName]) -> Result<(), AllocError>
-    ensures { OnOk result (string_bytes out.new ≡ string_bytes out.old ++ flat_map skip_word names.now) }
-{
-    for name in names {
-        out.push(' ')?;
-        out.push_str(name.as_str())?;
-    }
-    Ok(())
-}
-
-/// Puts the line of the skipped interfaces behind the text, if there are any.
-fn push_skip(out: &mut String, names: &[InterfaceName]) -> Result<(), AllocError>
-    ensures { OnOk result (string_bytes out.new ≡ string_bytes out.old ++ skip_text names.now) }
-{
-    match names {
-        [] => Ok(()),
-        [_, ..] => {
-            out.push_str("set skip on {")?;
-            push_names(out, names)?;
-            out.push_str(" }\n")?;
-            Ok(())
-        }
-    }
-}
-
-/// Puts an entry behind the text, with a blank before it.
-pub(crate) fn push_entry(
-    alloc: Global,
-    out: &mut String,
-    entry: &TableEntry,
-) -> Result<(), AllocError>
-    ensures { OnOk result (string_bytes out.new ≡ string_bytes out.old ++ entry_word entry.now) }
-{
-    out.push(' ')?;
-    if entry.negated {
-        out.push('!')?;
-    }
-    let shown = entry.prefix.to_string(alloc)?;
-    out.push_str(shown.as_str())
-}
-
-/// Puts entries behind the text, each with a blank before it.
-fn push_entries(alloc: Global, out: &mut String, entries: &[TableEntry]) -> Result<(), AllocError>
-    ensures { OnOk result (string_bytes out.new ≡ string_bytes out.old ++ entry_words entries.now) }
-{
-    for entry in entries {
-        push_entry(alloc, out, entry)?;
-    }
-    Ok(())
-}
-
-/// Puts a table's entries in braces behind the text, if they are listed.
-fn push_listed(
-    alloc: Global,
-    out: &mut String,
-    table: &Table,
-    is_listed: bool,
-) -> Result<(), AllocError>
-    ensures { OnOk result (string_bytes out.new ≡ string_bytes out.old ++ listed_text is_listed table.now.entries) }
-{
-    if !is_listed {
-        return Ok(());
-    }
-    let entries = table.gathered(alloc)?;
-    out.push_str(" {")?;
-    push_entries(alloc, out, &entries)?;
-    out.push_str(" }")
-}
-
 /// Puts the line that defines a table behind the text, with its entries if they are listed.
 fn push_table(
     alloc: Global,
@@ -136,13 +55,18 @@ fn push_table(
 ) -> Result<(), AllocError>
     ensures { OnOk result (string_bytes out.new ≡ string_bytes out.old ++ table_text is_listed name.now table.now) }
 {
-    out.push_str("table <")?;
-    out.push_str(name)?;
-    out.push('>')?;
-    push_if(out, table.persist(), " persist")?;
-    push_if(out, table.is_const(), " const")?;
-    push_listed(alloc, out, table, is_listed)?;
-    out.push('\n')
+    let entries = if is_listed {
+        Some(table.gathered(alloc)?)
+    } else {
+        None
+    };
+    let line = TableLine {
+        name,
+        persist: table.persist(),
+        is_const: table.is_const(),
+        entries: entries.as_deref(),
+    };
+    write!(out, "{line}").map_err(|_| AllocError)
 }
 
 /// The same where there may be none.
@@ -331,11 +255,7 @@ fn push_without(alloc: Global, out: &mut String, name: &Name, line: &str) -> Res
     let text = name.as_str();
     let front = format!(in alloc; "anchor \"{text}\"")?;
     match line.strip_prefix(front.as_str()) {
-        Some(rest) => {
-            out.push_str("anchor")?;
-            out.push_str(rest)?;
-            Ok(())
-        }
+        Some(rest) => write!(out, "anchor{rest}").map_err(|_| AllocError),
         None => out.push_str(line),
     }
 }
@@ -408,7 +328,7 @@ fn push_skip_at(out: &mut String, config: &Config, path: &[Name]) -> Result<(), 
     ensures { OnOk result (string_bytes out.new ≡ string_bytes out.old ++ skip_at config.now path.now) }
 {
     match path {
-        [] => push_skip(out, config.skip()),
+        [] => write!(out, "{}", SkipLine(config.skip())).map_err(|_| AllocError),
         [_, ..] => Ok(()),
     }
 }

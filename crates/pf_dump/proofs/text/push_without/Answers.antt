@@ -1,7 +1,7 @@
-use Rattle.std.proofs.Common.{◌≡◌, ◌++◌, ◌∙◌, None, sym, ap, codes, string_bytes, subst, rules}
+use Rattle.std.proofs.Common.{◌≡◌, ◌++◌, None, codes, subst, rules}
 use Rattle.std.specs.Str.Pattern.{FindsTextPrefix, StripsPrefix}
 use Rattle.pf_dump.specs.Written.{anchor_front, without_name}
-use Rattle.pf_dump.proofs.Rules.{without_some, without_none, two}
+use Rattle.pf_dump.proofs.Rules.{without_some, without_none}
 use Rattle.pf_dump.proofs.text.push_without.Goals as goal
 
 pub returns-in-Some : goal.returns-in-Some
@@ -10,7 +10,7 @@ returns-in-Some c =
     let e : without_name c.args.name.now c.args.line.now ≡ codes "anchor" ++ c.in-Some.rest.now =
     without_some c.args.name.now c.args.line.now c.in-Some.rest.now
     (subst (λ p. StripsPrefix (FindsTextPrefix p) c.args.line.now c.in-Some.rest.now) same c.in-Some.ensures.cases) in
-    two _ _ _ _ _ c.in_ok-push_str-in-Some.ensures.bytes c.in_ok-push_str-in-Some-2.ensures.bytes ∙ ap (λ s. string_bytes c.args.out.now ++ s) (sym e)
+    search (rules, e)
 
 pub returns : goal.returns
 returns c =
