@@ -16,7 +16,6 @@ use pf_config::{Config, Table};
 use pf_rules::{Name, TableEntry};
 use pf_show::Entry;
 use std::alloc::{AllocError, Global};
-use std::fmt::Write;
 
 /// How many bytes a ruleset has at most, so that an entry has room for it.
 const TEXT_MAX: usize = 32_000;
@@ -79,7 +78,7 @@ fn push_begin(out: &mut String, path: &[Name], table: &str, word: &str) -> Resul
         ≡ string_bytes out.old ++ table_command path.now table.now word.now) }
 {
     let begin = TableArguments { path, table, word };
-    write!(out, "pfctl {begin}").map_err(|_| AllocError)
+    write!(out, "pfctl {begin}")
 }
 
 /// Puts addresses behind the text, with a new command where one has no room for more.
@@ -100,7 +99,7 @@ fn push_addresses(
             push_begin(out, path, name, "add")?;
             room = ADDRESSES;
         }
-        write!(out, "{}", Entry(*entry)).map_err(|_| AllocError)?;
+        write!(out, "{}", Entry(*entry))?;
         room -= 1;
         left = rest;
     }

@@ -16,7 +16,6 @@ use pf_config::{Config, Table};
 use pf_rules::{AnchorHeading, Item, Name};
 use pf_show::{SkipLine, TableLine, show_items};
 use std::alloc::{AllocError, Global};
-use std::fmt::Write;
 use std::slice;
 
 /// How deep rulesets are in one another at most: a path has at most 8 names.
@@ -66,7 +65,7 @@ fn push_table(
         is_const: table.is_const(),
         entries: entries.as_deref(),
     };
-    write!(out, "{line}").map_err(|_| AllocError)
+    write!(out, "{line}")
 }
 
 /// The same where there may be none.
@@ -255,7 +254,7 @@ fn push_without(alloc: Global, out: &mut String, name: &Name, line: &str) -> Res
     let text = name.as_str();
     let front = format!(in alloc; "anchor \"{text}\"")?;
     match line.strip_prefix(front.as_str()) {
-        Some(rest) => write!(out, "anchor{rest}").map_err(|_| AllocError),
+        Some(rest) => write!(out, "anchor{rest}"),
         None => out.push_str(line),
     }
 }
@@ -328,7 +327,7 @@ fn push_skip_at(out: &mut String, config: &Config, path: &[Name]) -> Result<(), 
     ensures { OnOk result (string_bytes out.new ≡ string_bytes out.old ++ skip_at config.now path.now) }
 {
     match path {
-        [] => write!(out, "{}", SkipLine(config.skip())).map_err(|_| AllocError),
+        [] => write!(out, "{}", SkipLine(config.skip())),
         [_, ..] => Ok(()),
     }
 }

@@ -21,7 +21,6 @@ use pf_command::{Applied, ApplyFault, apply};
 use pf_config::Config;
 use pf_entry::BadEntry;
 use std::alloc::{AllocError, Global};
-use std::fmt::Write;
 
 /// Whether a command's counts are printed: it changes one table.
 pub fn is_counted(command: &CommandView) -> bool
@@ -45,7 +44,7 @@ pub fn push_counts(out: &mut String, counts: bool, applied: Applied) -> Result<(
         ≡ string_bytes out.old ++ counts_line counts applied.added applied.removed) }
 {
     if counts {
-        writeln!(out, "ok {} {}", applied.added, applied.removed).map_err(|_| AllocError)
+        writeln!(out, "ok {} {}", applied.added, applied.removed)
     } else {
         out.push_str("ok\n")
     }

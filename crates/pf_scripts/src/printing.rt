@@ -6,7 +6,6 @@ ghost use Rattle.pf_scripts.specs.Ctl.{text_of};
 ghost use Rattle.pf_scripts.specs.Seen.{printed_value};
 
 use std::alloc::AllocError;
-use std::fmt::Write;
 
 /// What a line of a script prints.
 #[derive(Drop)]
@@ -21,7 +20,7 @@ pub enum Printed {
 pub fn push_line(out: &mut String, shown: &str) -> Result<(), AllocError>
     ensures { OnOk result (string_bytes out.new ≡ string_bytes out.old ++ line shown.now) }
 {
-    writeln!(out, "{shown}").map_err(|_| AllocError)
+    writeln!(out, "{shown}")
 }
 
 /// Puts a refusal behind the text: its number, and the line of a refused text, 0 where there is none.
@@ -29,9 +28,9 @@ pub fn push_refusal(out: &mut String, code: u8, at: u64) -> Result<(), AllocErro
     ensures { OnOk result (string_bytes out.new ≡ string_bytes out.old ++ refused_line code at) }
 {
     if at == 0 {
-        return writeln!(out, "refused {code}").map_err(|_| AllocError);
+        return writeln!(out, "refused {code}");
     }
-    writeln!(out, "refused {code} line {at}").map_err(|_| AllocError)
+    writeln!(out, "refused {code} line {at}")
 }
 
 impl Printed {
