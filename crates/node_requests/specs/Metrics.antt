@@ -10,7 +10,6 @@ use Rattle.node_requests.specs.declared.health.Health.{Health}
 use Rattle.node_requests.specs.declared.health.Health.TheVariants.{Works, Behind, Alone, Stuck, Failed}
 use Rattle.node_requests.specs.declared.metrics.PeerFigure.{PeerFigure}
 use Rattle.node_requests.specs.declared.metrics.PeerFigure.TheVariants.{Heard, In, Out}
-use Rattle.node_requests.specs.Status.{words}
 
 -- ---- lines
 
@@ -22,16 +21,12 @@ heading kind name help =
 
 -- a metric with one number
 abbrev pub metric : (kind name help : Text) → ℕ → List ℕ
-metric kind name help value = heading kind name help ++ line (words [] ((name, Some value) ∷ []))
-
--- {LABEL="OF"}
-unfoldable pub labelled : (label of : Text) → List ℕ
-labelled label of = codes "{" ++ label ++ codes "=\"" ++ of ++ codes "\"} "
+metric kind name help value = heading kind name help ++ line (name ++ codes " " ++ decimal value)
 
 -- the number of a peer, or of whatever a label names
 -- Example: pfx_datagrams_in_total{peer="2"} 88140.
 unfoldable pub sample : (name label of : Text) → ℕ → List ℕ
-sample name label of value = line (name ++ labelled label of ++ decimal value)
+sample name label of value = line (name ++ codes "{" ++ label ++ codes "=\"" ++ of ++ codes "\"} " ++ decimal value)
 
 -- metrics of one kind: the name of each, what it is for, and its number
 abbrev pub metrics_of : (kind : Text) → List (Text × Text × ℕ) → List ℕ

@@ -11,17 +11,12 @@ use pf_scripts::{list, push_refusal};
 use std::alloc::{AllocError, Global};
 
 /// What is answered: HTTP's status, and the body, which is what an operator reads.
+#[derive(Drop)]
 pub struct Answer {
     /// HTTP's status (RFC 9110, 15).
     pub code: u16,
     /// The body: lines, each with its newline.
     pub body: String,
-}
-
-impl Drop for Answer {
-    fn drop(self) {
-        let Answer { code: _, body: _ } = self;
-    }
 }
 
 /// HTTP's status for the number of a refusal: 404 no such table, 413 too long, 429 too many wait, 503 nothing is
@@ -54,7 +49,7 @@ impl Answer {
         ensures { IfOk result (λ a. answer_value a ≡ refused code at) }
     {
         let mut body = String::new(alloc);
-        push_refusal(alloc, &mut body, code, at)?;
+        push_refusal(&mut body, code, at)?;
         Ok(Answer {
             code: status_of(code),
             body,

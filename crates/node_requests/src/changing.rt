@@ -1,14 +1,13 @@
 //! A change is one ask, or a refusal.
 
-ghost use Rattle.std.specs.Prelude.{◌≡◌, IfOk, string_bytes};
+ghost use Rattle.std.specs.Prelude.{◌≡◌, IfOk};
 ghost use Rattle.pf_entry.specs.Owned.{command_value};
 ghost use Rattle.node_requests.specs.Answers.{answer_value};
-ghost use Rattle.node_requests.specs.Changing.{Changes, AskedOnce, has_position, refused_by, asked_line, change_answer};
+ghost use Rattle.node_requests.specs.Changing.{Changes, AskedOnce, has_position, refused_by, change_answer};
 
 use crate::answer::Answer;
 use crate::figures::positions_left;
 use pf_node::{Command, Node, NodeFault};
-use pf_scripts::push_number;
 use px_records::Records;
 use std::alloc::{AllocError, Global};
 
@@ -63,19 +62,6 @@ pub(crate) fn change_node<R: Records>(node: &mut Node<R>, command: &Command) -> 
     ask_once(node, command)
 }
 
-/// `asked N.NUMBER`
-fn asked_line(alloc: Global, origin: u8, number: u64) -> Result<String, AllocError>
-    ensures { IfOk result (λ s. string_bytes s ≡ asked_line origin number) }
-{
-    let mut body = String::new(alloc);
-    body.push_str("asked ")?;
-    push_number(alloc, &mut body, u64::from(origin))?;
-    body.push('.')?;
-    push_number(alloc, &mut body, number)?;
-    body.push('\n')?;
-    Ok(body)
-}
-
 impl Changed {
     /// The answer to a change: 202 where it was accepted, else the refusal.
     pub fn to_answer(self, alloc: Global) -> Result<Answer, AllocError>
@@ -83,7 +69,8 @@ impl Changed {
     {
         match self {
             Changed::Asked(origin, number) => {
-                let body = asked_line(alloc, origin, number)?;
+                let mut body = String::new(alloc);
+                writeln!(body, "asked {origin}.{number}")?;
                 Ok(Answer { code: 202, body })
             }
             Changed::Refused(code) => Answer::refused(alloc, code, 0),

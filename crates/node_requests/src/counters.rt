@@ -16,6 +16,7 @@ pub struct PeerCounters {
 }
 
 /// What the loop counted, by the clock that nobody sets.
+#[derive(Drop)]
 pub struct Counters {
     /// Whole seconds since the node started.
     pub up: u64,
@@ -49,26 +50,4 @@ pub struct Counters {
     pub refused: u64,
     /// See `served`.
     pub unavailable: u64,
-}
-
-impl Drop for Counters {
-    fn drop(self) {
-        let Counters {
-            up: _,
-            peers: _,
-            stood: _,
-            outrun: _,
-            large: _,
-            members: _,
-            unsent: _,
-            dropped: _,
-            ignored: _,
-            turns: _,
-            ticks: _,
-            clients: _,
-            served: _,
-            refused: _,
-            unavailable: _,
-        } = self;
-    }
 }

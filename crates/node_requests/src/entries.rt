@@ -8,6 +8,7 @@ ghost use Rattle.node_requests.specs.EntryLines.{entry_line, line_shown, lines_b
 use crate::answer::Answer;
 use crate::positions::push_position;
 use pf_node::Node;
+use pf_scripts::push_line;
 use px_records::Records;
 use std::alloc::{AllocError, Global};
 
@@ -39,8 +40,7 @@ fn push_entry<R: Records>(
     match node.learned(position) {
         Some(bytes) => {
             let digits = hex::encode(alloc, bytes)?;
-            out.push_str(digits.as_str())?;
-            out.push('\n')
+            push_line(out, digits.as_str())
         }
         None => Ok(()),
     }

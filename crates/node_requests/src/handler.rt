@@ -7,6 +7,7 @@ use px_records::Records;
 use std::alloc::Global;
 
 /// A node at which operators ask. A turn borrows the node; what is asked comes between two turns.
+#[derive(Drop)]
 pub struct RequestHandler<R: Records> {
     /// The node.
     pub node: Node<R>,
@@ -29,16 +30,5 @@ impl<R: Records> RequestHandler<R> {
             alloc: _,
         } = self;
         node
-    }
-}
-
-impl<R: Records + Drop> Drop for RequestHandler<R> {
-    fn drop(self) {
-        let RequestHandler {
-            node: _,
-            is_stopping: _,
-            accepted: _,
-            alloc: _,
-        } = self;
     }
 }

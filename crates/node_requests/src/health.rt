@@ -8,7 +8,6 @@ ghost use Rattle.node_requests.specs.Health.{ready_code, counted, health, health
 use crate::answer::Answer;
 use crate::counters::{Counters, PeerCounters};
 use pf_node::Node;
-use pf_scripts::push_line;
 use px_records::Records;
 use std::alloc::{AllocError, Global};
 
@@ -117,23 +116,17 @@ impl Health {
     pub(crate) fn health_answer(self, alloc: Global) -> Result<Answer, AllocError>
         ensures { IfOk result (λ a. answer_value a ≡ health_answer self) }
     {
-        let mut body = String::new(alloc);
-        push_line(&mut body, self.word())?;
-        Ok(Answer {
-            code: self.health_code(),
-            body,
-        })
+        let code = self.health_code();
+        let body = format!(in alloc; "{}\n", self.word())?;
+        Ok(Answer { code, body })
     }
 
     /// Whether it is up with the others.
     pub(crate) fn ready_answer(self, alloc: Global) -> Result<Answer, AllocError>
         ensures { IfOk result (λ a. answer_value a ≡ ready_answer self) }
     {
-        let mut body = String::new(alloc);
-        push_line(&mut body, self.word())?;
-        Ok(Answer {
-            code: self.ready_code(),
-            body,
-        })
+        let code = self.ready_code();
+        let body = format!(in alloc; "{}\n", self.word())?;
+        Ok(Answer { code, body })
     }
 }

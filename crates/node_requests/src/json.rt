@@ -1,8 +1,8 @@
 //! A node's status as JSON (RFC 8259).
 
 ghost use Rattle.std.specs.Prelude.{◌≡◌, ◌++◌, IfOk, OnOk, map, string_bytes};
-ghost use Rattle.node_requests.specs.Answers.{answer_value, shown};
 ghost use Rattle.node_requests.specs.StatusJson.{members, peers_json, status_json};
+ghost use Rattle.node_requests.specs.Answers.{answer_value, shown};
 
 use crate::answer::Answer;
 use crate::counters::{Counters, PeerCounters};
@@ -15,21 +15,15 @@ use std::alloc::{AllocError, Global};
 
 /// Puts figures as members of an object behind the output, `first` before the first.
 #[tactic(auto, unfolding(crate::specs::StatusJson::members))]
-fn push_members(
-    alloc: Global,
-    out: &mut String,
-    first: &str,
-    rows: &[Row],
-) -> Result<(), AllocError>
+fn push_members(out: &mut String, first: &str, rows: &[Row]) -> Result<(), AllocError>
     ensures { OnOk result (string_bytes out.new
         ≡ string_bytes out.old ++ members first.now (map (λ r. (r.0.now, r.1)) rows.now)) }
 {
-    push_rows(alloc, out, ",\"", "\":", "null", first, rows)
+    push_rows(out, ",\"", "\":", "null", first, rows)
 }
 
 /// Peers as objects, `first` before the first and `between` before each other.
 fn push_peers(
-    alloc: Global,
     out: &mut String,
     first: &str,
     between: &str,
@@ -40,7 +34,7 @@ fn push_peers(
 {
     let mut before = first;
     for peer in peers {
-        push_members(alloc, out, before, &peer_rows("node", peer))?;
+        push_members(out, before, &peer_rows("node", peer))?;
         out.push('}')?;
         before = between;
     }
@@ -57,18 +51,15 @@ pub(crate) fn status_json(
     ensures { IfOk result (λ a. answer_value a ≡ shown (status_json f.now h t.now)) }
 {
     let mut body = String::new(alloc);
-    push_members(alloc, &mut body, "{\"", &identity(f, t.up, "members"))?;
-    push_members(alloc, &mut body, ",\"", &progress(f))?;
-    push_members(alloc, &mut body, ",\"", &sizes(f))?;
+    push_members(&mut body, "{\"", &identity(f, t.up, "members"))?;
+    push_members(&mut body, ",\"", &progress(f))?;
+    push_members(&mut body, ",\"", &sizes(f))?;
     body.push_str(",\"peers\":[")?;
-    push_peers(alloc, &mut body, "{\"", ",{\"", &t.peers)?;
-    push_members(alloc, &mut body, "],\"", &losses(t))?;
-    push_members(alloc, &mut body, ",\"", &control(t))?;
-    body.push_str(",\"health\":\"")?;
-    body.push_str(h.word())?;
-    push_members(alloc, &mut body, "\",\"", &stall(t))?;
-    body.push_str(",\"store\":\"")?;
-    body.push_str(store_word(f.has_failed))?;
-    body.push_str("\"}\n")?;
-    Ok(Answer { code: 200, body })
+    push_peers(&mut body, "{\"", ",{\"", &t.peers)?;
+    push_members(&mut body, "],\"", &losses(t))?;
+    push_members(&mut body, ",\"", &control(t))?;
+    write!(body, ",\"health\":\"{}", h.word())?;
+    push_members(&mut body, "\",\"", &stall(t))?;
+    writeln!(body, ",\"store\":\"{}\"}}", store_word(f.has_failed))?;
+    Ok(Answer::shown(body))
 }

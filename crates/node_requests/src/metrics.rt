@@ -1,8 +1,8 @@
 //! Numbers for Prometheus, in its text format 0.0.4.
 
 ghost use Rattle.std.specs.Prelude.{◌≡◌, ◌++◌, IfOk, OnOk, map, string_bytes};
-ghost use Rattle.node_requests.specs.Metrics.{heading, labelled, sample, metrics_of, samples_of, figure_of};
-ghost use Rattle.node_requests.specs.Metrics.{bit, is_at, node_metrics, health_metrics, config_metrics, loop_metrics};
+ghost use Rattle.node_requests.specs.Metrics.{heading, metrics_of, samples_of, figure_of};
+ghost use Rattle.node_requests.specs.Metrics.{is_at, node_metrics, health_metrics, config_metrics, loop_metrics};
 ghost use Rattle.node_requests.specs.Metrics.{control_metrics, peer_heading, peers_of, metrics_text};
 ghost use Rattle.node_requests.specs.Answers.{answer_value, shown};
 
@@ -10,8 +10,6 @@ use crate::answer::Answer;
 use crate::counters::{Counters, PeerCounters};
 use crate::figures::Figures;
 use crate::health::Health;
-use crate::status::push_figures;
-use pf_scripts::{push_line, push_number};
 use std::alloc::{AllocError, Global};
 
 /// Puts what a metric is for, and its kind, behind the output.
@@ -20,67 +18,24 @@ fn push_heading(out: &mut String, kind: &str, name: &str, help: &str) -> Result<
     ensures { OnOk result (string_bytes out.new
         ≡ string_bytes out.old ++ heading kind.now name.now help.now) }
 {
-    out.push_str("# HELP ")?;
-    out.push_str(name)?;
-    out.push(' ')?;
-    push_line(out, help)?;
-    out.push_str("# TYPE ")?;
-    out.push_str(name)?;
-    out.push(' ')?;
-    push_line(out, kind)
+    write!(out, "# HELP {name} {help}\n# TYPE {name} {kind}\n")
 }
 
 /// Puts metrics of one kind behind the output.
-fn push_metrics(
-    alloc: Global,
-    out: &mut String,
-    kind: &str,
-    rows: &[(&str, &str, u64)],
-) -> Result<(), AllocError>
+fn push_metrics(out: &mut String, kind: &str, rows: &[(&str, &str, u64)]) -> Result<(), AllocError>
     ensures { OnOk result (string_bytes out.new
         ≡ string_bytes out.old ++ metrics_of kind.now (map (λ r. (r.0.now, r.1.now, r.2)) rows.now)) }
 {
     for (name, help, value) in rows {
         push_heading(out, kind, name, help)?;
-        push_figures(alloc, out, "", &[(*name, Some(*value))])?;
+        writeln!(out, "{name} {value}")?;
     }
     Ok(())
 }
 
-/// Puts a label behind the output.
-#[tactic(auto, unfolding(crate::specs::Metrics::labelled))]
-fn push_label(out: &mut String, label: &str, of: &str) -> Result<(), AllocError>
-    ensures { OnOk result (string_bytes out.new ≡ string_bytes out.old ++ labelled label.now of.now) }
-{
-    out.push('{')?;
-    out.push_str(label)?;
-    out.push_str("=\"")?;
-    out.push_str(of)?;
-    out.push_str("\"} ")
-}
-
-/// Puts the number of one of several behind the output.
-#[tactic(auto, unfolding(crate::specs::Metrics::sample))]
-fn push_sample(
-    alloc: Global,
-    out: &mut String,
-    name: &str,
-    label: &str,
-    of: &str,
-    value: u64,
-) -> Result<(), AllocError>
-    ensures { OnOk result (string_bytes out.new
-        ≡ string_bytes out.old ++ sample name.now label.now of.now value) }
-{
-    out.push_str(name)?;
-    push_label(out, label, of)?;
-    push_number(alloc, out, value)?;
-    out.push('\n')
-}
-
 /// Puts one metric of several numbers behind the output.
+#[tactic(auto, unfolding(crate::specs::Metrics::sample))]
 fn push_samples(
-    alloc: Global,
     out: &mut String,
     kind: &str,
     name: &str,
@@ -93,7 +48,7 @@ fn push_samples(
 {
     push_heading(out, kind, name, help)?;
     for (of, value) in rows {
-        push_sample(alloc, out, name, label, of, *value)?;
+        writeln!(out, "{name}{{{label}=\"{of}\"}} {value}")?;
     }
     Ok(())
 }
@@ -141,9 +96,8 @@ fn peer_heading(figure: PeerFigure) -> (&'static str, &'static str, &'static str
 }
 
 /// Puts a figure of peers behind the output, by their numbers as members, but for those that have none.
-#[tactic(auto, unfolding(crate::specs::Metrics::peers_of))]
+#[tactic(auto, unfolding(crate::specs::Metrics::peers_of, crate::specs::Metrics::sample))]
 fn push_peers(
-    alloc: Global,
     out: &mut String,
     figure: PeerFigure,
     peers: &[PeerCounters],
@@ -154,26 +108,17 @@ fn push_peers(
     push_heading(out, kind, name, help)?;
     for peer in peers {
         if let Some(value) = figure_of(peer, figure) {
-            let of = peer.node.to_string(alloc)?;
-            push_sample(alloc, out, name, "peer", of.as_str(), value)?;
+            writeln!(out, "{name}{{peer=\"{}\"}} {value}", peer.node)?;
         }
     }
     Ok(())
 }
 
-/// 1 where it is so.
-fn bit(is_so: bool) -> u64
-    ensures { result ≡ bit is_so }
-{
-    if is_so { 1 } else { 0 }
-}
-
 /// How far the node is, how its store is, and how many members there are.
-fn push_node(alloc: Global, out: &mut String, f: &Figures) -> Result<(), AllocError>
+fn push_node(out: &mut String, f: &Figures) -> Result<(), AllocError>
     ensures { OnOk result (string_bytes out.new ≡ string_bytes out.old ++ node_metrics f.now) }
 {
     push_metrics(
-        alloc,
         out,
         "gauge",
         &[
@@ -192,7 +137,7 @@ fn push_node(alloc: Global, out: &mut String, f: &Figures) -> Result<(), AllocEr
             (
                 "pfx_failed",
                 "1 after a fault of the store.",
-                bit(f.has_failed),
+                u64::from(f.has_failed),
             ),
             (
                 "pfx_members",
@@ -207,22 +152,14 @@ fn push_node(alloc: Global, out: &mut String, f: &Figures) -> Result<(), AllocEr
 fn is_at(state: Health, health: Health) -> u64
     ensures { result ≡ is_at state health }
 {
-    match (state, health) {
-        (Health::Works, Health::Works) => 1,
-        (Health::Behind, Health::Behind) => 1,
-        (Health::Alone, Health::Alone) => 1,
-        (Health::Stuck, Health::Stuck) => 1,
-        (Health::Failed, Health::Failed) => 1,
-        _ => 0,
-    }
+    u64::from(state == health)
 }
 
 /// The node's health: 1 at that one, and 0 at each other.
-fn push_health(alloc: Global, out: &mut String, health: Health) -> Result<(), AllocError>
+fn push_health(out: &mut String, health: Health) -> Result<(), AllocError>
     ensures { OnOk result (string_bytes out.new ≡ string_bytes out.old ++ health_metrics health) }
 {
     push_samples(
-        alloc,
         out,
         "gauge",
         "pfx_health",
@@ -239,11 +176,10 @@ fn push_health(alloc: Global, out: &mut String, health: Health) -> Result<(), Al
 }
 
 /// How much its configuration has.
-fn push_config(alloc: Global, out: &mut String, f: &Figures) -> Result<(), AllocError>
+fn push_config(out: &mut String, f: &Figures) -> Result<(), AllocError>
     ensures { OnOk result (string_bytes out.new ≡ string_bytes out.old ++ config_metrics f.now) }
 {
     push_metrics(
-        alloc,
         out,
         "gauge",
         &[
@@ -264,11 +200,10 @@ fn push_config(alloc: Global, out: &mut String, f: &Figures) -> Result<(), Alloc
 }
 
 /// What the loop counted.
-fn push_loop(alloc: Global, out: &mut String, t: &Counters) -> Result<(), AllocError>
+fn push_loop(out: &mut String, t: &Counters) -> Result<(), AllocError>
     ensures { OnOk result (string_bytes out.new ≡ string_bytes out.old ++ loop_metrics t.now) }
 {
     push_metrics(
-        alloc,
         out,
         "counter",
         &[
@@ -294,11 +229,10 @@ fn push_loop(alloc: Global, out: &mut String, t: &Counters) -> Result<(), AllocE
 }
 
 /// How many requests were answered.
-fn push_control(alloc: Global, out: &mut String, t: &Counters) -> Result<(), AllocError>
+fn push_control(out: &mut String, t: &Counters) -> Result<(), AllocError>
     ensures { OnOk result (string_bytes out.new ≡ string_bytes out.old ++ control_metrics t.now) }
 {
     push_samples(
-        alloc,
         out,
         "counter",
         "pfx_control_requests_total",
@@ -322,13 +256,13 @@ pub(crate) fn metrics(
     ensures { IfOk result (λ a. answer_value a ≡ shown (metrics_text f.now health t.now)) }
 {
     let mut body = String::new(alloc);
-    push_node(alloc, &mut body, f)?;
-    push_health(alloc, &mut body, health)?;
-    push_config(alloc, &mut body, f)?;
-    push_peers(alloc, &mut body, PeerFigure::Heard, &t.peers)?;
-    push_peers(alloc, &mut body, PeerFigure::In, &t.peers)?;
-    push_peers(alloc, &mut body, PeerFigure::Out, &t.peers)?;
-    push_loop(alloc, &mut body, t)?;
-    push_control(alloc, &mut body, t)?;
-    Ok(Answer { code: 200, body })
+    push_node(&mut body, f)?;
+    push_health(&mut body, health)?;
+    push_config(&mut body, f)?;
+    push_peers(&mut body, PeerFigure::Heard, &t.peers)?;
+    push_peers(&mut body, PeerFigure::In, &t.peers)?;
+    push_peers(&mut body, PeerFigure::Out, &t.peers)?;
+    push_loop(&mut body, t)?;
+    push_control(&mut body, t)?;
+    Ok(Answer::shown(body))
 }

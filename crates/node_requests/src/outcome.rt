@@ -12,7 +12,7 @@ use pf_entry::decode;
 use pf_node::{Node, Outcome};
 use pf_scripts::{is_counted, push_counts, push_refusal};
 use px_records::Records;
-use std::alloc::{AllocError, Global};
+use std::alloc::AllocError;
 
 /// Whether the counts of the command that bytes spell are shown.
 fn counts_read(bytes: &[u8]) -> bool
@@ -36,19 +36,12 @@ fn counts_at<R: Records>(node: &Node<R>, position: u32) -> bool
 }
 
 /// Puts an outcome behind the text.
-fn push_line(
-    alloc: Global,
-    out: &mut String,
-    counts: bool,
-    outcome: Outcome,
-) -> Result<(), AllocError>
+fn push_line(out: &mut String, counts: bool, outcome: Outcome) -> Result<(), AllocError>
     ensures { OnOk result (string_bytes out.new ≡ string_bytes out.old ++ outcome_line counts outcome) }
 {
     match outcome {
-        Outcome::Done(added, removed) => {
-            push_counts(alloc, out, counts, Applied { added, removed })
-        }
-        Outcome::Refused(code, line) => push_refusal(alloc, out, code, line),
+        Outcome::Done(added, removed) => push_counts(out, counts, Applied { added, removed }),
+        Outcome::Refused(code, line) => push_refusal(out, code, line),
         Outcome::NoCommand => Ok(()),
     }
 }
@@ -57,7 +50,6 @@ fn push_line(
 /// kept any more.
 #[tactic(auto, using(crate::proofs::Lines::line_kept))]
 pub fn push_outcome<R: Records>(
-    alloc: Global,
     out: &mut String,
     node: &Node<R>,
     position: u32,
@@ -66,7 +58,7 @@ pub fn push_outcome<R: Records>(
         ++ kept_line (learned_by node.now) (applied_of node.now) (kept_of node.now) position) }
 {
     match node.outcome(position) {
-        Some(outcome) => push_line(alloc, out, counts_at(node, position), outcome),
+        Some(outcome) => push_line(out, counts_at(node, position), outcome),
         None => Ok(()),
     }
 }

@@ -20,7 +20,7 @@ fn verdicts(alloc: Global, config: &Config, packets: &[&str]) -> Result<Answer, 
         match verdict_for(alloc, config, packet)? {
             Some(shown) => push_line(&mut body, shown.as_str())?,
             None => {
-                push_refusal(alloc, &mut body, 30, 0)?;
+                push_refusal(&mut body, 30, 0)?;
                 return Ok(Answer { code: 400, body });
             }
         }

@@ -6,10 +6,9 @@ ghost use Rattle.pf_node.specs.Nodes.{learned_by, applied_of, kept_of};
 ghost use Rattle.node_requests.specs.Positions.{words_read, behind_words, log_line, lines_before};
 
 use crate::outcome::push_outcome;
-use pf_command::push_command;
+use pf_command::CommandArguments;
 use pf_entry::decode;
 use pf_node::Node;
-use pf_scripts::push_number;
 use px_records::Records;
 use std::alloc::{AllocError, Global};
 
@@ -20,8 +19,7 @@ fn push_words(alloc: Global, out: &mut String, bytes: &[u8]) -> Result<(), Alloc
     match decode(bytes) {
         Ok(view) => {
             let entry = view.to_entry(alloc)?;
-            out.push(' ')?;
-            push_command(alloc, out, &entry.command)
+            write!(out, " {}", CommandArguments(&entry.command))
         }
         Err(_) => Ok(()),
     }
@@ -34,8 +32,7 @@ fn push_behind(out: &mut String, outcome: &str) -> Result<(), AllocError>
     if outcome.is_empty() {
         return out.push('\n');
     }
-    out.push(' ')?;
-    out.push_str(outcome)
+    write!(out, " {outcome}")
 }
 
 /// Puts the line of a position behind the text.
@@ -49,14 +46,11 @@ pub fn push_position<R: Records>(
         ++ log_line (learned_by node.now) (applied_of node.now) (kept_of node.now) position) }
 {
     let mut outcome = String::new(alloc);
-    push_outcome(alloc, &mut outcome, node, position)?;
+    push_outcome(&mut outcome, node, position)?;
     match node.entry(position) {
         Some(entry) => {
-            push_number(alloc, out, u64::from(position))?;
-            out.push(' ')?;
-            push_number(alloc, out, u64::from(entry.origin()))?;
-            out.push('.')?;
-            push_number(alloc, out, entry.number())?;
+            let (origin, number) = (entry.origin(), entry.number());
+            write!(out, "{position} {origin}.{number}")?;
             push_words(alloc, out, entry.bytes())?;
             push_behind(out, outcome.as_str())
         }

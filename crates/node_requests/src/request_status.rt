@@ -1,14 +1,13 @@
 //! What became of a request.
 
-ghost use Rattle.std.specs.Prelude.{◌≡◌, IfOk, string_bytes};
+ghost use Rattle.std.specs.Prelude.{◌≡◌, IfOk};
 ghost use Rattle.node_requests.specs.Answers.{answer_value};
-ghost use Rattle.node_requests.specs.RequestStatus.{is_accepted, applied_line, waiting, unknown};
+ghost use Rattle.node_requests.specs.RequestStatus.{is_accepted, waiting, unknown};
 ghost use Rattle.node_requests.specs.RequestStatus.{request_status};
 
 use crate::answer::Answer;
 use crate::outcome::push_outcome;
 use pf_node::Node;
-use pf_scripts::push_number;
 use px_records::Records;
 use std::alloc::{AllocError, Global};
 
@@ -20,17 +19,6 @@ fn is_accepted(accepted: Option<(u64, u64)>, number: u64) -> bool
         Some((first, last)) => first <= number && number <= last,
         None => false,
     }
-}
-
-/// `applied POSITION`
-fn applied_line(alloc: Global, position: u32) -> Result<String, AllocError>
-    ensures { IfOk result (λ s. string_bytes s ≡ applied_line position) }
-{
-    let mut body = String::new(alloc);
-    body.push_str("applied ")?;
-    push_number(alloc, &mut body, u64::from(position))?;
-    body.push('\n')?;
-    Ok(body)
 }
 
 /// It waits.
@@ -65,8 +53,9 @@ pub(crate) fn request_status<R: Records>(
             if position >= node.applied() {
                 return waiting(alloc);
             }
-            let mut body = applied_line(alloc, position)?;
-            push_outcome(alloc, &mut body, node, position)?;
+            let mut body = String::new(alloc);
+            writeln!(body, "applied {position}")?;
+            push_outcome(&mut body, node, position)?;
             Ok(Answer { code: 200, body })
         }
         None => {

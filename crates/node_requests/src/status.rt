@@ -3,15 +3,14 @@
 ghost use Rattle.std.specs.Prelude.{◌≡◌, ◌++◌, IfOk, OnOk, map, string_bytes};
 ghost use Rattle.std.specs.List.{flat_map};
 ghost use Rattle.pf_scripts.specs.Lines.{line};
-ghost use Rattle.node_requests.specs.Answers.{answer_value, shown};
 ghost use Rattle.node_requests.specs.Status.{identity, progress, stall, sizes, peer_rows, losses, control, store_word};
 ghost use Rattle.node_requests.specs.Status.{written, words, peer_line, status_lines};
+ghost use Rattle.node_requests.specs.Answers.{answer_value, shown};
 
 use crate::answer::Answer;
 use crate::counters::{Counters, PeerCounters};
 use crate::figures::Figures;
 use crate::health::Health;
-use pf_scripts::{push_line, push_number};
 use std::alloc::{AllocError, Global};
 
 /// A figure: its name, and its number, none of what never was.
@@ -116,7 +115,6 @@ pub(crate) fn store_word(has_failed: bool) -> &'static str
 /// Puts figures behind the output: `first` before the first, `between` before each other, `behind` behind each name,
 /// and `never` in place of none.
 pub(crate) fn push_rows(
-    alloc: Global,
     out: &mut String,
     between: &str,
     behind: &str,
@@ -129,12 +127,9 @@ pub(crate) fn push_rows(
 {
     let mut before = first;
     for (name, number) in rows {
-        out.push_str(before)?;
-        out.push_str(name)?;
-        out.push_str(behind)?;
         match number {
-            Some(number) => push_number(alloc, out, *number)?,
-            None => out.push_str(never)?,
+            Some(number) => write!(out, "{before}{name}{behind}{number}")?,
+            None => write!(out, "{before}{name}{behind}{never}")?,
         }
         before = between;
     }
@@ -143,25 +138,20 @@ pub(crate) fn push_rows(
 
 /// Puts figures as a line behind the output, `first` before the first.
 #[tactic(auto, unfolding(crate::specs::Status::words))]
-pub(crate) fn push_figures(
-    alloc: Global,
-    out: &mut String,
-    first: &str,
-    rows: &[Row],
-) -> Result<(), AllocError>
+pub(crate) fn push_figures(out: &mut String, first: &str, rows: &[Row]) -> Result<(), AllocError>
     ensures { OnOk result (string_bytes out.new
         ≡ string_bytes out.old ++ line (words first.now (map (λ r. (r.0.now, r.1)) rows.now))) }
 {
-    push_rows(alloc, out, " ", " ", "never", first, rows)?;
+    push_rows(out, " ", " ", "never", first, rows)?;
     out.push('\n')
 }
 
 /// The lines of all peers.
-fn push_peers(alloc: Global, out: &mut String, peers: &[PeerCounters]) -> Result<(), AllocError>
+fn push_peers(out: &mut String, peers: &[PeerCounters]) -> Result<(), AllocError>
     ensures { OnOk result (string_bytes out.new ≡ string_bytes out.old ++ flat_map peer_line peers.now) }
 {
     for peer in peers {
-        push_figures(alloc, out, "", &peer_rows("peer", peer))?;
+        push_figures(out, "", &peer_rows("peer", peer))?;
     }
     Ok(())
 }
@@ -176,18 +166,15 @@ pub(crate) fn status(
     ensures { IfOk result (λ a. answer_value a ≡ shown (status_lines f.now h t.now)) }
 {
     let mut body = String::new(alloc);
-    push_figures(alloc, &mut body, "", &identity(f, t.up, "of"))?;
-    push_figures(alloc, &mut body, "", &progress(f))?;
-    body.push_str("health ")?;
-    body.push_str(h.word())?;
-    push_figures(alloc, &mut body, " ", &stall(t))?;
-    push_figures(alloc, &mut body, "config ", &sizes(f))?;
-    push_peers(alloc, &mut body, &t.peers)?;
-    push_figures(alloc, &mut body, "wire ", &losses(t))?;
-    body.push_str("store ")?;
-    push_line(&mut body, store_word(f.has_failed))?;
-    push_figures(alloc, &mut body, "control ", &control(t))?;
-    body.push_str("members ")?;
-    push_line(&mut body, t.members.as_str())?;
-    Ok(Answer { code: 200, body })
+    push_figures(&mut body, "", &identity(f, t.up, "of"))?;
+    push_figures(&mut body, "", &progress(f))?;
+    write!(body, "health {}", h.word())?;
+    push_figures(&mut body, " ", &stall(t))?;
+    push_figures(&mut body, "config ", &sizes(f))?;
+    push_peers(&mut body, &t.peers)?;
+    push_figures(&mut body, "wire ", &losses(t))?;
+    writeln!(body, "store {}", store_word(f.has_failed))?;
+    push_figures(&mut body, "control ", &control(t))?;
+    writeln!(body, "members {}", t.members)?;
+    Ok(Answer::shown(body))
 }

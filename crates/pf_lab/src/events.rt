@@ -9,8 +9,8 @@ ghost use Rattle.pf_lab.specs.inner.Benches.{IsBench, Does};
 use crate::bench::Bench;
 use crate::event::{LabAction, LabEvent, LabFault, Outcome};
 use crate::fault::NOT_THERE;
-use pf_scripts::{push_line, push_number, push_refusal};
-use std::alloc::{AllocError, Global};
+use pf_scripts::{push_line, push_refusal};
+use std::alloc::AllocError;
 
 /// The message that an action delivers.
 fn message_in(action: &LabAction) -> Option<usize>
@@ -59,22 +59,11 @@ fn asked_by(event: &LabEvent) -> Option<u8>
 }
 
 /// `asked NODE.NUMBER`
-fn push_asked(
-    alloc: Global,
-    out: &mut String,
-    asked: Option<u8>,
-    number: u64,
-) -> Result<(), AllocError>
+fn push_asked(out: &mut String, asked: Option<u8>, number: u64) -> Result<(), AllocError>
     ensures { OnOk result (string_bytes out.new ≡ string_bytes out.old ++ asked_line asked number) }
 {
     match asked {
-        Some(node) => {
-            out.push_str("asked ")?;
-            push_number(alloc, out, u64::from(node))?;
-            out.push('.')?;
-            push_number(alloc, out, number)?;
-            out.push('\n')
-        }
+        Some(node) => writeln!(out, "asked {node}.{number}"),
         None => Ok(()),
     }
 }
@@ -90,39 +79,29 @@ fn push_stopped(out: &mut String, asked: Option<u8>) -> Result<(), AllocError>
 }
 
 /// Prints what became of an event: of an ask its number or that the node is stopped; a refusal; else nothing.
-fn push_outcome(
-    alloc: Global,
-    out: &mut String,
-    asked: Option<u8>,
-    outcome: Outcome,
-) -> Result<(), AllocError>
+fn push_outcome(out: &mut String, asked: Option<u8>, outcome: Outcome) -> Result<(), AllocError>
     ensures { OnOk result (string_bytes out.new ≡ string_bytes out.old ++ outcome_text asked outcome) }
 {
     match outcome {
         Outcome::Nothing => Ok(()),
-        Outcome::Refused(code) => push_refusal(alloc, out, code, 0),
-        Outcome::Asked(number) => push_asked(alloc, out, asked, number),
+        Outcome::Refused(code) => push_refusal(out, code, 0),
+        Outcome::Asked(number) => push_asked(out, asked, number),
         Outcome::Stopped => push_stopped(out, asked),
     }
 }
 
 impl Bench {
     /// Makes an event happen, and prints what becomes of it.
-    pub(crate) fn happen(
-        &mut self,
-        alloc: Global,
-        event: &LabEvent,
-        out: &mut String,
-    ) -> Result<(), AllocError>
+    pub(crate) fn happen(&mut self, event: &LabEvent, out: &mut String) -> Result<(), AllocError>
         ensures { (v : LabValue) → IsBench self.old v → OnOk result
             (Does (happened v (event_value event.now)) self.new (string_bytes out.old) (string_bytes out.new)) }
     {
         let outcome = match self.lab.step(event) {
             Ok(outcome) => outcome,
-            Err(LabFault::BadEvent) => return push_refusal(alloc, out, NOT_THERE, 0),
+            Err(LabFault::BadEvent) => return push_refusal(out, NOT_THERE, 0),
             Err(LabFault::Memory) => return Err(AllocError),
         };
         self.mark(message_of(event))?;
-        push_outcome(alloc, out, asked_by(event), outcome)
+        push_outcome(out, asked_by(event), outcome)
     }
 }

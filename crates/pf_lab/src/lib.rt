@@ -13,7 +13,7 @@
 //! does: `coming` is what an event brings to a member, `hosts` finds the member, `running` makes the call of its node;
 //! `showing` and `ever` are what a lab shows. Of scripts, `numbers`, `asking` and `reading` read a line, `fault` is why
 //! one is refused, `bench` is the lab with what was delivered and shown, `events` does an event and prints what came of
-//! it, `passes` delivers what waits, `printing`, `messages` and `shown` print, `stepping` does a line, `script` all.
+//! it, `passes` delivers what waits, `messages` and `shown` print, `stepping` does a line, `script` all.
 //!
 //! # Why
 //!
@@ -81,7 +81,6 @@ pub mod laws;
 mod messages;
 mod numbers;
 mod passes;
-mod printing;
 mod reading;
 mod running;
 mod script;

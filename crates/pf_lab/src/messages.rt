@@ -12,12 +12,10 @@ ghost use Rattle.px_wire.specs.Seen.{message_of, accepted_of};
 ghost use Rattle.pf_lab.specs.Shown.{kind_word, ballot_part, position_part, entry_part, accepted_part};
 ghost use Rattle.pf_lab.specs.Shown.{message_parts, message_line};
 
-use crate::printing::push_named;
-use pf_scripts::push_number;
 use px_model::{EntryView, Message, Proposal};
 use px_replica::Datagram;
 use px_wire::{Membership, MessageView, decode};
-use std::alloc::{AllocError, Global};
+use std::alloc::AllocError;
 
 /// The name of a message's kind.
 fn kind_of(message: &MessageView<'_>) -> &'static str
@@ -40,34 +38,31 @@ fn kind_of(message: &MessageView<'_>) -> &'static str
 }
 
 /// ` bROUND.NODE`
-fn push_ballot(alloc: Global, out: &mut String, ballot: u64) -> Result<(), AllocError>
+fn push_ballot(out: &mut String, ballot: u64) -> Result<(), AllocError>
     ensures { OnOk result (string_bytes out.new ≡ string_bytes out.old ++ ballot_part ballot) }
 {
-    push_named(alloc, out, " b", ballot / 256)?;
-    push_named(alloc, out, ".", ballot % 256)
+    write!(out, " b{}.{}", ballot / 256, ballot % 256)
 }
 
 /// ` eORIGIN.NUMBER`
-fn push_entry(alloc: Global, out: &mut String, entry: &EntryView<'_>) -> Result<(), AllocError>
+fn push_entry(out: &mut String, entry: &EntryView<'_>) -> Result<(), AllocError>
     ensures { OnOk result (string_bytes out.new
         ≡ string_bytes out.old ++ entry_part (view_of entry.now).origin (view_of entry.now).number) }
 {
-    push_named(alloc, out, " e", u64::from(entry.origin()))?;
-    push_named(alloc, out, ".", entry.number())
+    write!(out, " e{}.{}", entry.origin(), entry.number())
 }
 
 /// The ballot and the position of a message.
-fn push_place(alloc: Global, out: &mut String, ballot: u64, position: u32) -> Result<(), AllocError>
+fn push_place(out: &mut String, ballot: u64, position: u32) -> Result<(), AllocError>
     ensures { OnOk result (string_bytes out.new
         ≡ string_bytes out.old ++ (ballot_part ballot ++ position_part position)) }
 {
-    push_ballot(alloc, out, ballot)?;
-    push_named(alloc, out, " p", u64::from(position))
+    push_ballot(out, ballot)?;
+    write!(out, " p{position}")
 }
 
 /// ` none`, or the accepted ballot and entry.
 fn push_accepted(
-    alloc: Global,
     out: &mut String,
     accepted: &Option<Proposal<EntryView<'_>>>,
 ) -> Result<(), AllocError>
@@ -75,27 +70,27 @@ fn push_accepted(
 {
     match accepted {
         Some(proposal) => {
-            push_ballot(alloc, out, proposal.ballot)?;
-            push_entry(alloc, out, &proposal.entry)
+            push_ballot(out, proposal.ballot)?;
+            push_entry(out, &proposal.entry)
         }
         None => out.push_str(" none"),
     }
 }
 
 /// A message's fields, each after a blank. No member sends another a message that is for clients or from them.
-fn push_parts(alloc: Global, out: &mut String, message: &MessageView<'_>) -> Result<(), AllocError>
+fn push_parts(out: &mut String, message: &MessageView<'_>) -> Result<(), AllocError>
     ensures { OnOk result (string_bytes out.new ≡ string_bytes out.old ++ message_parts (message_of message.now)) }
 {
     match message {
-        Message::Prepare { ballot, position } => push_place(alloc, out, *ballot, *position),
-        Message::PrepareAll { ballot, position } => push_place(alloc, out, *ballot, *position),
+        Message::Prepare { ballot, position } => push_place(out, *ballot, *position),
+        Message::PrepareAll { ballot, position } => push_place(out, *ballot, *position),
         Message::Promise {
             ballot,
             position,
             accepted,
         } => {
-            push_place(alloc, out, *ballot, *position)?;
-            push_accepted(alloc, out, accepted)
+            push_place(out, *ballot, *position)?;
+            push_accepted(out, accepted)
         }
         Message::PromiseAll {
             ballot,
@@ -103,40 +98,40 @@ fn push_parts(alloc: Global, out: &mut String, message: &MessageView<'_>) -> Res
             top,
             accepted,
         } => {
-            push_place(alloc, out, *ballot, *position)?;
-            push_accepted(alloc, out, accepted)?;
-            push_named(alloc, out, " t", u64::from(*top))
+            push_place(out, *ballot, *position)?;
+            push_accepted(out, accepted)?;
+            write!(out, " t{top}")
         }
         Message::Accept {
             ballot,
             position,
             entry,
         } => {
-            push_place(alloc, out, *ballot, *position)?;
-            push_entry(alloc, out, entry)
+            push_place(out, *ballot, *position)?;
+            push_entry(out, entry)
         }
         Message::Vote {
             ballot,
             position,
             entry,
         } => {
-            push_place(alloc, out, *ballot, *position)?;
-            push_entry(alloc, out, entry)
+            push_place(out, *ballot, *position)?;
+            push_entry(out, entry)
         }
         Message::Nack {
             ballot,
             position,
             promised,
         } => {
-            push_place(alloc, out, *ballot, *position)?;
-            push_ballot(alloc, out, *promised)
+            push_place(out, *ballot, *position)?;
+            push_ballot(out, *promised)
         }
-        Message::Need { position } => push_named(alloc, out, " p", u64::from(*position)),
+        Message::Need { position } => write!(out, " p{position}"),
         Message::Learned { position, entry } => {
-            push_named(alloc, out, " p", u64::from(*position))?;
-            push_entry(alloc, out, entry)
+            write!(out, " p{position}")?;
+            push_entry(out, entry)
         }
-        Message::Ask { entry } => push_entry(alloc, out, entry),
+        Message::Ask { entry } => push_entry(out, entry),
         Message::Asked { .. } => Ok(()),
         Message::AskRefused { .. } => Ok(()),
     }
@@ -144,7 +139,6 @@ fn push_parts(alloc: Global, out: &mut String, message: &MessageView<'_>) -> Res
 
 /// `K KIND FROM>TO`, and the message's fields.
 fn push_message(
-    alloc: Global,
     out: &mut String,
     k: usize,
     from: u8,
@@ -154,18 +148,13 @@ fn push_message(
     ensures { OnOk result (string_bytes out.new
         ≡ string_bytes out.old ++ message_line k from to (message_of message.now)) }
 {
-    push_number(alloc, out, k as u64)?;
-    out.push(' ')?;
-    out.push_str(kind_of(message))?;
-    push_named(alloc, out, " ", u64::from(from))?;
-    push_named(alloc, out, ">", u64::from(to))?;
-    push_parts(alloc, out, message)?;
+    write!(out, "{k} {} {from}>{to}", kind_of(message))?;
+    push_parts(out, message)?;
     out.push('\n')
 }
 
 /// The line of the message of this number, among that many members.
 pub(crate) fn push_datagram(
-    alloc: Global,
     out: &mut String,
     members: u8,
     k: usize,
@@ -179,7 +168,7 @@ pub(crate) fn push_datagram(
         return Ok(());
     };
     match decode(&m, datagram.bytes.as_slice()) {
-        Ok((from, message)) => push_message(alloc, out, k, from, datagram.to, &message),
+        Ok((from, message)) => push_message(out, k, from, datagram.to, &message),
         Err(_) => Ok(()),
     }
 }

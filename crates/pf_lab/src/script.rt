@@ -121,7 +121,7 @@ pub fn lab_script(alloc: Global, script: &[u8]) -> Result<String, AllocError>
     let mut out = String::new(alloc);
     match begun(alloc, script)? {
         Some((members, behind)) => run_lines(alloc, members, behind, &mut out)?,
-        None => push_refusal(alloc, &mut out, USAGE, 0)?,
+        None => push_refusal(&mut out, USAGE, 0)?,
     }
     Ok(out)
 }

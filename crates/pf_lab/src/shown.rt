@@ -1,14 +1,13 @@
 //! What a script shows of its lab.
 
-ghost use Rattle.std.specs.Prelude.{◌≡◌, ◌++◌, ◌+◌, IfOk, OnOk, string_bytes, Some, map, length};
+ghost use Rattle.std.specs.Prelude.{◌≡◌, ◌++◌, ◌+◌, IfOk, OnOk, string_bytes, map, length};
 ghost use Rattle.std.specs.Option.{option_copied};
-ghost use Rattle.px_model.specs.Entries.{view_of};
 ghost use Rattle.px_model.specs.Spelling.{Bytes};
 ghost use Rattle.px_model.specs.Step.{front};
 ghost use Rattle.px_model.specs.World.{NodeState};
 ghost use Rattle.pf_node.specs.Nodes.{learned_by};
 ghost use Rattle.pf_lab.specs.Labs.{IsShown};
-ghost use Rattle.pf_lab.specs.Shown.{entry_line, log_lines};
+ghost use Rattle.pf_lab.specs.Shown.{log_lines};
 ghost use Rattle.pf_lab.specs.Scripts.{LabValue, prints, progress, node_line, state_lines, config_at, of_running};
 ghost use Rattle.pf_lab.specs.Scripts.{of_node, learned_lines, verdict_line, sent_lines, all_shown};
 ghost use Rattle.pf_lab.specs.inner.Benches.{IsBench, Does, IsOfMember};
@@ -16,10 +15,9 @@ ghost use Rattle.pf_lab.specs.inner.Benches.{IsBench, Does, IsOfMember};
 use crate::bench::Bench;
 use crate::fault::NOT_THERE;
 use crate::messages::push_datagram;
-use crate::printing::push_named;
 use pf_config::Config;
 use pf_node::Node;
-use pf_scripts::{push_line, push_number, push_refusal, test_packet};
+use pf_scripts::{push_line, push_refusal, test_packet};
 use px_model::EntryView;
 use px_records::MemoryRecords;
 use std::alloc::{AllocError, Global};
@@ -28,65 +26,39 @@ use std::alloc::{AllocError, Global};
 const WINDOW: u32 = 64;
 
 /// ` round R front F applied A`; out of memory where less is applied than the front.
-fn push_progress(
-    alloc: Global,
-    out: &mut String,
-    node: &Node<MemoryRecords>,
-) -> Result<(), AllocError>
+fn push_progress(out: &mut String, node: &Node<MemoryRecords>) -> Result<(), AllocError>
     ensures { (s : NodeState Bytes) → IsShown s node.now →
         OnOk result (string_bytes out.new ≡ string_bytes out.old ++ progress s) }
 {
     if node.applied() != node.front() {
         return Err(AllocError);
     }
-    push_named(alloc, out, " round ", node.round())?;
-    push_named(alloc, out, " front ", u64::from(node.front()))?;
-    push_named(alloc, out, " applied ", u64::from(node.applied()))
+    let (round, front, applied) = (node.round(), node.front(), node.applied());
+    write!(out, " round {round} front {front} applied {applied}")
 }
 
 /// `node N round R front F applied A`, or `node N stopped`
-fn push_node(
-    alloc: Global,
-    out: &mut String,
-    m: u8,
-    node: Option<&Node<MemoryRecords>>,
-) -> Result<(), AllocError>
+fn push_node(out: &mut String, m: u8, node: Option<&Node<MemoryRecords>>) -> Result<(), AllocError>
     ensures { (s : NodeState Bytes) → IsOfMember s (option_copied node.entry) →
         OnOk result (string_bytes out.new ≡ string_bytes out.old ++ node_line m s) }
 {
-    push_named(alloc, out, "node ", u64::from(m))?;
+    write!(out, "node {m}")?;
     match node {
-        Some(node) => push_progress(alloc, out, node)?,
+        Some(node) => push_progress(out, node)?,
         None => out.push_str(" stopped")?,
     }
     out.push('\n')
 }
 
-/// `POSITION ORIGIN.NUMBER`
-fn push_learned(
-    alloc: Global,
-    out: &mut String,
-    position: u32,
-    entry: &EntryView<'_>,
-) -> Result<(), AllocError>
-    ensures { OnOk result (string_bytes out.new
-        ≡ string_bytes out.old ++ entry_line position (Some (view_of entry.now))) }
-{
-    push_number(alloc, out, u64::from(position))?;
-    push_named(alloc, out, " ", u64::from(entry.origin()))?;
-    push_named(alloc, out, ".", entry.number())?;
-    out.push('\n')
-}
-
-/// A line for each position that the node has learned, upwards.
-fn push_log(alloc: Global, out: &mut String, node: &Node<MemoryRecords>) -> Result<(), AllocError>
+/// `POSITION ORIGIN.NUMBER` for each position that the node has learned, upwards.
+fn push_log(out: &mut String, node: &Node<MemoryRecords>) -> Result<(), AllocError>
     ensures { OnOk result (string_bytes out.new
         ≡ string_bytes out.old ++ log_lines (learned_by node.now) (front (learned_by node.now) + 64)) }
 {
     for position in 0..node.front() + WINDOW {
         if let Some(bytes) = node.learned(position) {
             if let Some(entry) = EntryView::read(bytes) {
-                push_learned(alloc, out, position, &entry)?;
+                writeln!(out, "{position} {}.{}", entry.origin(), entry.number())?;
             }
         }
     }
@@ -95,16 +67,12 @@ fn push_log(alloc: Global, out: &mut String, node: &Node<MemoryRecords>) -> Resu
 
 /// What a node has learned, and that it is stopped where it is.
 #[tactic(auto, using(crate::proofs::Lines::learned_shown, crate::proofs::Lines::stopped_shown))]
-fn push_learned_by(
-    alloc: Global,
-    out: &mut String,
-    node: Option<&Node<MemoryRecords>>,
-) -> Result<(), AllocError>
+fn push_learned_by(out: &mut String, node: Option<&Node<MemoryRecords>>) -> Result<(), AllocError>
     ensures { (s : NodeState Bytes) → IsOfMember s (option_copied node.entry) →
         OnOk result (string_bytes out.new ≡ string_bytes out.old ++ of_running s learned_lines) }
 {
     match node {
-        Some(node) => push_log(alloc, out, node),
+        Some(node) => push_log(out, node),
         None => push_line(out, "stopped"),
     }
 }
@@ -123,7 +91,6 @@ fn configuration(node: &Node<MemoryRecords>) -> Result<&Config, AllocError>
 /// The verdict of a node for a packet, and that it is stopped where it is.
 #[tactic(auto, using(crate::proofs::Lines::verdict_shown, crate::proofs::Lines::stopped_shown))]
 fn push_verdict(
-    alloc: Global,
     out: &mut String,
     node: Option<&Node<MemoryRecords>>,
     packet: &[&str],
@@ -133,32 +100,32 @@ fn push_verdict(
         ≡ string_bytes out.old ++ of_running s (verdict_line (map (λ w. w.now) packet.now))) }
 {
     match node {
-        Some(node) => test_packet(alloc, configuration(node)?, packet)?.push_to(alloc, out),
+        Some(node) => test_packet(alloc, configuration(node)?, packet)?.push_to(out),
         None => push_line(out, "stopped"),
     }
 }
 
 impl Bench {
     /// Prints how far each node is.
-    pub(crate) fn show_state(&self, alloc: Global, out: &mut String) -> Result<(), AllocError>
+    pub(crate) fn show_state(&self, out: &mut String) -> Result<(), AllocError>
         ensures { (v : LabValue) → IsBench self.now v → OnOk result
             (string_bytes out.new ≡ string_bytes out.old ++ state_lines v.world v.members) }
     {
         for m in 0..self.members {
-            push_node(alloc, out, m, self.lab.node(m))?;
+            push_node(out, m, self.lab.node(m))?;
         }
         Ok(())
     }
 
     /// Prints what the node has learned.
-    pub(crate) fn show_log(&self, alloc: Global, m: u8, out: &mut String) -> Result<(), AllocError>
+    pub(crate) fn show_log(&self, m: u8, out: &mut String) -> Result<(), AllocError>
         ensures { (v : LabValue) → IsBench self.now v → OnOk result
             (string_bytes out.new ≡ string_bytes out.old ++ of_node v m learned_lines) }
     {
         if m >= self.members {
-            return push_refusal(alloc, out, NOT_THERE, 0);
+            return push_refusal(out, NOT_THERE, 0);
         }
-        push_learned_by(alloc, out, self.lab.node(m))
+        push_learned_by(out, self.lab.node(m))
     }
 
     /// Prints the node's verdict for a packet.
@@ -173,31 +140,31 @@ impl Bench {
             ≡ string_bytes out.old ++ of_node v m (verdict_line (map (λ w. w.now) packet.now))) }
     {
         if m >= self.members {
-            return push_refusal(alloc, out, NOT_THERE, 0);
+            return push_refusal(out, NOT_THERE, 0);
         }
-        push_verdict(alloc, out, self.lab.node(m), packet)
+        push_verdict(out, self.lab.node(m), packet)
     }
 
     /// Prints the messages that weren't shown yet.
-    fn push_sent(&self, alloc: Global, out: &mut String) -> Result<(), AllocError>
+    fn push_sent(&self, out: &mut String) -> Result<(), AllocError>
         ensures { (v : LabValue) → IsBench self.now v → OnOk result (string_bytes out.new
             ≡ string_bytes out.old ++ sent_lines v.world.sent v.shown (length v.world.sent)) }
     {
         let sent = self.lab.sent();
         let first = self.shown.min(sent.len());
         for k in first..sent.len() {
-            push_datagram(alloc, out, self.members, k, &sent[k])?;
+            push_datagram(out, self.members, k, &sent[k])?;
         }
         Ok(())
     }
 
     /// The same, and they count as shown.
-    pub(crate) fn show_sent(&mut self, alloc: Global, out: &mut String) -> Result<(), AllocError>
+    pub(crate) fn show_sent(&mut self, out: &mut String) -> Result<(), AllocError>
         ensures { (v : LabValue) → IsBench self.old v → OnOk result (Does (prints (all_shown v)
             (sent_lines v.world.sent v.shown (length v.world.sent))) self.new
             (string_bytes out.old) (string_bytes out.new)) }
     {
-        self.push_sent(alloc, out)?;
+        self.push_sent(out)?;
         self.shown = self.lab.sent().len();
         Ok(())
     }

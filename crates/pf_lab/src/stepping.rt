@@ -26,12 +26,12 @@ fn run_line(
         (Does (done v (line_value line.entry)) bench.new (string_bytes out.old) (string_bytes out.new)) }
 {
     match line {
-        LabLine::Happens(event) => bench.happen(alloc, &event, out),
+        LabLine::Happens(event) => bench.happen(&event, out),
         LabLine::Run => bench.run(),
         LabLine::Test(m, packet) => bench.show_verdict(alloc, m, packet, out),
-        LabLine::State => bench.show_state(alloc, out),
-        LabLine::Log(m) => bench.show_log(alloc, m, out),
-        LabLine::Sent => bench.show_sent(alloc, out),
+        LabLine::State => bench.show_state(out),
+        LabLine::Log(m) => bench.show_log(m, out),
+        LabLine::Sent => bench.show_sent(out),
     }
 }
 
@@ -49,7 +49,7 @@ pub(crate) fn run_words(
 {
     match line_in(alloc, words, text) {
         Ok(line) => run_line(alloc, bench, line, out),
-        Err(LineFault::Refused(code)) => push_refusal(alloc, out, code, 0),
+        Err(LineFault::Refused(code)) => push_refusal(out, code, 0),
         Err(LineFault::Memory) => Err(AllocError),
     }
 }
@@ -82,7 +82,7 @@ fn begin<'a>(
         bench.new (option_map waiting_of w) (string_bytes out.old) (string_bytes out.new)) }
 {
     let Some(words) = words else {
-        push_refusal(alloc, out, USAGE, 0)?;
+        push_refusal(out, USAGE, 0)?;
         return Ok(None);
     };
     if words.is_empty() {
