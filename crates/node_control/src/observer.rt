@@ -41,6 +41,7 @@ struct Row {
 /// What is seen of a node as it runs: counters of what went over its wire, by other member and in all, since when it
 /// has waited for its front to move, and who is heard. After each round it is shown the heads of the messages that the
 /// node took and what went over the wire; it looks at no datagram.
+#[derive(Drop)]
 pub struct Observer {
     rows: Vec<Row>,
     unsent: u64,
@@ -61,27 +62,6 @@ pub struct Observer {
     large: usize,
     has_packets: bool,
     hearing: Hearing,
-}
-
-impl Drop for Observer {
-    fn drop(self) {
-        let Observer {
-            rows: _,
-            unsent: _,
-            dropped: _,
-            ignored: _,
-            came: _,
-            now: _,
-            sampled: _,
-            front: _,
-            since: _,
-            proposed: _,
-            outrun: _,
-            large: _,
-            has_packets: _,
-            hearing: _,
-        } = self;
-    }
 }
 
 /// The proposal at the front or beyond it that is known, with one that comes now.
