@@ -2,6 +2,7 @@ pub mod Sending
 pub mod Arguments
 pub mod Calls
 pub mod Replies
+pub mod Codes
 pub mod Showing
 pub mod Reporting
 pub mod Asking

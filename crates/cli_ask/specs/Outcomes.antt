@@ -15,11 +15,11 @@ use Rattle.cli_ask.specs.Answers.{is_done}
 use Rattle.cli_ask.specs.Asking.{Answered as Answer, Event, Adds, AskedAt}
 use Rattle.cli_ask.specs.Calls.{Request, call_value, call_of, has_option}
 use Rattle.cli_ask.specs.Checking.{by_code}
+use Rattle.cli_ask.specs.Codes.{ask_fault_code}
 use Rattle.cli_ask.specs.Replies.{reply_value}
 use Rattle.cli_ask.specs.Scripts.{items_in, script_refusal}
 use Rattle.cli_ask.specs.Scripting.{AskedAll}
 use Rattle.cli_ask.specs.declared.checking.Refused as checking
-use Rattle.cli_ask.specs.declared.exchange.AskFault.TheVariants as fault
 use Rattle.cli_ask.specs.declared.call.Call.{Call}
 use Rattle.cli_ask.specs.declared.call.Kind.{Kind}
 use Rattle.cli_ask.specs.declared.exchange.Reply.{Reply}
@@ -70,12 +70,15 @@ abbrev pub HasNoText : (named : Option Text) → Outcome → Type 0
 HasNoText None outcome = ⊥
 HasNoText (Some name) outcome = IsUnread name outcome
 
+-- a refusal by its number; none when out of memory
+abbrev pub outcome_by : Option ℕ → Outcome
+outcome_by None = Memory
+outcome_by (Some code) = refusal code
+
 -- what a request's answer gives
 abbrev pub Replied : Kind → Answer → Outcome → Type 0
 Replied k (Ok a) outcome = (reply : Reply) × ((reply_value reply ≡ a) × (outcome ≡ Answered k reply))
-Replied k (Err fault.Memory) outcome = outcome ≡ Memory
-Replied k (Err fault.NoAnswer) outcome = outcome ≡ refusal 85
-Replied k (Err fault.BadAnswer) outcome = outcome ≡ refusal 86
+Replied k (Err f) outcome = outcome ≡ outcome_by (ask_fault_code f)
 
 -- the request that the arguments ask for with this text; it waits for the positions of `--at`
 abbrev pub call_for : List Row → (text : List ℕ) → Result Request checking.Refused

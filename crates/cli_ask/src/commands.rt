@@ -58,11 +58,7 @@ fn only_line(body: &[u8]) -> Option<&str>
 fn accepted(body: &[u8]) -> Option<&str>
     ensures { option_map (λ n. n.now) result ≡ accepted body.now }
 {
-    if !body.starts_with(ASKED) {
-        return None;
-    }
-    let (_, rest) = body.split_at(6);
-    only_line(rest)
+    only_line(body.strip_prefix(ASKED)?)
 }
 
 /// Whether a request is a command.
@@ -90,8 +86,7 @@ pub(crate) fn number_after(kind: Kind, is_once: bool, body: &[u8]) -> Option<&st
 pub(crate) fn outcome_call(alloc: Global, number: &str) -> Result<Call, AllocError>
     ensures { IfOk result (λ c. call_value c ≡ outcome_call number.now) }
 {
-    let mut target = String::from_str(alloc, "/v1/requests/")?;
-    target.push_str(number)?;
+    let target = format!(in alloc; "/v1/requests/{number}")?;
     let mut call = Call::get(alloc, target, Kind::Read);
     call.is_repeatable = true;
     Ok(call)
@@ -126,10 +121,7 @@ fn joined(first: Reply, second: Reply) -> Result<Reply, AllocError>
 fn position_in(body: &[u8]) -> Option<u32>
     ensures { result ≡ position_in body.now }
 {
-    if !body.starts_with(APPLIED) {
-        return None;
-    }
-    let (_, rest) = body.split_at(8);
+    let rest = body.strip_prefix(APPLIED)?;
     let (digits, _) = rest.split_at(line_len(rest));
     number(digits)
 }

@@ -2,13 +2,14 @@
 
 ghost use Rattle.std.specs.Prelude.{◌≡◌, ◌⊎◌, ℕ, ◌+◌, ⊤, IfOk, IfErr, string_bytes};
 ghost use Rattle.cli_ask.specs.Calls.{call_value};
+ghost use Rattle.cli_ask.specs.Codes.{ask_fault_code};
 ghost use Rattle.cli_ask.specs.Asking.{answer_value};
 ghost use Rattle.cli_ask.specs.Replies.{IsAnswerTo, IsUnanswered, reply_value};
 ghost use Rattle.cli_ask.specs.Reading.{IsRead};
 
 use crate::call::{Call, Kind};
 use crate::reply::{reply_in, request_bytes};
-use cli_io::{InputFault, read_all, write_bytes};
+use cli_io::{BROKEN_ANSWER, InputFault, NOBODY_ANSWERS, read_all, write_bytes};
 use std::alloc::{AllocError, Global};
 use std::io::{self, ErrorKind, Read, Write};
 use std::net::Net;
@@ -27,6 +28,19 @@ pub enum AskFault {
     NoAnswer,
     /// 86: an answer that is cut short, or is none of HTTP's, or is no refusal though not all was sent.
     BadAnswer,
+}
+
+impl AskFault {
+    /// The number of the refusal; none when out of memory.
+    pub fn code(self) -> Option<u8>
+        ensures { result ≡ ask_fault_code self }
+    {
+        match self {
+            AskFault::Memory => None,
+            AskFault::NoAnswer => Some(NOBODY_ANSWERS),
+            AskFault::BadAnswer => Some(BROKEN_ANSWER),
+        }
+    }
 }
 
 impl From<AllocError> for AskFault {

@@ -48,7 +48,7 @@ pub(crate) fn refusal_line(alloc: Global, refused: Refused) -> Result<String, Al
     ensures { IfOk result (λ line. string_bytes line ≡ refused_line refused.code refused.line) }
 {
     let mut line = String::new(alloc);
-    push_refusal(alloc, &mut line, refused.code, refused.line)?;
+    push_refusal(&mut line, refused.code, refused.line)?;
     Ok(line)
 }
 

@@ -76,9 +76,7 @@ fn replied<E: Write>(kind: Kind, answer: Result<Reply, AskFault>, errors: &mut E
             }
             Outcome::Answered(kind, reply)
         }
-        Err(AskFault::Memory) => Outcome::Memory,
-        Err(AskFault::NoAnswer) => refused(85),
-        Err(AskFault::BadAnswer) => refused(86),
+        Err(fault) => fault.code().map_or(Outcome::Memory, |code| refused(code)),
     }
 }
 
@@ -145,10 +143,7 @@ fn has_others(matches: &ArgMatches<'_>) -> bool
 fn seconds_by(wait: Option<u32>) -> u32
     ensures { result ≡ seconds_by wait }
 {
-    match wait {
-        Some(seconds) => if seconds > 0 { seconds } else { 1 },
-        None => 60,
-    }
+    wait.map_or(60, |seconds| seconds.max(1))
 }
 
 /// What a script is refused for before a node is asked, unless `--unchecked` is given.

@@ -17,14 +17,7 @@ pub(crate) fn has_control(text: &str) -> bool
 pub(crate) fn have_control(texts: &[&str]) -> bool
     ensures { result ≡ list_any has_control (map (λ t. t.now) texts.now) }
 {
-    let mut left = texts;
-    while let [first, rest @ ..] = left {
-        if has_control(first) {
-            return true;
-        }
-        left = rest;
-    }
-    false
+    texts.iter().any(|text| has_control(text))
 }
 
 /// Each argument in a line of its own. A node reads these lines as the arguments, since none has a control character.

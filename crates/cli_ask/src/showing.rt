@@ -14,12 +14,11 @@ fn is_hidden(c: char) -> bool
 }
 
 /// Puts a character as it is printed behind a string.
-fn push_shown(alloc: Global, out: &mut String, c: char) -> Result<(), AllocError>
+fn push_shown(out: &mut String, c: char) -> Result<(), AllocError>
     ensures { OnOk result (string_bytes out.new ≡ string_bytes out.old ++ shown_char c) }
 {
     if is_hidden(c) {
-        let number = format!(in alloc; "\\u{{{:x}}}", u32::from(c))?;
-        return out.push_str(number.as_str());
+        return write!(out, "\\u{{{:x}}}", u32::from(c));
     }
     out.push(c)
 }
@@ -30,7 +29,7 @@ fn shown_text(alloc: Global, text: &str) -> Result<String, AllocError>
 {
     let mut out = String::with_capacity(alloc, text.len())?;
     for c in text.chars() {
-        push_shown(alloc, &mut out, c)?;
+        push_shown(&mut out, c)?;
     }
     Ok(out)
 }
@@ -39,8 +38,7 @@ fn shown_text(alloc: Global, text: &str) -> Result<String, AllocError>
 pub(crate) fn shown(alloc: Global, bytes: &[u8]) -> Result<Option<String>, AllocError>
     ensures { IfOk result (λ text. option_map string_bytes text ≡ shown bytes.now) }
 {
-    match text_in(bytes) {
-        Some(text) => Ok(Some(shown_text(alloc, text)?)),
-        None => Ok(None),
-    }
+    text_in(bytes)
+        .map(|text| shown_text(alloc, text))
+        .transpose()
 }

@@ -36,9 +36,7 @@ fn add_parameter(target: &mut String, name: &str, value: &str) -> Result<(), All
     ensures { OnOk result (string_bytes target.new ≡ with_parameter name.now value.now (string_bytes target.old)) }
 {
     let mark = mark(target.as_str());
-    target.push_str(mark)?;
-    target.push_str(name)?;
-    target.push_str("=")?;
+    write!(target, "{mark}{name}=")?;
     utf8_percent_encode(value, NON_ALPHANUMERIC).append_to(target)
 }
 

@@ -71,13 +71,6 @@ pub front_none : (x : List Act → Type 0) (folder : List ℕ) (old : List TextF
 front_none x folder old all = ([], (adds_nothing x, ([], all, [], refl, NoFile)))
 
 -- all are
-pub puts_all : (x y : List Act → Type 0) (folder : List ℕ) (old new : List TextFile) (files all : List FileValue) → files ≡ all → Acted x y (λ acts. Puts folder old files acts new) →
-    Acted x y (λ acts. Puts folder old all acts new)
-puts_all x y folder old new files all e h = subst (λ (vs : List FileValue). Acted x y (λ acts. Puts folder old vs acts new)) e h
-
 pub front_all : (x y : List Act → Type 0) (folder : List ℕ) (old : List TextFile) (files all : List FileValue) → files ≡ all → Acted x y (λ acts. PutsFront folder old files acts) →
     Acted x y (λ acts. PutsFront folder old all acts)
 front_all x y folder old files all e h = subst (λ (vs : List FileValue). Acted x y (λ acts. PutsFront folder old vs acts)) e h
-
-pub whole_front : (x y : List Act → Type 0) (folder : List ℕ) (old new : List TextFile) (all : List FileValue) → Acted x y (λ acts. Puts folder old all acts new) → Acted x y (λ acts. PutsFront folder old all acts)
-whole_front x y folder old new all (acts, (p, puts)) = (acts, (p, (all, [], new, sym (append-nil all), puts)))

@@ -12,7 +12,8 @@ ghost use Rattle.cli_follow.specs.Files.{file_value, file_name, file_at, files_o
 ghost use Rattle.cli_follow.specs.Files.{is_gone, with_gone, are_behind, ArePutFor, AreLeftFor};
 
 use crate::followed_configuration::FollowedConfiguration;
-use crate::follower::log_change;
+use crate::follower::log_refusal;
+use cli_io::NO_SCRIPT;
 use pf_config::Config;
 use pf_dump::{PathText, texts};
 use pf_rules::Name;
@@ -311,16 +312,13 @@ impl TextFiles {
             (λ acts. AreLeftFor followed.now.config self.old acts)) }
     {
         let Some(files) = files_of(alloc, &followed.config)? else {
-            return log_change(errors, alloc, followed.position, "refused 91\n");
+            log_refusal(errors, followed.position, NO_SCRIPT);
+            return Ok(());
         };
         let is_behind = !self.put_all(folders, alloc, files)?;
         if is_behind && !self.is_behind {
-            log_change(
-                errors,
-                alloc,
-                followed.position,
-                "a file couldn't be written\n",
-            )?;
+            let position = followed.position;
+            let _logged = writeln!(errors, "pfx: at {position} a file couldn't be written");
         }
         self.is_behind = is_behind;
         Ok(())

@@ -103,27 +103,9 @@ fn is_behind(front: Option<u32>, position: u32) -> bool
     front.is_some_and(|front| front < position)
 }
 
-/// Logs what was written for a position.
-pub(crate) fn log_change<E: Write>(
-    errors: &mut E,
-    alloc: Global,
-    position: u32,
-    what: &str,
-) -> Result<(), AllocError> {
-    let line = format!(in alloc; "pfx: at {position} {what}")?;
-    let _logged = errors.write_all(line.as_bytes());
-    Ok(())
-}
-
 /// Logs why nothing is written for a position.
-fn log_refusal<E: Write>(
-    errors: &mut E,
-    alloc: Global,
-    position: u32,
-    code: u8,
-) -> Result<(), AllocError> {
-    let line = format!(in alloc; "refused {code}\n")?;
-    log_change(errors, alloc, position, line.as_str())
+pub(crate) fn log_refusal<E: Write>(errors: &mut E, position: u32, code: u8) {
+    let _logged = writeln!(errors, "pfx: at {position} refused {code}");
 }
 
 /// Writes lines, and all that is kept back.
@@ -175,7 +157,10 @@ impl Nft {
         let position = followed.position;
         match self.kernel.load(alloc, &followed.config, position)? {
             Step::Same => Ok(()),
-            Step::Refused(code) => Ok(log_refusal(errors, alloc, position, code)?),
+            Step::Refused(code) => {
+                log_refusal(errors, position, code);
+                Ok(())
+            }
             Step::Lines(lines) => write_lines(writer, lines.as_slice()),
         }
     }

@@ -8,7 +8,7 @@ ghost use Rattle.cli_follow.specs.Places.{folder_of, recorded, ArePlaces, IsList
 
 use crate::files::TextFiles;
 use clap::ArgMatches;
-use cli_io::{Shown, Sources, has_flag, value_in};
+use cli_io::{BAD_INTERFACES, INVALID_ARGUMENTS, Shown, Sources, has_flag, value_in};
 use cli_nft::{machine_in, read_file};
 use nft_rules::MachineInterface;
 use std::alloc::{AllocError, Global};
@@ -92,7 +92,7 @@ pub(crate) fn places_for<RT: Files + Sources, E: Write>(
     let is_guarded = !has_flag(matches, "no-member-guard");
     let Some(file) = value_in(matches, "interfaces") else {
         if has_flag(matches, "nft") || files.is_none() || !is_guarded {
-            return Ok(Err(40));
+            return Ok(Err(INVALID_ARGUMENTS));
         }
         return Ok(Ok(Places {
             interfaces: None,
@@ -101,7 +101,7 @@ pub(crate) fn places_for<RT: Files + Sources, E: Write>(
         }));
     };
     if !has_flag(matches, "nft") {
-        return Ok(Err(40));
+        return Ok(Err(INVALID_ARGUMENTS));
     }
     match interfaces_in(rt, alloc, file)? {
         Some(interfaces) => Ok(Ok(Places {
@@ -111,7 +111,7 @@ pub(crate) fn places_for<RT: Files + Sources, E: Write>(
         })),
         None => {
             log_interfaces(rt, file, errors);
-            Ok(Err(89))
+            Ok(Err(BAD_INTERFACES))
         }
     }
 }

@@ -21,7 +21,7 @@ use crate::places::{Places, places_for};
 use clap::error::ErrorKind;
 use clap::{ArgMatches, Error};
 use cli_ask::{AskFault, Pauses};
-use cli_io::{Sources, Status, given_in, misused, value_in};
+use cli_io::{INVALID_ARGUMENTS, NOBODY_ANSWERS, Sources, Status, given_in, misused, value_in};
 use nft_rules::MachineInterface;
 use std::alloc::{AllocError, Global};
 use std::convert::AsStr;
@@ -46,11 +46,8 @@ fn log_refusal<C: Control, E: Write>(
         return;
     }
     *said = Some(fault);
-    let line = match fault {
-        AskFault::BadAnswer => "pfx: refused 86, asked again\n",
-        _ => "pfx: refused 85, asked again\n",
-    };
-    let _logged = errors.write_all(line.as_bytes());
+    let code = fault.code().unwrap_or(NOBODY_ANSWERS);
+    let _logged = writeln!(errors, "pfx: refused {code}, asked again");
     if fault == AskFault::NoAnswer {
         control.report(errors);
     }
@@ -248,16 +245,10 @@ pub fn follow<RT: Pauses, F: Folders, C: Control, W: Write, E: Write>(
 }
 
 /// A refusal by its number, logged on standard error, since what is written goes to nft(8).
-fn refused<E: Write>(alloc: Global, code: u8, errors: &mut E) -> Status
+fn refused<E: Write>(code: u8, errors: &mut E) -> Status
     ensures { IsNoEnding result }
 {
-    let Ok(line) = format!(in alloc; "refused {code}\n") else {
-        return Status::Memory;
-    };
-    match errors.write_all(line.as_bytes()) {
-        Ok(()) => Status::Refused,
-        Err(_) => Status::Failed,
-    }
+    writeln!(errors, "refused {code}").map_or(Status::Failed, |()| Status::Refused)
 }
 
 /// That the log at the control socket is another than the one that was followed, logged on standard error.
@@ -274,10 +265,7 @@ fn another<E: Write>(errors: &mut E) -> Status
 fn memory<E: Write>(errors: &mut E) -> Status
     ensures { IsEnding (Err WriteFault.Memory) result }
 {
-    match errors.write_all(b"memory\n") {
-        Ok(()) => Status::Memory,
-        Err(_) => Status::Failed,
-    }
+    writeln!(errors, "memory").map_or(Status::Failed, |()| Status::Memory)
 }
 
 /// That the output can't be written, logged on standard error.
@@ -357,7 +345,7 @@ fn followed<RT: Files + Pauses + Sources, F: Folders, C: Control, W: Write, E: W
     let turns = turns_in(matches);
     match places_for(rt, alloc, matches, errors) {
         Ok(Ok(places)) => follow_to(rt, folders, alloc, control, turns, places, writer, errors),
-        Ok(Err(code)) => refused(alloc, code, errors),
+        Ok(Err(code)) => refused(code, errors),
         Err(_) => memory(errors),
     }
 }
@@ -416,7 +404,7 @@ pub fn run_follow<
         return Status::Usage;
     };
     let Some(path) = value_in(inner, "control") else {
-        return refused(alloc, 40, errors);
+        return refused(INVALID_ARGUMENTS, errors);
     };
     let mut peer = sockets.peer_at(path);
     followed(rt, folders, alloc, inner, &mut peer, writer, errors)

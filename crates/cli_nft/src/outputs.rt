@@ -14,6 +14,7 @@ ghost use Rattle.cli_nft.specs.Seen.{written};
 ghost use Rattle.nft_text.specs.Loading.{rendered_lines};
 
 use crate::machines::machine_in;
+use cli_io::{BAD_INTERFACES, INVALID_ARGUMENTS};
 use nft_rules::{MachineInterface, Member};
 use nft_text::{Transactions, rendered_lines};
 use pf_config::Config;
@@ -134,14 +135,14 @@ pub fn nft_output(
         (option_map (λ ms. ms.now) members.entry) position input.now) }
 {
     let Some(members) = members else {
-        return refused(alloc, 40);
+        return refused(alloc, INVALID_ARGUMENTS);
     };
     let Some(text) = file else {
-        return refused(alloc, 89);
+        return refused(alloc, BAD_INTERFACES);
     };
     match machine_in(alloc, text)? {
         Some(machine) => loaded_of(alloc, &machine, members, position, input),
-        None => refused(alloc, 89),
+        None => refused(alloc, BAD_INTERFACES),
     }
 }
 
@@ -160,10 +161,10 @@ pub fn config_output(
         position config.now) }
 {
     let Some(text) = file else {
-        return refused(alloc, 89);
+        return refused(alloc, BAD_INTERFACES);
     };
     match machine_in(alloc, text)? {
         Some(machine) => written_lines(alloc, config, &machine, members, position),
-        None => refused(alloc, 89),
+        None => refused(alloc, BAD_INTERFACES),
     }
 }

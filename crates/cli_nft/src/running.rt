@@ -24,12 +24,9 @@ use std::io::{Read, Write};
 fn has_nft<S: AsStr>(arguments: &[S]) -> bool
     ensures { result ≡ list_any (λ w. bytes_eq w (codes "--nft")) (map S.text arguments.now) }
 {
-    for argument in arguments {
-        if argument.as_str() == "--nft" {
-            return true;
-        }
-    }
-    false
+    arguments
+        .iter()
+        .any(|argument| argument.as_str() == "--nft")
 }
 
 /// Whether the arguments, the program's name first, are `check` with `--nft` among what follows.

@@ -5,7 +5,6 @@ ghost use Rattle.cli_show.specs.Writing.{figures, shown_value};
 
 use crate::pfctl::as_shown;
 use crate::shown::Shown;
-use pf_scripts::push_number;
 use px_core::POSITIONS;
 use std::alloc::{AllocError, Global};
 
@@ -14,14 +13,7 @@ pub(crate) fn show_figures(alloc: Global, applied: u32) -> Result<Shown, AllocEr
     ensures { IfOk result (λ s. shown_value s ≡ figures applied) }
 {
     let mut text = String::new(alloc);
-    text.push_str("applied ")?;
-    push_number(alloc, &mut text, u64::from(applied))?;
-    text.push_str(" left ")?;
-    push_number(
-        alloc,
-        &mut text,
-        u64::from(POSITIONS.saturating_sub(applied)),
-    )?;
-    text.push('\n')?;
+    let left = POSITIONS.saturating_sub(applied);
+    writeln!(text, "applied {applied} left {left}")?;
     as_shown(alloc, text.as_str(), false)
 }

@@ -12,6 +12,7 @@ ghost use Rattle.cli_show.specs.declared.store.Closed.{Closed};
 
 use crate::shown::{Shown, Wanted};
 use crate::store::{Closed, show_store};
+use cli_io::{STORE_FAILED, UNKNOWN_STORE};
 use px_records::Records;
 use px_store::SqlRecords;
 use sqlite::{Connection, Error, ErrorCode, File, FileStore};
@@ -35,16 +36,16 @@ fn open_file(rt: &HostRuntime, path: &str) -> Result<Connection<FileStore<File>>
     ensures fresh { IfOk result IsNew }
 {
     if !is_file(rt, path) {
-        return Err(Closed::Refused(70));
+        return Err(Closed::Refused(STORE_FAILED));
     }
     let log = format!(in rt.alloc(); "{path}-wal").map_err(|_| Closed::Memory)?;
     if is_empty(rt, path) && is_empty(rt, log.as_str()) {
-        return Err(Closed::Refused(73));
+        return Err(Closed::Refused(UNKNOWN_STORE));
     }
     match Connection::open(rt, path) {
         Ok(conn) => Ok(conn),
         Err(Error::SqliteFailure(ErrorCode::OutOfMemory)) => Err(Closed::Memory),
-        Err(_) => Err(Closed::Refused(70)),
+        Err(_) => Err(Closed::Refused(STORE_FAILED)),
     }
 }
 

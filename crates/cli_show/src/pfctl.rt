@@ -26,7 +26,7 @@ pub(crate) fn refused(alloc: Global, code: u8, at: u64) -> Result<Shown, AllocEr
     ensures { IfOk result (λ s. shown_value s ≡ refused code at) }
 {
     let mut text = String::new(alloc);
-    push_refusal(alloc, &mut text, code, at)?;
+    push_refusal(&mut text, code, at)?;
     as_shown(alloc, text.as_str(), true)
 }
 
@@ -57,7 +57,7 @@ pub(crate) fn show_verdicts(
         match verdict_for(alloc, config, packet)? {
             Some(shown) => push_line(&mut text, shown.as_str())?,
             None => {
-                push_refusal(alloc, &mut text, 30, 0)?;
+                push_refusal(&mut text, 30, 0)?;
                 return as_shown(alloc, text.as_str(), true);
             }
         }

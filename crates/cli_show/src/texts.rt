@@ -10,7 +10,7 @@ ghost use Rattle.cli_show.specs.Writing.{OrNone};
 use crate::pfctl::{as_shown, refused};
 use crate::shown::Shown;
 use cli_io::NO_SCRIPT;
-use pf_command::push_path;
+use pf_command::PathArguments;
 use pf_config::Config;
 use pf_dump::{PathText, texts};
 use std::alloc::{AllocError, Global};
@@ -19,10 +19,8 @@ use std::alloc::{AllocError, Global};
 fn push_text(out: &mut String, text: &PathText<'_>) -> Result<(), AllocError>
     ensures { OnOk result (string_bytes out.new ≡ string_bytes out.old ++ shown_text (text_of text.now)) }
 {
-    out.push_str("# pfctl ")?;
-    push_path(out, text.path)?;
-    out.push_str("-f -\n")?;
-    out.push_str(text.text.as_str())
+    let path = PathArguments(text.path);
+    write!(out, "# pfctl {path}-f -\n{}", text.text)
 }
 
 /// Texts one behind the other.

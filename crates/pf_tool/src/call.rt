@@ -161,10 +161,9 @@ pub(crate) fn call_in<'m, 'a>(
 pub(crate) fn is_verbose(matches: &ArgMatches<'_>) -> bool
     ensures { result ≡ is_verbose (subcommand_rows_of matches.now) }
 {
-    match matches.subcommand() {
-        Some((_, inner)) => is_given(value_in(inner, "verbose")),
-        None => false,
-    }
+    matches
+        .subcommand()
+        .is_some_and(|(_, inner)| is_given(value_in(inner, "verbose")))
 }
 
 /// The message for arguments that `clap` accepts and that ask for nothing.

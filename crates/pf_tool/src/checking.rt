@@ -67,10 +67,7 @@ pub(crate) fn checked_sources(
         let one = checked_source(alloc, reporter, place, source)?;
         text.push_str(one.text.as_str())?;
         messages.push_str(one.messages.as_str())?;
-        if is_any {
-            continue;
-        }
-        is_any = one.is_refused();
+        is_any = is_any || one.is_refused();
     }
     let ending = if is_any {
         Ending::Refused

@@ -50,16 +50,10 @@ fn refused_text(alloc: Global, line: Option<u64>, code: u8) -> Result<String, Al
     ensures { IfOk result (λ text. string_bytes text ≡ refused_text line code) }
 {
     let mut text = String::new(alloc);
-    text.push_str("refused ")?;
-    text.push_str(code.to_string(alloc)?.as_str())?;
     match line {
-        Some(line) => {
-            text.push_str(" line ")?;
-            text.push_str(line.to_string(alloc)?.as_str())?;
-        }
-        None => {}
+        Some(line) => writeln!(text, "refused {code} line {line}")?,
+        None => writeln!(text, "refused {code}")?,
     }
-    text.push('\n')?;
     Ok(text)
 }
 

@@ -21,7 +21,7 @@ fn text_of(alloc: Global, printed: &[Printed]) -> Result<String, AllocError>
 {
     let mut text = String::new(alloc);
     for piece in printed {
-        piece.push_to(alloc, &mut text)?;
+        piece.push_to(&mut text)?;
     }
     Ok(text)
 }
@@ -72,12 +72,9 @@ fn refusals_in(
 {
     let mut messages = String::new(alloc);
     for (i, mark) in marks.iter().enumerate() {
-        match mark {
-            Some(code) => {
-                let message = reporter.refusal(alloc, "stdout", Some((i + 1) as u64), *code)?;
-                messages.push_str(message.as_str())?;
-            }
-            None => {}
+        if let Some(code) = mark {
+            let message = reporter.refusal(alloc, "stdout", Some((i + 1) as u64), *code)?;
+            messages.push_str(message.as_str())?;
         }
     }
     Ok(messages)

@@ -17,7 +17,7 @@ use crate::line::{BEGIN, Line, LineFault, arguments_of, line_of, mode_of, must_f
 use crate::running::Runner;
 use bstr::ByteSlice;
 use clap::{Arg, ArgAction, Command};
-use cli_io::{InputFault, Status, misused, out_of_memory, read_all};
+use cli_io::{INVALID_ARGUMENTS, InputFault, Status, UNREADABLE, misused, out_of_memory, read_all};
 use cli_nft::read_file;
 use std::alloc::{AllocError, Global};
 use std::fs::{self, Permissions};
@@ -45,7 +45,7 @@ didn't.";
 
 /// The modes that `chmod` takes.
 const BAD_MODE: LineFault = LineFault::Refused(
-    40,
+    INVALID_ARGUMENTS,
     "chmod needs a mode of octal digits, 0 to 7777, and files",
 );
 
@@ -85,7 +85,7 @@ fn set_modes<F: Files>(files: &F, arguments: &[&str]) -> Result<Status, LineFaul
     }
     for path in paths {
         if fs::set_permissions(files, *path, Permissions::from_mode(mode)).is_err() {
-            return Err(LineFault::Refused(90, "a mode that can't be set"));
+            return Err(LineFault::Refused(UNREADABLE, "a mode that can't be set"));
         }
     }
     Ok(Status::Done)
@@ -139,10 +139,10 @@ fn status_of<F: Files, T: Runner, W: Write>(
     let arguments = arguments_of(alloc, shared, line.arguments)?;
     let arguments = arguments.as_slice();
     if is_batch(arguments) {
-        return Err(LineFault::Refused(40, "a batch in a batch"));
+        return Err(LineFault::Refused(INVALID_ARGUMENTS, "a batch in a batch"));
     }
     match subcommand_of(arguments) {
-        "" => Err(LineFault::Refused(40, "no subcommand")),
+        "" => Err(LineFault::Refused(INVALID_ARGUMENTS, "no subcommand")),
         "chmod" => set_modes(files, arguments),
         "show" => Ok(run_kept(runner, arguments, kept, writer, errors)),
         _ => {
@@ -294,7 +294,7 @@ pub(crate) fn run_batch<F: Files, T: Runner, R: Read, W: Write, E: Write>(
             Ok(status) => status,
             Err(_) => Status::Failed,
         },
-        Ok(None) => after(writer.write_all(b"refused 90\n"), Status::Refused),
+        Ok(None) => after(writeln!(writer, "refused {UNREADABLE}"), Status::Refused),
         Err(InputFault::Memory) => out_of_memory(writer),
         Err(InputFault::Failed | InputFault::TooLong) => Status::Failed,
     }

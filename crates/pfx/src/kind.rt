@@ -70,36 +70,21 @@ pub(crate) fn is_help(argument: &str) -> bool
 fn has_control(arguments: &[&str]) -> bool
     ensures { result ≡ has_control (map (λ a. a.now) arguments.now) }
 {
-    for argument in arguments {
-        if names_control(argument) {
-            return true;
-        }
-    }
-    false
+    arguments.iter().any(|argument| names_control(argument))
 }
 
 /// Whether one of these asks for help.
 fn any_is_help(arguments: &[&str]) -> bool
     ensures { result ≡ list_any is_help (map (λ a. a.now) arguments.now) }
 {
-    for argument in arguments {
-        if is_help(argument) {
-            return true;
-        }
-    }
-    false
+    arguments.iter().any(|argument| is_help(argument))
 }
 
 /// Whether one of these names a node.
 fn any_names_node(arguments: &[&str]) -> bool
     ensures { result ≡ list_any names_node (map (λ a. a.now) arguments.now) }
 {
-    for argument in arguments {
-        if names_node(argument) {
-            return true;
-        }
-    }
-    false
+    arguments.iter().any(|argument| names_node(argument))
 }
 
 /// Whether help is asked for, and no node is named.

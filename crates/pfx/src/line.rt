@@ -4,6 +4,7 @@ ghost use Rattle.std.specs.Prelude.{◌≡◌};
 ghost use Rattle.pfx.specs.Batches.{must_fail};
 
 use bstr::ByteSlice;
+use cli_io::INVALID_ARGUMENTS;
 use std::alloc::Global;
 
 /// What is before a command line, which has a blank behind it.
@@ -19,7 +20,7 @@ pub(crate) enum LineFault {
 }
 
 /// That a command line, or a line that it shares, isn't UTF-8.
-const NO_TEXT: LineFault = LineFault::Refused(40, "not UTF-8");
+const NO_TEXT: LineFault = LineFault::Refused(INVALID_ARGUMENTS, "not UTF-8");
 
 /// A command line with its input.
 #[derive(Clone, Copy)]

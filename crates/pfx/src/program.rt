@@ -115,12 +115,7 @@ fn excludes_control(argument: &str) -> bool
 fn any_excludes_control(arguments: &[&str]) -> bool
     ensures { result ≡ list_any excludes_control (map (λ a. a.now) arguments.now) }
 {
-    for argument in arguments {
-        if excludes_control(argument) {
-            return true;
-        }
-    }
-    false
+    arguments.iter().any(|argument| excludes_control(argument))
 }
 
 /// Whether the environment may name the control socket: of `ask` or `follow`, without such an argument.

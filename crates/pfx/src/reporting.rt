@@ -8,14 +8,11 @@ ghost use Rattle.pfx.specs.Runs.{Ran};
 
 use crate::kind::subcommand_of;
 use crate::running::{Runner, run_any};
-use cli_io::{REFUSALS, Shown, Status, explanation, knock};
+use cli_io::{NOBODY_ANSWERS, REFUSALS, Shown, Status, explanation, knock};
 use std::alloc::Global;
 use std::io::{self, Read, Write};
 use std::net::Net;
 use std::rt::Files;
-
-/// That nobody answers at a control socket.
-const NOBODY: u8 = 85;
 
 /// The output, with the number of the refusal that was written last.
 #[derive(Drop)]
@@ -81,7 +78,7 @@ fn value_of<'s>(arguments: &[&'s str], option: &str) -> Option<&'s str> {
 /// Writes what a refusal means, and of a control socket at which nobody answers the system's error.
 fn report<RT: Net, E: Write>(rt: &RT, arguments: &[&str], code: u8, errors: &mut E) {
     // a message that can't be written changes nothing
-    if code == NOBODY {
+    if code == NOBODY_ANSWERS {
         if let Some(path) = value_of(arguments, "--control") {
             if let Err(error) = knock(rt, path) {
                 let _written = writeln!(errors, "pfx: {}: {error}", Shown(path));
