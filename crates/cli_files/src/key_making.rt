@@ -20,7 +20,5 @@ pub fn new_key<R: RandomBytes>(source: &R) -> io::Result<[u8; 32]>
 pub fn key_text(alloc: Global, key: &[u8; 32]) -> Result<String, AllocError>
     ensures { IfOk result (λ text. string_bytes text ≡ key_text key.now) }
 {
-    let mut text = hex::encode(alloc, *key)?;
-    text.push('\n')?;
-    Ok(text)
+    format!(in alloc; "{}\n", hex::encode(alloc, *key)?)
 }

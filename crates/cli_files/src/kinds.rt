@@ -27,13 +27,8 @@ pub(crate) fn kind_of(key: &str) -> Option<Kind>
         "me" => Some(Kind::Number(255)),
         "cluster" => Some(Kind::Number(4_294_967_295)),
         "members" => Some(Kind::Texts),
-        "store" => Some(Kind::Text),
-        "key" => Some(Kind::Text),
-        "other-key" => Some(Kind::Text),
-        "control" => Some(Kind::Text),
-        "metrics" => Some(Kind::Text),
-        "unsealed" => Some(Kind::Flag),
-        "quiet" => Some(Kind::Flag),
+        "store" | "key" | "other-key" | "control" | "metrics" => Some(Kind::Text),
+        "unsealed" | "quiet" => Some(Kind::Flag),
         _ => None,
     }
 }

@@ -106,9 +106,7 @@ pub fn raise_at<P: StartsPlace>(
     let text = place.read(alloc)?;
     let mut known = known_in(alloc, &text, members, may_be_made)?;
     let own = usize::from(me);
-    let Some(start) = next_start(known[own].start, seconds, salt) else {
-        return Err(RaiseFault::Spent);
-    };
+    let start = next_start(known[own].start, seconds, salt).ok_or(RaiseFault::Spent)?;
     known[own].start = start;
     let written = write_starts(alloc, known.as_slice())?;
     place.replace(alloc, written.as_slice())?;

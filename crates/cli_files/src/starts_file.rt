@@ -20,9 +20,7 @@ use std::time::{Clock, SystemTime};
 pub fn starts_path(alloc: Global, store: &str) -> Result<String, AllocError>
     ensures { IfOk result (λ path. string_bytes path ≡ store.now ++ codes "-starts") }
 {
-    let mut path = String::from_str(alloc, store)?;
-    path.push_str("-starts")?;
-    Ok(path)
+    format!(in alloc; "{store}-starts")
 }
 
 /// What a file of starts has of a cluster of that many members, by [`starts_at`] at the file at a path.

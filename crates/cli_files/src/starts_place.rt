@@ -52,9 +52,7 @@ fn put<F: Files>(files: &F, alloc: Global, path: &str, text: &[u8]) -> Result<()
     file.write_all(text)?;
     file.sync_all()?;
     fs::rename(files, beside.as_str(), path)?;
-    let folder = fs::open(files, folder_of(path))?;
-    folder.sync_all()?;
-    Ok(())
+    Ok(fs::open(files, folder_of(path))?.sync_all()?)
 }
 
 impl<F: Files> StartsPlace for StartsFile<'_, F> {

@@ -27,9 +27,7 @@ fn member_in(digits: &[u8]) -> Option<KnownMember>
     ensures { (m : declared.KnownMember) → Fits m → digits.now ≡ encode_lower (known_bytes m) → result ≡ Some m }
 {
     let mut bytes = [0u8; 16];
-    if hex::decode_to_slice(digits, &mut bytes).is_err() {
-        return None;
-    }
+    hex::decode_to_slice(digits, &mut bytes).ok()?;
     Some(KnownMember {
         start: Start {
             number: u32::from_be_bytes([bytes[0], bytes[1], bytes[2], bytes[3]]),
@@ -59,10 +57,8 @@ pub fn read_starts(alloc: Global, text: &[u8]) -> Result<Vec<KnownMember>, Start
     }
     let mut members = Vec::with_capacity(alloc, count)?;
     for i in 0..count {
-        match member_in(&lines[LINE * i..LINE * i + DIGITS]) {
-            Some(member) => members.push(member)?,
-            None => return Err(StartsFault::Damaged),
-        }
+        let digits = &lines[LINE * i..LINE * i + DIGITS];
+        members.push(member_in(digits).ok_or(StartsFault::Damaged)?)?;
     }
     let again = write_starts(alloc, members.as_slice())?;
     if again.as_slice() != text {

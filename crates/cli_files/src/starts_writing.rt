@@ -23,8 +23,7 @@ fn known_bytes(alloc: Global, member: &KnownMember) -> Result<Vec<u8>, AllocErro
 fn write_line(alloc: Global, member: &KnownMember, text: &mut Vec<u8>) -> Result<(), AllocError>
     ensures { OnOk result (text.new.items ≡ text.old.items ++ line_of member.now) }
 {
-    let bytes = known_bytes(alloc, member)?;
-    let digits = hex::encode(alloc, bytes.as_slice())?;
+    let digits = hex::encode(alloc, known_bytes(alloc, member)?)?;
     text.extend_from_slice(digits.as_bytes())?;
     text.push(b'\n')?;
     Ok(())

@@ -20,9 +20,11 @@ ghost use Rattle.cli_node.specs.declared.ask.TheConstants.{CLIENT};
 
 use crate::outcome::{Outcome, answer_outcome, fault_outcome, numbered};
 use clap::ArgMatches;
-use cli_io::{InputFault, Sources, number_in, source_named, value_in};
+use cli_io::{
+    BAD_ADDRESS, INVALID_ARGUMENTS, InputFault, Sources, number_in, source_named, value_in,
+};
 use node_udp::{BindFault, Membership, UdpWire, ask_once};
-use pf_arguments::{Action, Command, USAGE, from_matches};
+use pf_arguments::{Action, Command, from_matches};
 use px_transport::Wire;
 use std::alloc::Global;
 use std::io::Read;
@@ -98,7 +100,7 @@ fn unread(name: &str, fault: InputFault) -> Outcome
         InputFault::Failed | InputFault::TooLong => if name == "-" {
             Outcome::Unread
         } else {
-            Outcome::Refused(USAGE)
+            Outcome::Refused(INVALID_ARGUMENTS)
         },
     }
 }
@@ -129,7 +131,7 @@ fn change_in(alloc: Global, matches: &ArgMatches<'_>, text: &[u8]) -> Result<Com
 {
     match from_matches(alloc, matches, text) {
         Ok(Action::Change(command)) => Ok(command),
-        Ok(_) => Err(Outcome::Refused(USAGE)),
+        Ok(_) => Err(Outcome::Refused(INVALID_ARGUMENTS)),
         Err(fault) => Err(numbered(fault.code())),
     }
 }
@@ -177,7 +179,7 @@ impl Client for HostRuntime {
         match UdpWire::bind(&*self, alloc, &[to], CLIENT, WAIT_MS) {
             Ok(wire) => Ok(wire),
             Err(BindFault::Memory) => Err(Outcome::Memory),
-            Err(BindFault::NoSocket) => Err(Outcome::Refused(82)),
+            Err(BindFault::NoSocket) => Err(Outcome::Refused(BAD_ADDRESS)),
         }
     }
 
@@ -231,7 +233,7 @@ pub(crate) fn ask_outcome<T: Sources, C: Client, R: Read>(
         result }
 {
     let Some(m) = membership(arguments) else {
-        return Outcome::Refused(USAGE);
+        return Outcome::Refused(INVALID_ARGUMENTS);
     };
     let text = match text_for(sources, alloc, value_in(matches, "file"), reader) {
         Ok(text) => text,
@@ -242,8 +244,7 @@ pub(crate) fn ask_outcome<T: Sources, C: Client, R: Read>(
         Err(outcome) => return outcome,
     };
     match client.bind(alloc, arguments.to) {
-        Ok(wire) => {
-            let mut wire = wire;
+        Ok(mut wire) => {
             let outcome = asked_over(alloc, arguments, &m, &command, &mut wire);
             client.close(wire);
             outcome

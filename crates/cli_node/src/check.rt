@@ -26,9 +26,8 @@ use crate::outcome::Outcome;
 use crate::sealing::of_starts;
 use crate::sockets::{of_control, of_own_address};
 use crate::store::{Found, Opening, failed_outcome, found_at, identity_of, opening_of, untaken};
-use cli_io::{Shown, open_regular};
+use cli_io::{BAD_ADDRESS, INVALID_ARGUMENTS, STORE_FAILED, Shown, open_regular};
 use node_loop::Membership;
-use pf_arguments::USAGE;
 use px_store::examine;
 use sqlite::{Alter, Connection, Error, ErrorCode, File, FileStore};
 use sqlite_trees::store::Store;
@@ -61,13 +60,9 @@ fn checked(
 ) -> Outcome
     ensures { result ≡ checked place keys store starts addresses control }
 {
-    first_of(
-        place,
-        first_of(
-            keys,
-            first_of(store, first_of(starts, first_of(addresses, control))),
-        ),
-    )
+    let sockets = first_of(addresses, control);
+    let files = first_of(store, first_of(starts, sockets));
+    first_of(place, first_of(keys, files))
 }
 
 /// What is refused of a store that is open; nothing is changed.
@@ -121,7 +116,7 @@ fn looked_at<RT: Files + Eprint, I: Inspection>(
 {
     if !is_database(rt, arguments.store) {
         log_closed(rt, arguments.store, &"it isn't a database");
-        return Outcome::Refused(70);
+        return Outcome::Refused(STORE_FAILED);
     }
     let Ok(lacks_log) = inspection.lacks_log(alloc, arguments.store) else {
         return Outcome::Memory;
@@ -134,8 +129,7 @@ fn looked_at<RT: Files + Eprint, I: Inspection>(
         return Outcome::Sound;
     }
     match inspection.inspect(arguments.store) {
-        Ok(conn) => {
-            let mut conn = conn;
+        Ok(mut conn) => {
             let outcome = judged(rt, arguments, m, &mut conn);
             inspection.leave(conn);
             outcome
@@ -247,7 +241,7 @@ fn of_place(
         Some(_) => Outcome::Sound,
         None => {
             log_place(rt, arguments);
-            Outcome::Refused(USAGE)
+            Outcome::Refused(INVALID_ARGUMENTS)
         }
     }
 }
@@ -280,7 +274,7 @@ fn of_addresses(rt: &HostRuntime, arguments: NodeArguments<'_, '_, '_>) -> Outco
     ensures { (result ≡ Sound) ⊎ (result ≡ Refused 82) }
 {
     if !log_unknown(rt, arguments) {
-        return Outcome::Refused(82);
+        return Outcome::Refused(BAD_ADDRESS);
     }
     match figures_at(arguments) {
         Ok(_) => of_own_address(rt, arguments),

@@ -130,13 +130,8 @@ fn open_files<D: Disk + Drop>(
     ensures guarded { IfOk result (λ c. HasCleanDisk (file_state c) → (file_state c).IsShielded) }
 {
     let size = PageSize::new(PAGE).unwrap();
-    match probe_blank(alloc, &mut files, size, false) {
-        Ok(is_blank) => {
-            if is_blank {
-                return make(alloc, files, size, options);
-            }
-        }
-        Err(error) => return Err(read_error(error)),
+    if probe_blank(alloc, &mut files, size, false).map_err(read_error)? {
+        return make(alloc, files, size, options);
     }
     match Connection::open_files(alloc, files, options) {
         Ok(conn) => Ok(conn),

@@ -10,7 +10,10 @@ ghost use Rattle.px_store.specs.Tables.{no_schema};
 use crate::node::NodeArguments;
 use crate::sockets::try_control;
 use cli_files::RaiseFault;
-use cli_io::{Shown, make_private, open_regular};
+use cli_io::{
+    BAD_ADDRESS, BAD_CONTROL_SOCKET, BAD_ROW, FILE_EXISTS, NO_STORE, STORE_FAILED, Shown,
+    make_private, open_regular,
+};
 use node_loop::Membership;
 use px_store::{AdoptFault, owner_in};
 use sqlite::{Alter, Connection};
@@ -29,29 +32,40 @@ pub(crate) fn why_closed<F: Files>(files: &F, path: &str) -> io::Result<()> {
     Ok(())
 }
 
+/// Logs what is wrong with a file or an address.
+pub(crate) fn log_error<RT: Eprint, E: Display>(rt: &RT, what: &str, name: &str, why: &E) {
+    let _logged = eprintln!(rt; "pfx: error: {what} {}: {why}", Shown(name));
+}
+
+/// Logs what is wrong with it: what the system reports where it is tried again, else this.
+pub(crate) fn log_cause<RT: Eprint, E: Display>(
+    rt: &RT,
+    what: &str,
+    name: &str,
+    again: io::Result<()>,
+    why: &E,
+) {
+    match again {
+        Ok(()) => log_error(rt, what, name, why),
+        Err(error) => log_error(rt, what, name, &error),
+    }
+}
+
 /// Logs why a store isn't opened: what the system reports of its file, else what the database reports.
 pub(crate) fn log_closed<RT: Files + Eprint, E: Display>(rt: &RT, path: &str, why: &E) {
-    let path = Shown(path);
-    match why_closed(rt, path.0) {
-        Ok(()) => {
-            let _logged = eprintln!(rt; "pfx: error: store {path}: {why}");
-        }
-        Err(error) => {
-            let _logged = eprintln!(rt; "pfx: error: store {path}: {error}");
-        }
-    }
+    log_cause(rt, "store", path, why_closed(rt, path), why);
 }
 
 /// Logs why a store is neither opened nor created.
 pub(crate) fn log_storeless<RT: Files + Eprint>(rt: &RT, path: &str, code: u8) {
     let path = Shown(path);
     match code {
-        93 => {
+        NO_STORE => {
             let _logged = eprintln!(rt;
                 "pfx: error: store {path} is missing: --new creates one, for a node that never ran; else it is lost"
             );
         }
-        94 => {
+        FILE_EXISTS => {
             let _logged = eprintln!(rt;
                 "pfx: error: store {path} exists: a node is started on it without --new"
             );
@@ -80,11 +94,11 @@ pub(crate) fn log_judged<RT: Eprint, S: Alter>(
     ensures stop { HasCleanDisk (state S.Store conn.new) →
         LeavesOld (state S.Store conn.old) (state S.Store conn.new) }
 {
-    let path = Shown(path);
+    let shown = Shown(path);
     if fault == AdoptFault::WrongNode {
         if let Ok(owner) = owner_in(conn) {
             let _logged = eprintln!(rt;
-                "pfx: error: store {path} is of node {} of {}, cluster {}; this is node {} of {}, cluster {}",
+                "pfx: error: store {shown} is of node {} of {}, cluster {}; this is node {} of {}, cluster {}",
                 owner.node,
                 owner.members,
                 owner.cluster,
@@ -97,12 +111,12 @@ pub(crate) fn log_judged<RT: Eprint, S: Alter>(
     }
     if fault == AdoptFault::StoreVersion && is_bare(conn) {
         let _logged = eprintln!(rt;
-            "pfx: error: store {path} has no tables: its record is lost; if a kill ended the first start before they \
+            "pfx: error: store {shown} has no tables: its record is lost; if a kill ended the first start before they \
              were made, and the node never ran, remove it"
         );
         return;
     }
-    let _logged = eprintln!(rt; "pfx: error: store {path}: {fault}");
+    log_error(rt, "store", path, &fault);
 }
 
 /// Logs which number isn't a member's.
@@ -120,36 +134,23 @@ pub(crate) fn log_unknown(rt: &HostRuntime, arguments: NodeArguments<'_, '_, '_>
     for member in arguments.members {
         match (*member).to_socket_addrs(rt) {
             Ok(mut found) => {
-                if !found.any(|address| address.port() != 0) {
-                    are_known = false;
-                    let _logged = eprintln!(rt;
-                        "pfx: error: address {}: it has no port",
-                        Shown(*member)
-                    );
+                if found.any(|address| address.port() != 0) {
+                    continue;
                 }
+                log_error(rt, "address", member, &"it has no port");
             }
-            Err(error) => {
-                are_known = false;
-                let _logged = eprintln!(rt; "pfx: error: address {}: {error}", Shown(*member));
-            }
+            Err(error) => log_error(rt, "address", member, &error),
         }
+        are_known = false;
     }
     are_known
 }
 
 /// Logs why the port of metrics can't be opened.
 pub(crate) fn log_metrics(rt: &HostRuntime, figures: &str) {
-    match TcpListener::bind(rt, figures) {
-        Ok(_bound) => {
-            let _logged = eprintln!(rt;
-                "pfx: error: metrics {}: not a loopback address with a port",
-                Shown(figures)
-            );
-        }
-        Err(error) => {
-            let _logged = eprintln!(rt; "pfx: error: metrics {}: {error}", Shown(figures));
-        }
-    }
+    let bound = TcpListener::bind(rt, figures).map(drop);
+    let why = "not a loopback address with a port";
+    log_cause(rt, "metrics", figures, bound, &why);
 }
 
 /// Logs why there is no socket: of the members, or, if theirs can be opened, of metrics.
@@ -158,7 +159,7 @@ fn log_unbound(rt: &HostRuntime, arguments: NodeArguments<'_, '_, '_>) {
         return;
     };
     if let Err(error) = UdpSocket::bind(rt, *own) {
-        let _logged = eprintln!(rt; "pfx: error: address {}: {error}", Shown(*own));
+        log_error(rt, "address", own, &error);
         return;
     }
     match arguments.metrics {
@@ -173,17 +174,8 @@ fn log_unbound(rt: &HostRuntime, arguments: NodeArguments<'_, '_, '_>) {
 
 /// Logs why no control socket is created at a path.
 pub(crate) fn log_uncontrolled(rt: &HostRuntime, alloc: Global, path: &str) {
-    let shown = Shown(path);
-    match try_control(rt, alloc, path) {
-        Ok(()) => {
-            let _logged = eprintln!(rt;
-                "pfx: error: control socket {shown}: the system refused it"
-            );
-        }
-        Err(error) => {
-            let _logged = eprintln!(rt; "pfx: error: control socket {shown}: {error}");
-        }
-    }
+    let tried = try_control(rt, alloc, path);
+    log_cause(rt, "control socket", path, tried, &"the system refused it");
 }
 
 /// Why a file of starts can't be read, or written beside its place, as the system reports it; none where it can.
@@ -202,13 +194,10 @@ fn why_unusable(rt: &HostRuntime, alloc: Global, path: &str, fault: RaiseFault) 
 
 /// Logs why a file of starts can't be used.
 pub(crate) fn log_unusable(rt: &HostRuntime, alloc: Global, path: &str, fault: RaiseFault) {
-    let shown = Shown(path);
     match why_unusable(rt, alloc, path, fault) {
-        Ok(()) => {
-            let _logged = eprintln!(rt; "pfx: error: starts {shown}: {fault}");
-        }
+        Ok(()) => log_error(rt, "starts", path, &fault),
         Err(error) => {
-            let _logged = eprintln!(rt; "pfx: error: starts {shown}: {fault}: {error}");
+            let _logged = eprintln!(rt; "pfx: error: starts {}: {fault}: {error}", Shown(path));
         }
     }
 }
@@ -221,18 +210,16 @@ pub(crate) fn log_why(
     code: u8,
 ) {
     match code {
-        70 => log_closed(
+        STORE_FAILED => log_closed(
             rt,
             arguments.store,
             &"a change couldn't be written, or read",
         ),
-        72 => {
-            let _logged = eprintln!(rt; "pfx: error: store {}: a bad row", Shown(arguments.store));
-        }
-        82 => if log_unknown(rt, arguments) {
+        BAD_ROW => log_error(rt, "store", arguments.store, &"a bad row"),
+        BAD_ADDRESS => if log_unknown(rt, arguments) {
             log_unbound(rt, arguments);
         },
-        84 => if let Some(control) = arguments.control {
+        BAD_CONTROL_SOCKET => if let Some(control) = arguments.control {
             log_uncontrolled(rt, alloc, control);
         },
         _ => {}

@@ -12,20 +12,17 @@ ghost use Rattle.cli_node.specs.Keeping.{IsKeptKey, IsNewKey, IsWritten, IsWritt
 ghost use Rattle.cli_node.specs.Places.{is_loopback, is_loopback_ip};
 ghost use Rattle.cli_node.specs.Secrets.{IsNamed, AreNamed};
 
+use crate::faults::{log_cause, log_error};
 use crate::files::NodeFiles;
 use crate::node::NodeArguments;
 use crate::outcome::Outcome;
-use crate::store::FILE_IS_THERE;
 use cli_files::{KeyFault, RandomBytes, key_text, new_key};
-use cli_io::{Shown, make_private, open_regular};
+use cli_io::{BAD_KEY, FILE_EXISTS, Shown, make_private, open_regular};
 use node_udp::parse_address;
 use pf_addr::Addr;
 use std::alloc::Global;
 use std::fs::{self, Files};
 use std::io::{self, Eprint, ErrorKind, Write};
-
-/// A key's file that is none, or can't be read or made.
-const BAD_KEY: u8 = 83;
 
 /// The keys of a cluster's tags: the one that a node seals with, and another under which it hears too.
 #[derive(Clone, Copy)]
@@ -41,14 +38,7 @@ fn key_refused(rt: &HostRuntime, path: &str, fault: KeyFault) -> Outcome
     if fault == KeyFault::Memory {
         return Outcome::Memory;
     }
-    match open_regular(rt, path) {
-        Ok(_opened) => {
-            let _logged = eprintln!(rt; "pfx: error: key {}: {fault}", Shown(path));
-        }
-        Err(error) => {
-            let _logged = eprintln!(rt; "pfx: error: key {}: {error}", Shown(path));
-        }
-    }
+    log_cause(rt, "key", path, open_regular(rt, path).map(drop), &fault);
     Outcome::Refused(BAD_KEY)
 }
 
@@ -192,12 +182,11 @@ fn kept<RT: Eprint, F: NewFiles>(
     match files.make(path, text.as_str()) {
         Ok(()) => Outcome::Made,
         Err(error) => {
-            let _logged = eprintln!(rt; "pfx: error: key {}: {error}", Shown(path));
-            if error.kind() == ErrorKind::AlreadyExists {
-                Outcome::Refused(FILE_IS_THERE)
-            } else {
-                Outcome::Refused(BAD_KEY)
-            }
+            log_error(rt, "key", path, &error);
+            Outcome::Refused(match error.kind() {
+                ErrorKind::AlreadyExists => FILE_EXISTS,
+                _ => BAD_KEY,
+            })
         }
     }
 }

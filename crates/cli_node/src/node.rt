@@ -19,7 +19,7 @@ ghost use Rattle.cli_node.specs.Settled.{AreArguments, is_complete, is_whole};
 ghost use Rattle.cli_node.specs.Stores.{HasNone, IsClosedIn, IsFoundAt, IsKeptIn, IsNone, IsStoreless, IsRunOver};
 ghost use Rattle.cli_node.specs.Stores.{identity_at, is_made};
 ghost use Rattle.cli_node.specs.declared.store.Found.{Found};
-ghost use Rattle.cli_node.specs.declared.store.TheConstants.{NO_STORE};
+ghost use Rattle.cli_io.specs.declared.numbers.TheConstants.{NO_STORE};
 ghost use Rattle.cli_node.specs.Places.{is_count, has_place, turns_or_all};
 
 use crate::database::Databases;
@@ -32,11 +32,10 @@ use crate::sealing::{Sealing, sealing_for};
 use crate::store::{Found, found_at, is_made, record_at};
 use clap::ArgMatches;
 use cli_files::NodeFile;
-use cli_io::{has_flag, number_in, value_in};
+use cli_io::{BAD_ADDRESS, INVALID_ARGUMENTS, has_flag, number_in, value_in};
 use node_control::{ControlPlace, Observer, run_at_socket, run_sealed_at_socket};
 use node_loop::{Membership, Timer, open_member};
 use node_udp::{Address, BindFault, UdpWire};
-use pf_arguments::USAGE;
 use px_packet::PacketKeys;
 use px_records::Records;
 use px_store::SqlRecords;
@@ -45,6 +44,7 @@ use px_wire::MEMBERS;
 use sqlite::{File, FileStore};
 use sqlite_trees::store::Store;
 use std::alloc::{AllocError, Global};
+use std::fmt::Write;
 use std::net::{SocketAddr, UdpSocket};
 
 /// How long a turn waits for a datagram, in milliseconds.
@@ -84,10 +84,7 @@ pub struct NodeArguments<'m, 'w, 'a> {
 fn text_for<'g: 's, 's>(matches: &ArgMatches<'g>, file: &'s NodeFile, name: &str) -> Option<&'s str>
     ensures { option_map (λ t. t.now) result ≡ text_for (rows_of (found_of matches.now)) file.now name.now }
 {
-    match value_in(matches, name) {
-        Some(text) => Some(text),
-        None => file.text(name),
-    }
+    value_in(matches, name).or_else(|| file.text(name))
 }
 
 /// The number of an option, that of the file where it isn't given.
@@ -170,11 +167,7 @@ fn count(members: &[&str]) -> Option<u8>
     ensures none { IsSome result ↔ IsTrue (is_count (length members.now)) }
 {
     let n = members.len();
-    if n >= 1 && n <= usize::from(MEMBERS) {
-        Some(n as u8)
-    } else {
-        None
-    }
+    (n >= 1 && n <= usize::from(MEMBERS)).then(|| n as u8)
 }
 
 /// The cluster, how many members it has, and which one this is; none where the number is none of theirs.
@@ -205,15 +198,14 @@ pub(crate) fn bind(
     ensures hears { IfOk result (λ w. hears_of w ≡ hears_asks arguments.entry.key arguments.entry.control) }
 {
     match UdpWire::bind(rt, alloc, arguments.members, arguments.me, WAIT_MS) {
-        Ok(wire) => {
-            let mut wire = wire;
+        Ok(mut wire) => {
             if !arguments.hears_asks() {
                 wire.hear_members();
             }
             Ok(wire)
         }
         Err(BindFault::Memory) => Err(Outcome::Memory),
-        Err(BindFault::NoSocket) => Err(Outcome::Refused(82)),
+        Err(BindFault::NoSocket) => Err(Outcome::Refused(BAD_ADDRESS)),
     }
 }
 
@@ -349,7 +341,7 @@ pub(crate) fn figures_at(
     };
     match text.parse::<SocketAddr>() {
         Ok(address) if address.ip().is_loopback() && address.port() != 0 => Ok(Some(address)),
-        _ => Err(Outcome::Refused(82)),
+        _ => Err(Outcome::Refused(BAD_ADDRESS)),
     }
 }
 
@@ -360,10 +352,8 @@ fn addresses_text(alloc: Global, addresses: &[Address]) -> Result<String, AllocE
     let mut text = String::new(alloc);
     let mut left = addresses;
     while let [first, rest @ ..] = left {
-        text.push_str(first.to_string(alloc)?.as_str())?;
-        if !rest.is_empty() {
-            text.push(' ')?;
-        }
+        let blank = if rest.is_empty() { "" } else { " " };
+        write!(text, "{first}{blank}")?;
         left = rest;
     }
     Ok(text)
@@ -593,7 +583,7 @@ pub fn run_node<F: NodeFiles, D: Databases, T: Timer>(
 {
     let Some(m) = membership(arguments) else {
         log_place(rt, arguments);
-        return Outcome::Refused(USAGE);
+        return Outcome::Refused(INVALID_ARGUMENTS);
     };
     let keys = match keys_for(rt, files, alloc, arguments) {
         Ok(keys) => keys,

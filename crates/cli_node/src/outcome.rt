@@ -1,16 +1,20 @@
 //! What a run of `node`, `ask` or `key` gives.
 
 ghost use Rattle.std.specs.Prelude.{◌≡◌, ◌≢◌, IfOk, string_bytes};
-ghost use Rattle.cli_node.specs.declared.outcome.Outcome.TheVariants.{Front, Asked, Refused, RefusedLine};
+ghost use Rattle.cli_node.specs.declared.outcome.Outcome.TheVariants.{Refused};
 ghost use Rattle.cli_node.specs.Outcomes.{line_of, status_of, Wrote};
 ghost use Rattle.cli_node.specs.Endings.{numbered, outcome_of, ending_of, answer_outcome, ended_outcome};
 
 use cli_files::key_text;
-use cli_io::{Status, out_of_memory, write_bytes};
+use cli_io::{
+    BAD_ADDRESS, BAD_CONTROL_SOCKET, BAD_ROW, NODE_FAILED, STORE_FAILED, Status, out_of_memory,
+    write_bytes,
+};
 use node_loop::Ended;
 use node_udp::AskAnswer;
 use px_replica::NodeFault;
 use std::alloc::{AllocError, Global};
+use std::fmt::Write as _;
 use std::io::Write;
 
 /// How a run ends.
@@ -40,62 +44,26 @@ pub enum Outcome {
     Unread,
 }
 
-/// `front F applied A`
-fn front_line(alloc: Global, front: u32, applied: u32) -> Result<String, AllocError>
-    ensures { IfOk result (λ text. string_bytes text ≡ line_of (Front front applied)) }
-{
-    let mut text = String::new(alloc);
-    text.push_str("front ")?;
-    text.push_str(front.to_string(alloc)?.as_str())?;
-    text.push_str(" applied ")?;
-    text.push_str(applied.to_string(alloc)?.as_str())?;
-    text.push('\n')?;
-    Ok(text)
-}
-
-/// `asked N.NUMBER`
-fn asked_line(alloc: Global, node: u8, number: u64) -> Result<String, AllocError>
-    ensures { IfOk result (λ text. string_bytes text ≡ line_of (Asked node number)) }
-{
-    let mut text = String::new(alloc);
-    text.push_str("asked ")?;
-    text.push_str(node.to_string(alloc)?.as_str())?;
-    text.push('.')?;
-    text.push_str(number.to_string(alloc)?.as_str())?;
-    text.push('\n')?;
-    Ok(text)
-}
-
-/// `refused CODE line L`
-fn refused_line(alloc: Global, code: u8, at: u64) -> Result<String, AllocError>
-    ensures { IfOk result (λ text. string_bytes text ≡ line_of (RefusedLine code at)) }
-{
-    let mut text = String::new(alloc);
-    text.push_str("refused ")?;
-    text.push_str(code.to_string(alloc)?.as_str())?;
-    text.push_str(" line ")?;
-    text.push_str(at.to_string(alloc)?.as_str())?;
-    text.push('\n')?;
-    Ok(text)
-}
-
 /// The line of an outcome; none is written where something couldn't be read.
 fn line_of(alloc: Global, outcome: Outcome) -> Result<String, AllocError>
     ensures { IfOk result (λ text. string_bytes text ≡ line_of outcome) }
 {
-    match outcome {
+    let mut text = String::new(alloc);
+    let written = match outcome {
         Outcome::Front { front, applied } | Outcome::Stopped { front, applied } => {
-            front_line(alloc, front, applied)
+            writeln!(text, "front {front} applied {applied}")
         }
-        Outcome::Asked { node, number } => asked_line(alloc, node, number),
-        Outcome::Key(key) => key_text(alloc, &key),
-        Outcome::Refused(code) => format!(in alloc; "refused {code}\n"),
-        Outcome::RefusedLine { code, line } => refused_line(alloc, code, line),
-        Outcome::NoAnswer => format!(in alloc; "no answer\n"),
-        Outcome::Sound => format!(in alloc; "ok\n"),
-        Outcome::Memory => format!(in alloc; "memory\n"),
-        Outcome::Made | Outcome::Unread => Ok(String::new(alloc)),
-    }
+        Outcome::Asked { node, number } => writeln!(text, "asked {node}.{number}"),
+        Outcome::Key(key) => return key_text(alloc, &key),
+        Outcome::Refused(code) => writeln!(text, "refused {code}"),
+        Outcome::RefusedLine { code, line } => writeln!(text, "refused {code} line {line}"),
+        Outcome::NoAnswer => writeln!(text, "no answer"),
+        Outcome::Sound => writeln!(text, "ok"),
+        Outcome::Memory => writeln!(text, "memory"),
+        Outcome::Made | Outcome::Unread => Ok(()),
+    };
+    written.map_err(|_| AllocError)?;
+    Ok(text)
 }
 
 /// How a run ends whose line is written.
@@ -146,8 +114,8 @@ pub(crate) fn ending_of(outcome: Outcome, failures: u64) -> Outcome
     ensures why { result ≢ Refused 80 }
 {
     match outcome {
-        Outcome::Refused(80) if failures > 0 => Outcome::Refused(70),
-        Outcome::Refused(80) => Outcome::Refused(72),
+        Outcome::Refused(NODE_FAILED) if failures > 0 => Outcome::Refused(STORE_FAILED),
+        Outcome::Refused(NODE_FAILED) => Outcome::Refused(BAD_ROW),
         _ => outcome,
     }
 }
@@ -161,8 +129,8 @@ pub(crate) fn ended_outcome(ended: Ended, without: Outcome) -> Outcome
         Ended::Stopped { front, applied } => Outcome::Stopped { front, applied },
         Ended::Fault(fault) => fault_outcome(fault),
         Ended::NoWire => without,
-        Ended::NoControlSocket => Outcome::Refused(84),
-        Ended::NoPort => Outcome::Refused(82),
+        Ended::NoControlSocket => Outcome::Refused(BAD_CONTROL_SOCKET),
+        Ended::NoPort => Outcome::Refused(BAD_ADDRESS),
     }
 }
 

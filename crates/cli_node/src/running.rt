@@ -15,8 +15,7 @@ use crate::outcome::{Outcome, write_outcome};
 use crate::settings::{Nodes, settled_outcome};
 use clap::ArgMatches;
 use cli_files::RandomBytes;
-use cli_io::{Sources, Status, given_in, misused, out_of_memory, value_in};
-use pf_arguments::USAGE;
+use cli_io::{INVALID_ARGUMENTS, Sources, Status, given_in, misused, out_of_memory, value_in};
 use std::alloc::Global;
 use std::convert::AsStr;
 use std::io::{Eprint, Read, Write};
@@ -50,7 +49,7 @@ fn outcome_of<RT: RandomBytes + Eprint + Sources, N: Nodes, C: Client, F: NewFil
     };
     match AskArguments::of(inner) {
         Some(arguments) => Some(ask_outcome(rt, client, alloc, arguments, inner, reader)),
-        None => Some(Outcome::Refused(USAGE)),
+        None => Some(Outcome::Refused(INVALID_ARGUMENTS)),
     }
 }
 

@@ -5,7 +5,7 @@ ghost use Rattle.std.specs.Prelude.{◌||◌, option_map, is_some, codes, IfOk, 
 ghost use Rattle.std.specs.List.{All};
 ghost use Rattle.cli_files.specs.Clusters.{IsClusterKey, IsKeyOfFile};
 ghost use Rattle.cli_node.specs.declared.outcome.Outcome.TheVariants.{Memory, Refused};
-ghost use Rattle.cli_node.specs.declared.settings.TheConstants.{UNREADABLE};
+ghost use Rattle.cli_io.specs.declared.numbers.TheConstants.{UNREADABLE};
 ghost use Rattle.cli_node.specs.Doing.{Adds, GaveSo, NodeEvent, Ran, Checked};
 ghost use Rattle.cli_node.specs.Endings.{is_beyond};
 ghost use Rattle.cli_node.specs.Places.{has_place};
@@ -21,20 +21,15 @@ use crate::node::{NodeArguments, run_node};
 use crate::outcome::Outcome;
 use clap::ArgMatches;
 use cli_files::{FileFault, NodeFile};
-use cli_io::{Shown, Sources, has_flag, number_in, value_in};
+use cli_io::{
+    BAD_SETTINGS, INVALID_ARGUMENTS, Shown, Sources, UNREADABLE, has_flag, number_in, value_in,
+};
 use node_loop::TickTimer;
-use pf_arguments::USAGE;
 use px_records::Records;
 use px_store::SqlRecords;
 use sqlite::{File, FileStore};
 use std::alloc::Global;
 use std::io::{Eprint, ErrorKind, Read};
-
-/// A file that can't be read.
-const UNREADABLE: u8 = 90;
-
-/// A file of settings that is wrong.
-const BAD_SETTINGS: u8 = 92;
 
 /// The bytes of the regular file at a path; why there are none is logged on standard error.
 fn bytes_at<RT: Eprint + Sources>(rt: &RT, alloc: Global, path: &str) -> Result<Vec<u8>, Outcome>
@@ -83,10 +78,7 @@ fn settings_in<RT: Eprint + Sources>(
     ensures settings { IfOk result (λ f. (text : List ℕ) × RT.has rt.now path.now text × AreOfText text f) }
     ensures refused { IfErr result (IsUnread (RT.has rt.now) path.now) }
 {
-    let bytes = match bytes_at(rt, alloc, path) {
-        Ok(bytes) => bytes,
-        Err(outcome) => return Err(outcome),
-    };
+    let bytes = bytes_at(rt, alloc, path)?;
     match NodeFile::read(alloc, &bytes) {
         Ok(file) => Ok(file),
         Err(fault) => Err(file_refused(rt, path, fault)),
@@ -112,12 +104,14 @@ fn settings_for<RT: Eprint + Sources>(
 fn settings_code(matches: &ArgMatches<'_>) -> u8
     ensures { result ≡ settings_code (first_of (codes "config") (rows_of (found_of matches.now))) }
 {
-    value_in(matches, "config").map_or(USAGE, |_| BAD_SETTINGS)
+    value_in(matches, "config").map_or(INVALID_ARGUMENTS, |_| BAD_SETTINGS)
 }
 
 /// Logs which setting is missing.
 fn log_missing<RT: Eprint>(rt: &RT, name: &str, code: u8) {
-    let _logged = eprintln!(rt; "pfx: error: {name} ({code})");
+    let _logged = eprintln!(rt;
+        "pfx: error: {name} is given neither by an option nor in the file ({code})"
+    );
 }
 
 /// What is refused where a setting is missing that no option gives.
@@ -126,21 +120,13 @@ fn lacking<RT: Eprint>(rt: &RT, matches: &ArgMatches<'_>, file: &NodeFile) -> Ou
 {
     let code = settings_code(matches);
     if number_in(matches, "me").is_none() && file.number("me").is_none() {
-        log_missing(rt, "me is given neither by an option nor in the file", code);
+        log_missing(rt, "me", code);
     }
     if number_in(matches, "cluster").is_none() && file.number("cluster").is_none() {
-        log_missing(
-            rt,
-            "cluster is given neither by an option nor in the file",
-            code,
-        );
+        log_missing(rt, "cluster", code);
     }
     if value_in(matches, "store").is_none() && file.text("store").is_none() {
-        log_missing(
-            rt,
-            "store is given neither by an option nor in the file",
-            code,
-        );
+        log_missing(rt, "store", code);
     }
     Outcome::Refused(code)
 }
@@ -150,10 +136,8 @@ fn halved<RT: Eprint>(rt: &RT, matches: &ArgMatches<'_>) -> Outcome
     ensures { result ≡ Refused (settings_code (first_of (codes "config") (rows_of (found_of matches.now)))) }
 {
     let code = settings_code(matches);
-    log_missing(
-        rt,
-        "other-key or new-starts is given without key, or metrics without control",
-        code,
+    let _logged = eprintln!(rt;
+        "pfx: error: other-key or new-starts is given without key, or metrics without control ({code})"
     );
     Outcome::Refused(code)
 }

@@ -4,10 +4,10 @@ ghost use Rattle.std.specs.Prelude.{◌≡◌, ◌⊎◌, IfErr, false, is_some}
 ghost use Rattle.cli_node.specs.declared.outcome.Outcome.TheVariants.{Memory, Refused, Sound};
 ghost use Rattle.cli_node.specs.Endings.{is_beyond};
 
-use crate::faults::log_why;
+use crate::faults::{log_error, log_why};
 use crate::node::{NodeArguments, bind, figures_at};
 use crate::outcome::Outcome;
-use cli_io::{Shown, knock};
+use cli_io::{BAD_ADDRESS, BAD_CONTROL_SOCKET, Shown, knock};
 use std::alloc::Global;
 use std::fmt::Display;
 use std::fs;
@@ -44,7 +44,7 @@ fn try_ports(
 {
     drop(bind(rt, alloc, arguments)?);
     if let Some(figures) = figures_at(arguments)? {
-        let _bound = TcpListener::bind(rt, figures).map_err(|_| Outcome::Refused(82))?;
+        let _bound = TcpListener::bind(rt, figures).map_err(|_| Outcome::Refused(BAD_ADDRESS))?;
     }
     Ok(())
 }
@@ -65,7 +65,7 @@ fn try_all(
     match try_control(rt, alloc, path) {
         Ok(()) => Ok(()),
         Err(error) if error.kind() == ErrorKind::OutOfMemory => Err(Outcome::Memory),
-        Err(_) => Err(Outcome::Refused(84)),
+        Err(_) => Err(Outcome::Refused(BAD_CONTROL_SOCKET)),
     }
 }
 
@@ -105,8 +105,8 @@ pub(crate) fn of_own_address(rt: &HostRuntime, arguments: NodeArguments<'_, '_, 
             Outcome::Sound
         }
         Err(error) => {
-            let _logged = eprintln!(rt; "pfx: error: address {}: {error}", Shown(*own));
-            Outcome::Refused(82)
+            log_error(rt, "address", own, &error);
+            Outcome::Refused(BAD_ADDRESS)
         }
     }
 }
@@ -136,8 +136,8 @@ pub(crate) fn of_control(
             Outcome::Sound
         }
         _ => {
-            let _logged = eprintln!(rt; "pfx: error: control socket {}: {error}", Shown(path));
-            Outcome::Refused(84)
+            log_error(rt, "control socket", path, &error);
+            Outcome::Refused(BAD_CONTROL_SOCKET)
         }
     }
 }

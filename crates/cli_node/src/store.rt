@@ -8,7 +8,7 @@ ghost use Rattle.px_store.specs.Formats.{record_at};
 ghost use Rattle.px_store.specs.Adopting.{Began, IsBrought, IsMade, IsVerdict, IsSame, LeavesOld, LeavesOr};
 ghost use Rattle.px_store.specs.View.{connection_after, connection_of, IsOpened};
 ghost use Rattle.cli_node.specs.declared.outcome.Outcome.TheVariants.{Memory, Refused};
-ghost use Rattle.cli_node.specs.declared.store.TheConstants.{NO_STORE, FILE_IS_THERE};
+ghost use Rattle.cli_io.specs.declared.numbers.TheConstants.{FILE_EXISTS, NO_STORE};
 ghost use Rattle.cli_node.specs.Endings.{adopt_outcome, is_beyond};
 ghost use Rattle.cli_node.specs.Stores.{identity_at, IsKeptIn, IsOpening, IsRefusal, IsStoreless, IsUnmade};
 ghost use Rattle.cli_node.specs.Stores.{MayRun, is_made, refusal_at};
@@ -19,7 +19,7 @@ use crate::faults::{log_closed, log_judged, log_storeless, why_closed};
 use crate::node::NodeArguments;
 use crate::outcome::{Outcome, numbered};
 use crate::sockets::try_sockets;
-use cli_io::make_private;
+use cli_io::{FILE_EXISTS, NO_STORE, STORE_FAILED, make_private};
 use node_loop::Membership;
 use px_records::Records;
 use px_store::{AdoptFault, Format, Identity, SqlRecords};
@@ -28,12 +28,6 @@ use sqlite_trees::store::Store;
 use std::alloc::{AllocError, Global};
 use std::fs::Files;
 use std::io::Eprint;
-
-/// A store that isn't there.
-const NO_STORE: u8 = 93;
-
-/// A file that is to be made and is there.
-pub(crate) const FILE_IS_THERE: u8 = 94;
 
 /// What is found at the path of a store.
 #[derive(Clone, Copy)]
@@ -68,9 +62,9 @@ pub(crate) fn opening_of(is_from_file: bool, is_new: bool, found: Found) -> Open
     match found {
         Found::Nothing | Found::Empty if is_new || !is_from_file => Opening::Makes,
         Found::Nothing | Found::Empty => Opening::Refuses(NO_STORE),
-        Found::Store if is_new => Opening::Refuses(FILE_IS_THERE),
+        Found::Store if is_new => Opening::Refuses(FILE_EXISTS),
         Found::Store => Opening::Opens,
-        Found::Other => Opening::Refuses(70),
+        Found::Other => Opening::Refuses(STORE_FAILED),
     }
 }
 
@@ -145,7 +139,7 @@ pub(crate) fn failed_outcome<RT: Files + Eprint>(rt: &RT, path: &str, error: Err
         Error::SqliteFailure(ErrorCode::OutOfMemory) => Outcome::Memory,
         _ => {
             log_closed(rt, path, &error);
-            Outcome::Refused(70)
+            Outcome::Refused(STORE_FAILED)
         }
     }
 }
@@ -176,7 +170,7 @@ fn make_file(rt: &HostRuntime, path: &str, found: Found) -> Result<(), Outcome>
     };
     made.map_err(|error| {
         log_closed(rt, path, &error);
-        Outcome::Refused(70)
+        Outcome::Refused(STORE_FAILED)
     })
 }
 
@@ -227,7 +221,7 @@ fn open_store<D: Databases>(
     ensures lost { arguments.entry.is_from_file ≡ true → arguments.entry.is_new ≡ false →
         (found ≡ Found.Nothing) ⊎ (found ≡ Found.Empty) → result ≡ Err (Refused NO_STORE) }
     ensures may { IfOk result (λ c. MayRun arguments.entry.is_from_file arguments.entry.is_new found) }
-    ensures held { arguments.entry.is_new ≡ true → found ≡ Found.Store → result ≡ Err (Refused FILE_IS_THERE) }
+    ensures held { arguments.entry.is_new ≡ true → found ≡ Found.Store → result ≡ Err (Refused FILE_EXISTS) }
     ensures none { result ≡ Err (Refused NO_STORE) → IsNone found }
     ensures unfailed { OnErr result (result ≢ Err (Refused 80)) }
     ensures beyond { IfErr result (λ o. is_beyond false (is_some arguments.entry.control) o ≡ false) }
@@ -296,9 +290,6 @@ pub(crate) fn record_at<D: Databases>(
     let conn = open_store(rt, dbs, alloc, arguments, found)?;
     match record_in(alloc, conn, identity_of(m), found) {
         Ok(records) => Ok(records),
-        Err((fault, conn)) => {
-            let mut conn = conn;
-            Err(untaken(rt, arguments.store, m, fault, &mut conn))
-        }
+        Err((fault, mut conn)) => Err(untaken(rt, arguments.store, m, fault, &mut conn)),
     }
 }

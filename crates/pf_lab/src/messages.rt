@@ -106,11 +106,8 @@ fn push_parts(out: &mut String, message: &MessageView<'_>) -> Result<(), AllocEr
             ballot,
             position,
             entry,
-        } => {
-            push_place(out, *ballot, *position)?;
-            push_entry(out, entry)
         }
-        Message::Vote {
+        | Message::Vote {
             ballot,
             position,
             entry,
@@ -132,8 +129,7 @@ fn push_parts(out: &mut String, message: &MessageView<'_>) -> Result<(), AllocEr
             push_entry(out, entry)
         }
         Message::Ask { entry } => push_entry(out, entry),
-        Message::Asked { .. } => Ok(()),
-        Message::AskRefused { .. } => Ok(()),
+        Message::Asked { .. } | Message::AskRefused { .. } => Ok(()),
     }
 }
 

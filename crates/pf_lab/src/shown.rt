@@ -91,6 +91,7 @@ fn configuration(node: &Node<MemoryRecords>) -> Result<&Config, AllocError>
 /// The verdict of a node for a packet, and that it is stopped where it is.
 #[tactic(auto, using(crate::proofs::Lines::verdict_shown, crate::proofs::Lines::stopped_shown))]
 fn push_verdict(
+    alloc: Global,
     out: &mut String,
     node: Option<&Node<MemoryRecords>>,
     packet: &[&str],
@@ -142,7 +143,7 @@ impl Bench {
         if m >= self.members {
             return push_refusal(out, NOT_THERE, 0);
         }
-        push_verdict(out, self.lab.node(m), packet)
+        push_verdict(alloc, out, self.lab.node(m), packet)
     }
 
     /// Prints the messages that weren't shown yet.

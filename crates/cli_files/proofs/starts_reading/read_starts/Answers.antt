@@ -13,25 +13,27 @@ pub returns-then-count-gt-MEMBERS_MAX-clause-damaged :
 returns-then-count-gt-MEMBERS_MAX-clause-damaged c same ms fits few e =
     omega (arith, count_is ms c.args.text.now e, few, c.if-count-gt-MEMBERS_MAX.true)
 
-pub returns-in-None-clause-damaged : goal.returns-in-None-clause-damaged
-returns-in-None-clause-damaged c same ms fits few e =
+pub returns-in_err-ok_or-clause-damaged : goal.returns-in_err-ok_or-clause-damaged
+returns-in_err-ok_or-clause-damaged c same ms fits few e =
     let i = c.loop-i.i in
     let d = member_of 0 0 0 in
     let inside : i < length ms = omega (arith, count_is ms c.args.text.now e, c.loop-i-test.true) in
-    let none = c.in-None.ensures _ (fits i d inside) (digits_of ms c.args.text.now i d e inside) in
+    let some = c.member_in.ensures _ (fits i d inside) (digits_of ms c.args.text.now i d e inside) in
+    let none = rw some at c.in_err-ok_or.ensures.value in
     cc
 
 pub loop-i-preserved : goal.loop-i-preserved
 loop-i-preserved c = record {
-  count = ap length c.in_ok-push-in-Some.ensures.items ∙ length_push c.loop-i.members.items c.in-Some.member
+  count = ap length c.in_ok-push.ensures.items ∙ length_push c.loop-i.members.items c.in_ok-ok_or.field-0
       ∙ ap (λ n. n + 1) c.loop-i.invariant.count;
   first = λ ms fits e.
       let i = c.loop-i.i in
       let d = member_of 0 0 0 in
       let inside : i < length ms = omega (arith, count_is ms c.args.text.now e, c.loop-i-test.true) in
-      one_more ms c.loop-i.members.items c.push.new.self.items i c.in-Some.member d inside
-      (c.loop-i.invariant.first ms fits e) c.in_ok-push-in-Some.ensures.items
-      (c.in-Some.ensures _ (fits i d inside) (digits_of ms c.args.text.now i d e inside));
+      let some = c.member_in.ensures _ (fits i d inside) (digits_of ms c.args.text.now i d e inside) in
+      let ok = rw some at c.in_ok-ok_or.ensures.value in
+      one_more ms c.loop-i.members.items c.push.new.self.items i c.in_ok-ok_or.field-0 d inside
+      (c.loop-i.invariant.first ms fits e) c.in_ok-push.ensures.items cc;
 }
 
 pub returns-then-ne-2-clause-damaged : goal.returns-then-ne-2-clause-damaged
