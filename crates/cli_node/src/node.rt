@@ -44,7 +44,6 @@ use px_wire::MEMBERS;
 use sqlite::{File, FileStore};
 use sqlite_trees::store::Store;
 use std::alloc::{AllocError, Global};
-use std::fmt::Write;
 use std::net::{SocketAddr, UdpSocket};
 
 /// How long a turn waits for a datagram, in milliseconds.

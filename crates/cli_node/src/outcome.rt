@@ -14,7 +14,6 @@ use node_loop::Ended;
 use node_udp::AskAnswer;
 use px_replica::NodeFault;
 use std::alloc::{AllocError, Global};
-use std::fmt::Write as _;
 use std::io::Write;
 
 /// How a run ends.
@@ -62,7 +61,7 @@ fn line_of(alloc: Global, outcome: Outcome) -> Result<String, AllocError>
         Outcome::Memory => writeln!(text, "memory"),
         Outcome::Made | Outcome::Unread => Ok(()),
     };
-    written.map_err(|_| AllocError)?;
+    written?;
     Ok(text)
 }
 
