@@ -17,19 +17,14 @@ use Rattle.pf_dump.specs.Texts.{Text, text_paths}
 
 -- ---- tables
 
--- a table of this name as its line has it: with its entries, if they are listed
-abbrev pub defined : (listed : Bool) → Name → TableValue → rulesets.TableValue
-defined listed name t = record {
-  name = name;
-  persist = t.persist;
-  is_const = t.is_const;
-  entries = if listed then Some t.entries else None;
-}
+-- a table of this name as a line defines it, with these entries
+abbrev pub defined : Name → TableValue → (entries : Option (List TableEntry)) → rulesets.TableValue
+defined name t entries = record { name = name; persist = t.persist; is_const = t.is_const; entries = entries }
 
 -- the line that defines a table
 -- Example: table <t> persist { 10.0.0.0/8 }
 abbrev pub table_text : (listed : Bool) → Name → TableValue → List ℕ
-table_text listed name t = line (table_parts (defined listed name t))
+table_text listed name t = line (table_parts (defined name t (if listed then Some t.entries else None)))
 
 abbrev pub table_text_if : (listed : Bool) → Name → Option TableValue → List ℕ
 table_text_if listed name None = []

@@ -3,17 +3,17 @@
 ghost use Rattle.std.specs.Prelude.{◌≡◌, ◌++◌, ◌≤◌, IfOk, OnOk, map, option_map, string_bytes};
 ghost use Rattle.std.specs.Option.{option_copied};
 ghost use Rattle.pf_rules.specs.Seen.{heading_of, rule_of, target_of};
-ghost use Rattle.pf_show.specs.Shown.{any_rule_line};
+ghost use Rattle.pf_show.specs.Shown.{any_rule_line, line, table_parts};
 ghost use Rattle.pf_config.specs.Map as configs;
 ghost use Rattle.pf_dump.specs.Written as text;
-ghost use Rattle.pf_dump.specs.Written.{table_text, table_text_if, tables_text, heading_in, block_name, is_on};
+ghost use Rattle.pf_dump.specs.Written.{defined, table_text, table_text_if, tables_text, heading_in, block_name, is_on};
 ghost use Rattle.pf_dump.specs.Written.{unnamed_in, has_rules, without_name, heading_text, rules_text, skip_at};
 ghost use Rattle.pf_dump.specs.Written.{path_text};
 ghost use Rattle.pf_dump.specs.inner.Seen.{opens_of};
 
 use crate::same_rules::same_names;
 use pf_config::{Config, Table};
-use pf_rules::{AnchorHeading, Item, Name};
+use pf_rules::{AnchorHeading, Item, Name, TableEntry};
 use pf_show::{SkipLine, TableLine, show_items};
 use std::alloc::{AllocError, Global};
 use std::slice;
@@ -44,6 +44,25 @@ impl Opens<'_> {
     }
 }
 
+/// Puts the line that defines a table with these entries behind the text.
+fn push_line<'a>(
+    out: &mut String,
+    name: &'a str,
+    table: &Table,
+    entries: Option<&'a [TableEntry]>,
+) -> Result<(), AllocError>
+    ensures { OnOk result (string_bytes out.new ≡ string_bytes out.old
+        ++ line (table_parts (defined name.entry.now table.now (option_map (λ v. v.now) entries.entry)))) }
+{
+    let line = TableLine {
+        name,
+        persist: table.persist(),
+        is_const: table.is_const(),
+        entries,
+    };
+    write!(out, "{line}")
+}
+
 /// Puts the line that defines a table behind the text, with its entries if they are listed.
 fn push_table(
     alloc: Global,
@@ -54,18 +73,11 @@ fn push_table(
 ) -> Result<(), AllocError>
     ensures { OnOk result (string_bytes out.new ≡ string_bytes out.old ++ table_text is_listed name.now table.now) }
 {
-    let entries = if is_listed {
-        Some(table.gathered(alloc)?)
-    } else {
-        None
-    };
-    let line = TableLine {
-        name,
-        persist: table.persist(),
-        is_const: table.is_const(),
-        entries: entries.as_deref(),
-    };
-    write!(out, "{line}")
+    if is_listed {
+        let entries = table.gathered(alloc)?;
+        return push_line(out, name, table, Some(&entries));
+    }
+    push_line(out, name, table, None)
 }
 
 /// The same where there may be none.
