@@ -21,9 +21,12 @@ pub const INTERFACES_MAX: usize = 1024;
 fn is_known(machine: &[MachineInterface], name: &[u8]) -> bool
     ensures { result ≡ list_any (λ n. bytes_eq n name.now) (known (machine_of machine.now)) }
 {
-    machine
-        .iter()
-        .any(|interface| interface.name.as_bytes() == name)
+    for interface in machine {
+        if interface.name.as_bytes() == name {
+            return true;
+        }
+    }
+    false
 }
 
 /// The names that these strings are, none where one is no name of an interface.

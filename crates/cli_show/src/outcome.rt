@@ -43,7 +43,10 @@ pub(crate) fn write_outcome<W: Write>(alloc: Global, outcome: Outcome, writer: &
             let Ok(line) = format!(in alloc; "refused {code}\n") else {
                 return out_of_memory(writer);
             };
-            write_bytes(writer, line.as_bytes()).map_or(Status::Failed, |()| Status::Refused)
+            match write_bytes(writer, line.as_bytes()) {
+                Ok(()) => Status::Refused,
+                Err(_) => Status::Failed,
+            }
         }
         Outcome::Memory => out_of_memory(writer),
     }

@@ -161,9 +161,10 @@ pub(crate) fn call_in<'m, 'a>(
 pub(crate) fn is_verbose(matches: &ArgMatches<'_>) -> bool
     ensures { result ≡ is_verbose (subcommand_rows_of matches.now) }
 {
-    matches
-        .subcommand()
-        .is_some_and(|(_, inner)| is_given(value_in(inner, "verbose")))
+    match matches.subcommand() {
+        Some((_, inner)) => is_given(value_in(inner, "verbose")),
+        None => false,
+    }
 }
 
 /// The message for arguments that `clap` accepts and that ask for nothing.

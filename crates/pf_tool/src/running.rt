@@ -42,13 +42,15 @@ fn answer<T: Sources, R: Read, W: Write, E: Write>(
         Err(RunFault::Memory) => return out_of_memory(writer),
         Err(RunFault::Failed) => return Status::Failed,
     };
-    if write_bytes(writer, output.text.as_bytes()).is_err() {
-        return Status::Failed;
-    }
-    report(output.messages.as_str(), errors);
-    match output.ending {
-        Ending::Done => Status::Done,
-        Ending::Refused => Status::Refused,
+    match write_bytes(writer, output.text.as_bytes()) {
+        Ok(()) => {
+            report(output.messages.as_str(), errors);
+            match output.ending {
+                Ending::Done => Status::Done,
+                Ending::Refused => Status::Refused,
+            }
+        }
+        Err(_) => Status::Failed,
     }
 }
 
