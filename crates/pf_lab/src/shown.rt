@@ -1,13 +1,14 @@
 //! What a script shows of its lab.
 
-ghost use Rattle.std.specs.Prelude.{◌≡◌, ◌++◌, ◌+◌, IfOk, OnOk, string_bytes, map, length};
+ghost use Rattle.std.specs.Prelude.{◌≡◌, ◌++◌, ◌+◌, IfOk, OnOk, string_bytes, Some, map, length};
 ghost use Rattle.std.specs.Option.{option_copied};
+ghost use Rattle.px_model.specs.Entries.{view_of};
 ghost use Rattle.px_model.specs.Spelling.{Bytes};
 ghost use Rattle.px_model.specs.Step.{front};
 ghost use Rattle.px_model.specs.World.{NodeState};
 ghost use Rattle.pf_node.specs.Nodes.{learned_by};
 ghost use Rattle.pf_lab.specs.Labs.{IsShown};
-ghost use Rattle.pf_lab.specs.Shown.{log_lines};
+ghost use Rattle.pf_lab.specs.Shown.{entry_line, log_lines};
 ghost use Rattle.pf_lab.specs.Scripts.{LabValue, prints, progress, node_line, state_lines, config_at, of_running};
 ghost use Rattle.pf_lab.specs.Scripts.{of_node, learned_lines, verdict_line, sent_lines, all_shown};
 ghost use Rattle.pf_lab.specs.inner.Benches.{IsBench, Does, IsOfMember};
@@ -50,7 +51,15 @@ fn push_node(out: &mut String, m: u8, node: Option<&Node<MemoryRecords>>) -> Res
     out.push('\n')
 }
 
-/// `POSITION ORIGIN.NUMBER` for each position that the node has learned, upwards.
+/// `POSITION ORIGIN.NUMBER`
+fn push_learned(out: &mut String, position: u32, entry: &EntryView<'_>) -> Result<(), AllocError>
+    ensures { OnOk result (string_bytes out.new
+        ≡ string_bytes out.old ++ entry_line position (Some (view_of entry.now))) }
+{
+    writeln!(out, "{position} {}.{}", entry.origin(), entry.number())
+}
+
+/// A line for each position that the node has learned, upwards.
 fn push_log(out: &mut String, node: &Node<MemoryRecords>) -> Result<(), AllocError>
     ensures { OnOk result (string_bytes out.new
         ≡ string_bytes out.old ++ log_lines (learned_by node.now) (front (learned_by node.now) + 64)) }
@@ -58,7 +67,7 @@ fn push_log(out: &mut String, node: &Node<MemoryRecords>) -> Result<(), AllocErr
     for position in 0..node.front() + WINDOW {
         if let Some(bytes) = node.learned(position) {
             if let Some(entry) = EntryView::read(bytes) {
-                writeln!(out, "{position} {}.{}", entry.origin(), entry.number())?;
+                push_learned(out, position, &entry)?;
             }
         }
     }
