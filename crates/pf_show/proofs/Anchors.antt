@@ -2,11 +2,12 @@
 use Rattle.std.proofs.Common.{◌≡◌, ℕ, Bool, true, false, List, [], ◌∷◌, ◌++◌, map, refl, sym, ap, ◌∙◌, append_assoc, codes}
 use Rattle.std.specs.List.{flat_map}
 use Rattle.pf_rules.specs.Names.{Name}
+use Rattle.pf_rules.specs.declared.rule.Action.TheVariants.{Drop}
 use Rattle.pf_rules.specs.Items.{Heading}
 use Rattle.pf_rules.specs.declared.item.Item.{Item}
 use Rattle.pf_rules.specs.Items.{Blocks, values_of}
 use Rattle.pf_rules.specs.Seen.{items_of, rule_of}
-use Rattle.pf_show.specs.Shown.{line, more_parts, slashed, children_text, target_part, heading_parts, anchor_parts, block_target, block_parts, shown_items, shown_item, shown_block, shown_rules}
+use Rattle.pf_show.specs.Shown.{line, more_parts, slashed, children_text, target_part, heading_parts, direction_parts, quick_parts, condition_parts, flags_parts, anchor_parts, block_target, block_parts, shown_items, shown_item, shown_block, shown_rules}
 use Rattle.pf_show.specs.inner.Spaced.{spaced, text_if, item_line, item_text, slash_name}
 use Rattle.pf_show.proofs.Spacing.{spaced_append, more_is}
 
@@ -22,6 +23,12 @@ slashed_is name (other ∷ names) = ap (λ text. name ++ (47 ∷ text)) (slashed
 pub children_is : (b : Bool) → children_text b ≡ text_if b (codes "/*")
 children_is true = refl
 children_is false = refl
+
+-- what is behind an anchor rule's target, part for part
+pub heading_is : (h : Heading) → spaced (heading_parts h) ≡ spaced (direction_parts h.conditions.direction) ++ (spaced (quick_parts h.quick)
+    ++ (spaced (condition_parts h.conditions) ++ spaced (flags_parts Drop h.conditions.flags)))
+unfolding heading_parts
+heading_is h = simp (spaced_append, append_assoc)
 
 -- the line of an anchor rule
 pub anchor_line : (h : Heading) → line (anchor_parts h) ≡ codes "anchor" ++ ((32 ∷ target_part h.target) ++ (spaced (heading_parts h) ++ 10 ∷ []))

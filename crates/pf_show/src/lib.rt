@@ -10,8 +10,8 @@
 //!
 //! # Why
 //!
-//! - **What is shown is written with `write_str` and calls of `fmt`**: `write!` saves and sets a formatter's options
-//!   for each part.
+//! - **A rule is written part by part into one string**: a `Display` of each part would save and set a formatter's
+//!   options for it.
 #![tactic(auto)]
 
 mod items;

@@ -1,6 +1,6 @@
 //! Tables as text: a line for each.
 
-ghost use Rattle.std.specs.Prelude.{◌≡◌, Some, option_map};
+ghost use Rattle.std.specs.Prelude.{◌≡◌, Some, codes, option_map};
 ghost use Rattle.std.specs.List.{flat_map};
 ghost use Rattle.pf_rules.specs.Rulesets.{table_of};
 ghost use Rattle.pf_show.specs.Shown.{entries_parts, line, spaced_entry, table_parts, word_parts};
@@ -57,23 +57,18 @@ impl fmt::Display for EntriesParts<'_> {
     }
 }
 
-/// A keyword after a blank, if it is given.
-#[derive(Clone, Copy)]
-struct WordPart<'a> {
-    said: bool,
-    word: &'a str,
+/// `persist` after a blank, if it is given.
+fn persist_part(persist: bool) -> &'static str
+    ensures { result.now ≡ spaced (word_parts persist (codes "persist")) }
+{
+    if persist { " persist" } else { "" }
 }
 
-impl fmt::Display for WordPart<'_> {
-    ghost output = { λ w. Some (spaced (word_parts w.said w.word.now)) };
-
-    fn fmt<W: fmt::Write>(&self, f: &mut fmt::Formatter<W>) -> fmt::Result {
-        if self.said {
-            write!(f, " {}", self.word)
-        } else {
-            Ok(())
-        }
-    }
+/// `const` after a blank, if it is given.
+fn const_part(is_const: bool) -> &'static str
+    ensures { result.now ≡ spaced (word_parts is_const (codes "const")) }
+{
+    if is_const { " const" } else { "" }
 }
 
 /// The line that defines a table.
@@ -95,14 +90,8 @@ impl fmt::Display for TableLine<'_> {
     #[tactic(auto, using(crate::proofs::TableSpacing::table_line_is))]
     fn fmt<W: fmt::Write>(&self, f: &mut fmt::Formatter<W>) -> fmt::Result {
         let name = self.name;
-        let persist = WordPart {
-            said: self.persist,
-            word: "persist",
-        };
-        let is_const = WordPart {
-            said: self.is_const,
-            word: "const",
-        };
+        let persist = persist_part(self.persist);
+        let is_const = const_part(self.is_const);
         let entries = EntriesParts(self.entries);
         writeln!(f, "table <{name}>{persist}{is_const}{entries}")
     }

@@ -1,10 +1,9 @@
-use Rattle.std.proofs.Common.{take}
-use Rattle.std.specs.Fmt.{HasWritten, IsPlainFormatter}
+use Rattle.std.proofs.Common.{◌≡◌, ◌++◌, drop, string_bytes}
 use Rattle.std.specs.List.{flat_map}
 use Rattle.pf_show.specs.inner.Spaced.{item_text}
 use Rattle.pf_show.proofs.items.+text.Given as goal
 
--- what is written so far are the items so far
-abbrev pub invariant-write_items-loop-item : goal.invariant-write_items-loop-item
-invariant-write_items-loop-item g l =
-    IsPlainFormatter l.fn.f → HasWritten g.W.Write.write_str_gives l.fn.f (flat_map item_text (take l.item-index l.items)) l.f
+-- the text so far, and the items that are left
+abbrev pub invariant-push_items-loop-item : goal.invariant-push_items-loop-item
+invariant-push_items-loop-item l =
+    string_bytes l.out ++ flat_map item_text (drop l.item-index l.items) ≡ string_bytes l.fn.out ++ flat_map item_text l.fn.items

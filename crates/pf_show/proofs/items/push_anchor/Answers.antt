@@ -1,0 +1,8 @@
+use Rattle.std.proofs.Common.{arith}
+use Rattle.std.proofs.lemmas.Grind.{common_steps}
+use Rattle.pf_rules.specs.Seen.{heading_of}
+use Rattle.pf_show.proofs.Anchors.{anchor_line}
+use Rattle.pf_show.proofs.items.push_anchor.Goals as goal
+
+pub returns : goal.returns
+returns c = rw (anchor_line (heading_of c.args.heading.now)) (grind (arith, common_steps))
