@@ -48,7 +48,7 @@ impl fmt::Display for TableArguments<'_> {
 pub struct CommandArguments<'a>(pub &'a Command);
 
 /// The arguments for a table of a path.
-fn on<'a>(path: &'a Path, table: &'a TableName, word: &'a str) -> TableArguments<'a>
+fn table_arguments<'a>(path: &'a Path, table: &'a TableName, word: &'a str) -> TableArguments<'a>
     ensures { table_words result.path.now result.table.now result.word.now
         ≡ table_words path.entry.now table.entry.now word.entry.now }
 {
@@ -75,25 +75,29 @@ impl fmt::Display for CommandArguments<'_> {
                 path,
                 table,
                 addresses,
-            } => { write!(f, "{}{}", on(path, table, "add"), Entries(&addresses.items)) }
+            } => {
+                let words = table_arguments(path, table, "add");
+                write!(f, "{words}{}", Entries(&addresses.items))
+            }
             Command::Delete {
                 path,
                 table,
                 addresses,
             } => {
-                write!(
-                    f,
-                    "{}{}",
-                    on(path, table, "delete"),
-                    Entries(&addresses.items)
-                )
+                let words = table_arguments(path, table, "delete");
+                write!(f, "{words}{}", Entries(&addresses.items))
             }
             Command::Replace {
                 path,
                 table,
                 addresses,
-            } => { write!(f, "{}{}", on(path, table, "replace"), Entries(addresses)) }
-            Command::FlushTable { path, table } => write!(f, "{}", on(path, table, "flush")),
+            } => {
+                let words = table_arguments(path, table, "replace");
+                write!(f, "{words}{}", Entries(addresses))
+            }
+            Command::FlushTable { path, table } => {
+                write!(f, "{}", table_arguments(path, table, "flush"))
+            }
         }
     }
 }

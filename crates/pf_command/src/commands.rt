@@ -36,19 +36,18 @@ const NOTHING: Applied = Applied {
 fn answered(changed: Result<(), ConfigFault>, counts: Applied) -> Result<Applied, ApplyFault>
     ensures { result ≡ answer_of changed counts }
 {
-    match changed {
-        Ok(()) => Ok(counts),
-        Err(fault) => Err(ApplyFault::of_change(fault)),
-    }
+    changed.map_err(|fault| ApplyFault::of_change(fault))?;
+    Ok(counts)
 }
 
 /// Where a ruleset for this path is loaded.
-fn place_at(path: &[Name]) -> Place
+pub fn place_at(path: &[Name]) -> Place
     ensures { result ≡ place_at path.now }
 {
-    match path {
-        [] => Place::Main,
-        [_, ..] => Place::Anchor,
+    if path.is_empty() {
+        Place::Main
+    } else {
+        Place::Anchor
     }
 }
 

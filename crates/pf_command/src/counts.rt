@@ -14,10 +14,8 @@ use std::alloc::{AllocError, Global};
 pub(crate) fn entry_count(config: &Config, path: &[Name], name: &TableName) -> usize
     ensures { result ≡ length (contents_at config.now path.now name.now) }
 {
-    match config.table(path, name.as_str()) {
-        Some(table) => table.entry_count(),
-        None => 0,
-    }
+    let table = config.table(path, name.as_str());
+    table.map_or(0, |table| table.entry_count())
 }
 
 /// What a list in place of the contents of the path's table counts: made before the change, so that a refused growth

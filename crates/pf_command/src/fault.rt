@@ -27,10 +27,8 @@ impl ApplyFault {
     pub(crate) fn of_change(fault: ConfigFault) -> ApplyFault
         ensures { result ≡ fault_of_change fault }
     {
-        match fault.code() {
-            Some(code) => ApplyFault::Refused(code, 0),
-            None => ApplyFault::Memory,
-        }
+        let code = fault.code();
+        code.map_or(ApplyFault::Memory, |code| ApplyFault::Refused(code, 0))
     }
 
     /// The fault of a ruleset that is refused.

@@ -3,7 +3,7 @@
 //! # Organization
 //!
 //! - [`apply`] changes a configuration by a command, as it is in an entry's bytes, and counts what was added to a table
-//!   and went from it: [`Applied`], or [`ApplyFault`].
+//!   and went from it: [`Applied`], or [`ApplyFault`]. [`place_at`]: as what a ruleset for a path is read.
 //! - [`CommandArguments`]: a command in pfctl's arguments, without `pfctl`, a load's ruleset counted alone;
 //!   [`TableArguments`] and [`PathArguments`]: the options for a table and for a path.
 //! - Of the crates below: [`Command`], [`Entry`] and their bytes (`pf_entry`); [`pfctl_args`], [`from_matches`] and the
@@ -29,7 +29,7 @@ mod fault;
 mod laws;
 
 pub use arguments::{CommandArguments, PathArguments, TableArguments};
-pub use commands::{Applied, apply};
+pub use commands::{Applied, apply, place_at};
 pub use fault::ApplyFault;
 pub use laws::a_log_goes_on;
 pub use pf_arguments::{Action, CommandFault, from_matches, pfctl_args};
