@@ -5,15 +5,15 @@ ghost use Rattle.pf_dump.specs.Done.{text_done, texts_done, AreDoneTo};
 ghost use Rattle.pf_dump.specs.Written.{texts_of};
 ghost use Rattle.pf_dump.specs.inner.Seen.{IsDone};
 ghost use Rattle.pf_dump.specs.Texts.{is_anchor, text_paths, after_text, after_texts, GivenBy};
-ghost use Rattle.pf_command.specs.Effect.{place_at};
 ghost use Rattle.pf_rules.specs.Names.{is_path_name};
 ghost use Rattle.std.specs.List.{list_all};
 ghost use Rattle.pf_dump.specs.Seen.{text_of};
 
 use crate::same::is_same;
 use crate::text::{copied, push_text};
+use pf_command::place_at;
 use pf_config::{Config, ConfigFault};
-use pf_grammar::{ParseFault, Place, Profile, parse};
+use pf_grammar::{ParseFault, Profile, parse};
 use pf_rules::{Name, Path};
 use std::alloc::{AllocError, Global};
 
@@ -45,10 +45,7 @@ fn are_path_names(names: &[Name]) -> bool
 fn is_anchor(path: &[Name]) -> bool
     ensures { result ≡ is_anchor path.now }
 {
-    match path {
-        [] => false,
-        [_, ..] => are_path_names(path),
-    }
+    !path.is_empty() && are_path_names(path)
 }
 
 /// The paths that a command may load: main, which comes last, and those with rules or tables that aren't below an
@@ -73,16 +70,6 @@ pub fn text_paths(alloc: Global, config: &Config) -> Result<Vec<&[Name]>, AllocE
         found.push(main)?;
     }
     Ok(found)
-}
-
-/// The place of a path's text.
-fn place_at(path: &[Name]) -> Place
-    ensures { result ≡ place_at path.now }
-{
-    match path {
-        [] => Place::Main,
-        [_, ..] => Place::Anchor,
-    }
 }
 
 /// Loads a ruleset at a path; false where it is refused.
@@ -138,7 +125,7 @@ fn written(alloc: Global, config: &Config) -> Result<Vec<PathText<'_>>, AllocErr
     let mut left = paths.as_slice();
     while let [path, rest @ ..] = left {
         let mut text = String::new(alloc);
-        push_text(alloc, &mut text, config, path, true)?;
+        push_text(&mut text, config, path, true)?;
         texts.push(PathText { path, text })?;
         left = rest;
     }

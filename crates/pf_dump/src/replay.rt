@@ -28,13 +28,24 @@ pub(crate) struct ReplayState<'a> {
     pub(crate) waiting: Option<Waiting<'a>>,
 }
 
+impl ReplayState<'_> {
+    /// Whether it goes on, where nothing waits for its text.
+    fn at<'a>(goes_on: bool) -> ReplayState<'a>
+        ensures { result ≡ record { goes_on = goes_on; waiting = None } }
+    {
+        ReplayState {
+            goes_on,
+            waiting: None,
+        }
+    }
+}
+
 /// Does a command, which may be refused and then changes nothing.
 fn apply_view(alloc: Global, config: &mut Config, command: &CommandView) -> Result<(), AllocError>
     ensures { OnOk result (config.new ≡ after_command config.old (command_of command.now)) }
 {
     match apply(alloc, config, command) {
-        Ok(_) => Ok(()),
-        Err(ApplyFault::Refused(_, _)) => Ok(()),
+        Ok(_) | Err(ApplyFault::Refused(_, _)) => Ok(()),
         Err(ApplyFault::Memory) => Err(AllocError),
     }
 }
@@ -86,16 +97,13 @@ fn run_words(
 }
 
 /// Runs a line of pfctl's arguments, unless a ruleset follows it.
-fn run_pfctl<'a>(
-    alloc: Global,
-    config: &mut Config,
-    words: Vec<&'a str>,
-) -> Result<ReplayState<'a>, AllocError>
+fn run_pfctl<'a>(config: &mut Config, words: Vec<&'a str>) -> Result<ReplayState<'a>, AllocError>
     ensures leads { IfOk result (λ s. s.goes_on ≡ true →
         StepsTo (pfctl_line config.old (map (λ x. x.now) words.entry.items)) config.new s.waiting) }
     ensures done { IfOk result (λ s. IsPlace
         (pfctl_done config.old (map (λ x. x.now) words.entry.items)) s.goes_on config.new s.waiting) }
 {
+    let alloc = *words.allocator();
     if takes_text(alloc, &words)? {
         return Ok(ReplayState {
             goes_on: true,
@@ -105,19 +113,11 @@ fn run_pfctl<'a>(
             }),
         });
     }
-    let goes_on = run_words(alloc, config, &words, &[])?;
-    Ok(ReplayState {
-        goes_on,
-        waiting: None,
-    })
+    Ok(ReplayState::at(run_words(alloc, config, &words, &[])?))
 }
 
 /// Runs a line with these arguments.
-fn run_line<'a>(
-    alloc: Global,
-    config: &mut Config,
-    words: Vec<&'a str>,
-) -> Result<ReplayState<'a>, AllocError>
+fn run_line<'a>(config: &mut Config, words: Vec<&'a str>) -> Result<ReplayState<'a>, AllocError>
     ensures leads { IfOk result (λ s. s.goes_on ≡ true →
         StepsTo (at_words config.old (Some (map (λ x. x.now) words.entry.items))) config.new s.waiting) }
     ensures done { IfOk result (λ s. IsPlace
@@ -126,17 +126,11 @@ fn run_line<'a>(
     match words.as_slice() {
         [first, ..] => {
             if *first == "pfctl" {
-                return run_pfctl(alloc, config, words);
+                return run_pfctl(config, words);
             }
-            Ok(ReplayState {
-                goes_on: false,
-                waiting: None,
-            })
+            Ok(ReplayState::at(false))
         }
-        [] => Ok(ReplayState {
-            goes_on: true,
-            waiting: None,
-        }),
+        [] => Ok(ReplayState::at(true)),
     }
 }
 
@@ -156,19 +150,13 @@ fn step<'a>(
 {
     match waiting {
         None => match words_in(alloc, line.content)? {
-            Some(words) => run_line(alloc, config, words),
-            None => Ok(ReplayState {
-                goes_on: false,
-                waiting: None,
-            }),
+            Some(words) => run_line(config, words),
+            None => Ok(ReplayState::at(false)),
         },
         Some(waiting) => {
             if line.content == b".".as_slice() {
                 let goes_on = run_words(alloc, config, &waiting.words, &waiting.text)?;
-                return Ok(ReplayState {
-                    goes_on,
-                    waiting: None,
-                });
+                return Ok(ReplayState::at(goes_on));
             }
             let mut text = waiting.text;
             push_bytes(&mut text, line)?;

@@ -37,15 +37,10 @@ fn is_open(text: &[u8]) -> bool
 }
 
 /// Puts the line of a load and its text behind a script.
-fn push_load(
-    alloc: Global,
-    script: &mut Vec<u8>,
-    path: &[Name],
-    text: &[u8],
-) -> Result<(), AllocError>
+fn push_load(script: &mut Vec<u8>, path: &[Name], text: &[u8]) -> Result<(), AllocError>
     ensures { OnOk result (script.new.items ≡ script.old.items ++ load_lines path.now text.now) }
 {
-    let line = format!(in alloc; "pfctl {}-f -\n", PathArguments(path))?;
+    let line = format!(in *script.allocator(); "pfctl {}-f -\n", PathArguments(path))?;
     script.extend_from_slice(line.as_bytes())?;
     script.extend_from_slice(text)?;
     if is_open(text) {
@@ -55,20 +50,20 @@ fn push_load(
 }
 
 /// Puts a command behind a script, as a line of it: with the text of a load and a line `.` behind it.
-pub fn push_change(alloc: Global, script: &mut Vec<u8>, command: &Command) -> Result<(), AllocError>
+pub fn push_change(script: &mut Vec<u8>, command: &Command) -> Result<(), AllocError>
     ensures { OnOk result (script.new.items ≡ script.old.items ++ change_lines (command_value command.now)) }
 {
     match command {
-        Command::Load { path, text, .. } => push_load(alloc, script, path.names(), text),
-        _ => push_words(alloc, script, command),
+        Command::Load { path, text, .. } => push_load(script, path.names(), text),
+        _ => push_words(script, command),
     }
 }
 
 /// Appends a command's arguments to a script, as a line of it.
-fn push_words(alloc: Global, script: &mut Vec<u8>, command: &Command) -> Result<(), AllocError>
+fn push_words(script: &mut Vec<u8>, command: &Command) -> Result<(), AllocError>
     ensures { OnOk result (script.new.items ≡ script.old.items ++ words_line (command_value command.now)) }
 {
-    let line = format!(in alloc; "pfctl {}\n", CommandArguments(command))?;
+    let line = format!(in *script.allocator(); "pfctl {}\n", CommandArguments(command))?;
     script.extend_from_slice(line.as_bytes())
 }
 
@@ -108,7 +103,6 @@ fn push_addresses(
 
 /// Puts the lines behind a script that give a table its entries: a replacement, and where they are too many additions.
 fn push_entries(
-    alloc: Global,
     script: &mut Vec<u8>,
     path: &[Name],
     name: &str,
@@ -116,6 +110,7 @@ fn push_entries(
 ) -> Result<(), AllocError>
     ensures { OnOk result (script.new.items ≡ script.old.items ++ entries_lines path.now name.now table.now.entries) }
 {
+    let alloc = *script.allocator();
     let entries = table.gathered(alloc)?;
     let mut line = String::new(alloc);
     push_begin(&mut line, path, name, "replace")?;
@@ -123,36 +118,16 @@ fn push_entries(
     script.extend_from_slice(line.as_bytes())
 }
 
-/// The same where there may be no such table.
-fn push_entries_if(
-    alloc: Global,
-    script: &mut Vec<u8>,
-    path: &[Name],
-    name: &str,
-    table: Option<&Table>,
-) -> Result<(), AllocError>
-    ensures { OnOk result (script.new.items
-        ≡ script.old.items ++ entries_lines_if path.now name.now (option_copied table.entry)) }
-{
-    match table {
-        Some(table) => push_entries(alloc, script, path, name, table),
-        None => Ok(()),
-    }
-}
-
 /// The same of all tables of a path.
-fn push_all_entries(
-    alloc: Global,
-    script: &mut Vec<u8>,
-    config: &Config,
-    path: &[Name],
-) -> Result<(), AllocError>
+fn push_all_entries(script: &mut Vec<u8>, config: &Config, path: &[Name]) -> Result<(), AllocError>
     ensures { OnOk result (script.new.items ≡ script.old.items ++ all_entries_lines config.now path.now) }
 {
     let names = config.table_names(path)?;
     let mut left = names.as_slice();
     while let [name, rest @ ..] = left {
-        push_entries_if(alloc, script, path, name, config.table(path, name))?;
+        if let Some(table) = config.table(path, name) {
+            push_entries(script, path, name, table)?;
+        }
         left = rest;
     }
     Ok(())
@@ -160,23 +135,18 @@ fn push_all_entries(
 
 /// Puts the lines of a path behind a script: its load, and before it the entries of its tables where the text would be
 /// too long with them.
-fn push_lines(
-    alloc: Global,
-    script: &mut Vec<u8>,
-    config: &Config,
-    path: &[Name],
-) -> Result<(), AllocError>
+fn push_lines(script: &mut Vec<u8>, config: &Config, path: &[Name]) -> Result<(), AllocError>
     ensures { OnOk result (script.new.items ≡ script.old.items ++ path_lines config.now path.now) }
 {
-    let mut text = String::new(alloc);
-    push_text(alloc, &mut text, config, path, true)?;
+    let mut text = String::new(*script.allocator());
+    push_text(&mut text, config, path, true)?;
     if text.as_bytes().len() <= TEXT_MAX {
-        return push_load(alloc, script, path, text.as_bytes());
+        return push_load(script, path, text.as_bytes());
     }
-    push_all_entries(alloc, script, config, path)?;
-    let mut rules = String::new(alloc);
-    push_text(alloc, &mut rules, config, path, false)?;
-    push_load(alloc, script, path, rules.as_bytes())
+    push_all_entries(script, config, path)?;
+    let mut rules = String::new(*script.allocator());
+    push_text(&mut rules, config, path, false)?;
+    push_load(script, path, rules.as_bytes())
 }
 
 /// The script of a configuration: the lines of each path that a command may load, main last, so that a table of main
@@ -188,7 +158,7 @@ pub(crate) fn script_of(alloc: Global, config: &Config) -> Result<Vec<u8>, Alloc
     let paths = text_paths(alloc, config)?;
     let mut left = paths.as_slice();
     while let [path, rest @ ..] = left {
-        push_lines(alloc, &mut script, config, path)?;
+        push_lines(&mut script, config, path)?;
         left = rest;
     }
     Ok(script)

@@ -65,7 +65,6 @@ fn push_line<'a>(
 
 /// Puts the line that defines a table behind the text, with its entries if they are listed.
 fn push_table(
-    alloc: Global,
     out: &mut String,
     name: &str,
     table: &Table,
@@ -74,32 +73,14 @@ fn push_table(
     ensures { OnOk result (string_bytes out.new ≡ string_bytes out.old ++ table_text is_listed name.now table.now) }
 {
     if is_listed {
-        let entries = table.gathered(alloc)?;
+        let entries = table.gathered(*out.allocator())?;
         return push_line(out, name, table, Some(&entries));
     }
     push_line(out, name, table, None)
 }
 
-/// The same where there may be none.
-fn push_table_if(
-    alloc: Global,
-    out: &mut String,
-    name: &str,
-    table: Option<&Table>,
-    is_listed: bool,
-) -> Result<(), AllocError>
-    ensures { OnOk result (string_bytes out.new
-        ≡ string_bytes out.old ++ table_text_if is_listed name.now (option_copied table.entry)) }
-{
-    match table {
-        Some(table) => push_table(alloc, out, name, table, is_listed),
-        None => Ok(()),
-    }
-}
-
 /// Puts the lines that define the tables of a path behind the text.
 fn push_tables(
-    alloc: Global,
     out: &mut String,
     config: &Config,
     path: &[Name],
@@ -110,7 +91,9 @@ fn push_tables(
     let names = config.table_names(path)?;
     let mut left = names.as_slice();
     while let [name, rest @ ..] = left {
-        push_table_if(alloc, out, name, config.table(path, name), is_listed)?;
+        if let Some(table) = config.table(path, name) {
+            push_table(out, name, table, is_listed)?;
+        }
         left = rest;
     }
     Ok(())
@@ -163,11 +146,7 @@ fn block_name<'c>(
     match heading.target.names.as_slice() {
         [own] => {
             let name = format!(in alloc; "_{number}")?;
-            if own.as_bytes() == name.as_bytes() {
-                Ok(Some(own))
-            } else {
-                Ok(None)
-            }
+            Ok((own.as_bytes() == name.as_bytes()).then(|| own))
         }
         _ => Ok(None),
     }
@@ -177,10 +156,9 @@ fn block_name<'c>(
 fn is_on(item: &Item, names: &[Name]) -> bool
     ensures { result ≡ is_on names.now (heading_in (rule_of item.now)) }
 {
-    match heading_in(item) {
-        Some(heading) => !heading.target.children && same_names(&heading.target.names, names),
-        None => false,
-    }
+    heading_in(item).is_some_and(|heading| {
+        !heading.target.children && same_names(&heading.target.names, names)
+    })
 }
 
 /// Whether one of the rules is an anchor rule on these names themselves.
@@ -201,10 +179,7 @@ fn has_target(items: &[Item], names: &[Name]) -> bool
 fn has_rules(config: &Config, path: &[Name]) -> bool
     ensures { result ≡ has_rules (configs.rules_at config.now path.now) }
 {
-    match config.items(path) {
-        [] => false,
-        [_, ..] => true,
-    }
+    !config.items(path).is_empty()
 }
 
 /// Whether a rule of a hidden path carries the rules of its anchor: it is the first on it.
@@ -260,11 +235,11 @@ fn line_of(alloc: Global, item: &Item) -> Result<String, AllocError>
 }
 
 /// Puts an anchor rule's line behind the text, without its name.
-fn push_without(alloc: Global, out: &mut String, name: &Name, line: &str) -> Result<(), AllocError>
+fn push_without(out: &mut String, name: &Name, line: &str) -> Result<(), AllocError>
     ensures { OnOk result (string_bytes out.new ≡ string_bytes out.old ++ without_name name.now line.now) }
 {
     let text = name.as_str();
-    let front = format!(in alloc; "anchor \"{text}\"")?;
+    let front = format!(in *out.allocator(); "anchor \"{text}\"")?;
     match line.strip_prefix(front.as_str()) {
         Some(rest) => write!(out, "anchor{rest}"),
         None => out.push_str(line),
@@ -272,17 +247,12 @@ fn push_without(alloc: Global, out: &mut String, name: &Name, line: &str) -> Res
 }
 
 /// Puts an anchor rule's line behind the text, without the name of an unnamed block.
-fn push_heading(
-    alloc: Global,
-    out: &mut String,
-    unnamed: Option<&Name>,
-    line: &str,
-) -> Result<(), AllocError>
+fn push_heading(out: &mut String, unnamed: Option<&Name>, line: &str) -> Result<(), AllocError>
     ensures { OnOk result (string_bytes out.new
         ≡ string_bytes out.old ++ heading_text (option_copied unnamed.entry) line.now) }
 {
     match unnamed {
-        Some(name) => push_without(alloc, out, name, line),
+        Some(name) => push_without(out, name, line),
         None => out.push_str(line),
     }
 }
@@ -300,7 +270,6 @@ fn below(alloc: Global, path: &[Name], item: &Item) -> Result<Vec<Name>, AllocEr
 /// Puts the rules of a path behind the text, with the blocks that no command names, down to a depth.
 #[tactic(auto, using(crate::proofs::Rules::deeper))]
 fn push_rules(
-    alloc: Global,
     out: &mut String,
     config: &Config,
     path: &[Name],
@@ -313,6 +282,7 @@ fn push_rules(
     if depth == 0 {
         return Ok(());
     }
+    let alloc = *out.allocator();
     let items = config.items(path);
     let mut number = 1usize;
     for at in 0..items.len() {
@@ -323,10 +293,10 @@ fn push_rules(
         match opens {
             Opens::Closed => out.push_str(line.as_str())?,
             Opens::Block(unnamed) => {
-                push_heading(alloc, out, unnamed, line.as_str().trim_end())?;
+                push_heading(out, unnamed, line.as_str().trim_end())?;
                 out.push_str(" {\n")?;
                 let inner = below(alloc, path, item)?;
-                push_rules(alloc, out, config, &inner, true, depth - 1)?;
+                push_rules(out, config, &inner, true, depth - 1)?;
                 out.push_str("}\n")?;
             }
         }
@@ -347,7 +317,6 @@ fn push_skip_at(out: &mut String, config: &Config, path: &[Name]) -> Result<(), 
 /// Puts the text of a path behind another, as `pfctl -a PATH -f -` reads it: the skipped interfaces of main, the tables
 /// with their flags and, if they are listed, their entries, and the rules with the blocks that no command names.
 pub(crate) fn push_text(
-    alloc: Global,
     out: &mut String,
     config: &Config,
     path: &[Name],
@@ -356,6 +325,6 @@ pub(crate) fn push_text(
     ensures { OnOk result (string_bytes out.new ≡ string_bytes out.old ++ path_text is_listed config.now path.now) }
 {
     push_skip_at(out, config, path)?;
-    push_tables(alloc, out, config, path, is_listed)?;
-    push_rules(alloc, out, config, path, false, DEPTH)
+    push_tables(out, config, path, is_listed)?;
+    push_rules(out, config, path, false, DEPTH)
 }

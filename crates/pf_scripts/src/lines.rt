@@ -123,8 +123,7 @@ fn begins_pair(first: &str, second: &str, words: &[&str]) -> bool
 {
     match words {
         [a, b, ..] => *a == first && *b == second,
-        [_] => false,
-        [] => false,
+        [_] | [] => false,
     }
 }
 

@@ -45,20 +45,14 @@ pub fn matches_in<'a>(
 fn is_input(file: Option<&str>) -> bool
     ensures { result ≡ is_input (option_copied file.entry) }
 {
-    match file {
-        Some(name) => name == "-",
-        None => false,
-    }
+    file.is_some_and(|name| name == "-")
 }
 
 /// Whether a file is standard input, or there is none.
 pub fn is_standard(file: Option<&str>) -> bool
     ensures { result ≡ is_standard (option_copied file.entry) }
 {
-    match file {
-        Some(name) => name == "-",
-        None => true,
-    }
+    file.map_or(true, |name| name == "-")
 }
 
 /// The value of `-f`.

@@ -19,8 +19,9 @@ use crate::printing::Printed;
 use crate::words_read::{ChangeFault, WordsRead};
 use clap::ArgMatches;
 use pf_arguments::{Action, Command, USAGE, from_matches};
+use pf_command::place_at;
 use pf_config::Config;
-use pf_grammar::{ParseFault, Place, Profile, parse};
+use pf_grammar::{ParseFault, Profile, parse};
 use pf_rules::Name;
 use std::alloc::{AllocError, Global};
 
@@ -43,20 +44,11 @@ fn action_of(
     }
     match from_matches(alloc, matches, text) {
         Ok(action) => Ok(action),
-        Err(fault) => match fault.code() {
-            Some(code) => Err(ChangeFault::Refused(code)),
-            None => Err(ChangeFault::Memory),
-        },
-    }
-}
-
-/// Where a ruleset for this path is loaded.
-fn place_at(path: &[Name]) -> Place
-    ensures { result ≡ place_at path.now }
-{
-    match path {
-        [] => Place::Main,
-        [_, ..] => Place::Anchor,
+        Err(fault) => Err(
+            fault
+                .code()
+                .map_or(ChangeFault::Memory, |code| ChangeFault::Refused(code)),
+        ),
     }
 }
 
