@@ -29,15 +29,35 @@ pub(crate) struct Alternative<'c> {
     pub(crate) tests: Vec<Match<'c>>,
 }
 
+/// Alternatives, unless a growth is refused.
+pub(crate) type Alternatives<'c> = Result<Vec<Alternative<'c>>, AllocError>;
+
+impl<'c> Alternative<'c> {
+    /// Both of these, and the tests.
+    pub(crate) fn of(
+        family: Option<Family>,
+        protocol: Protocol,
+        tests: Vec<Match<'c>>,
+    ) -> Alternative<'c>
+        ensures { alternative_of result ≡
+            record { family = family; protocol = protocol; tests = map match_of tests.entry.items } }
+    {
+        Alternative {
+            family,
+            protocol,
+            tests,
+        }
+    }
+}
+
 /// What both ask of the family, none if it can't hold.
 fn both_families(one: Option<Family>, other: Option<Family>) -> Option<Option<Family>>
     ensures { result ≡ both_families one other }
 {
     match (one, other) {
-        (None, family) => Some(family),
-        (Some(family), None) => Some(Some(family)),
-        (Some(Family::Inet), Some(Family::Inet)) => Some(Some(Family::Inet)),
-        (Some(Family::Inet6), Some(Family::Inet6)) => Some(Some(Family::Inet6)),
+        (None, family) | (family, None) => Some(family),
+        (Some(Family::Inet), Some(Family::Inet)) | (Some(Family::Inet6), Some(Family::Inet6)) =>
+            Some(one),
         (Some(Family::Inet), Some(Family::Inet6)) | (Some(Family::Inet6), Some(Family::Inet)) =>
             None,
     }
@@ -48,25 +68,11 @@ fn both_protocols(one: Protocol, other: Protocol) -> Option<Protocol>
     ensures { result ≡ both_protocols one other }
 {
     match (one, other) {
-        (Protocol::AnyProtocol, protocol) => Some(protocol),
-        (Protocol::Only(n), Protocol::AnyProtocol) => Some(Protocol::Only(n)),
-        (Protocol::Only(n), Protocol::Only(m)) => if n == m {
-            Some(Protocol::Only(n))
-        } else {
-            None
-        },
-        (Protocol::Only(n), Protocol::NotTcp) => if n == 6 {
-            None
-        } else {
-            Some(Protocol::Only(n))
-        },
-        (Protocol::NotTcp, Protocol::AnyProtocol) => Some(Protocol::NotTcp),
-        (Protocol::NotTcp, Protocol::Only(n)) => if n == 6 {
-            None
-        } else {
-            Some(Protocol::Only(n))
-        },
-        (Protocol::NotTcp, Protocol::NotTcp) => Some(Protocol::NotTcp),
+        (Protocol::AnyProtocol, protocol) | (protocol, Protocol::AnyProtocol) => Some(protocol),
+        (Protocol::Only(n), Protocol::Only(m)) => (n == m).then(|| one),
+        (Protocol::Only(n), Protocol::NotTcp) | (Protocol::NotTcp, Protocol::Only(n)) => (n
+            != 6).then(|| Protocol::Only(n)),
+        (Protocol::NotTcp, Protocol::NotTcp) => Some(one),
     }
 }
 
@@ -78,7 +84,7 @@ pub(crate) fn push_matches<'c>(
     ensures { OnOk result (map match_of all.new.items ≡ map match_of all.old.items ++ map match_of more.now) }
 {
     for test in more {
-        all.push(test.copied()?)?;
+        all.push(test.clone()?)?;
     }
     Ok(())
 }
@@ -102,11 +108,7 @@ fn push_both<'c>(
     let mut tests = Vec::new(alloc);
     push_matches(&mut tests, &one.tests)?;
     push_matches(&mut tests, &other.tests)?;
-    all.push(Alternative {
-        family,
-        protocol,
-        tests,
-    })?;
+    all.push(Alternative::of(family, protocol, tests))?;
     Ok(())
 }
 
@@ -133,7 +135,7 @@ pub(crate) fn both<'c>(
     alloc: Global,
     these: &[Alternative<'c>],
     those: &[Alternative<'c>],
-) -> Result<Vec<Alternative<'c>>, AllocError>
+) -> Alternatives<'c>
     ensures { IfOk result (λ v. map alternative_of v.items
         ≡ both (map alternative_of these.now) (map alternative_of those.now)) }
 {

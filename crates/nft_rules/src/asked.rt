@@ -6,101 +6,64 @@ ghost use Rattle.nft_rules.specs.Rendering.{type_alternatives, masked_by, flag_a
 ghost use Rattle.nft_rules.specs.Rendering.{interface_alternatives, ports_from, ports_but, port_span, of_protocol};
 ghost use Rattle.nft_rules.specs.Rendering.{on_ports, port_alternatives};
 ghost use Rattle.nft_rules.specs.Rendering.{such_alternatives, end_alternatives, alternatives};
+ghost use Rattle.nft_rules.specs.Subset.{AtPort};
 ghost use Rattle.nft_rules.specs.Seen.{match_of, machine_of};
 ghost use Rattle.nft_rules.specs.inner.Asked.{alternative_of};
 
-use crate::alternative::{Alternative, Protocol, both};
+use crate::alternative::{Alternative, Alternatives, Protocol, both};
+use crate::chains::Place;
 use crate::hosts::host_alternatives;
-use crate::machine::{MachineInterface, interfaces_matched};
+use crate::machine::interfaces_matched;
 use crate::subset::{Match, Side};
 use pf_addr::Family;
-use pf_config::Config;
-use pf_rules::{
-    Conditions, Direction, FlagTest, Interface, InterfaceName, Name, PortTest, TcpFlags,
-};
-use std::alloc::{AllocError, Global};
+use pf_rules::{Conditions, Direction, FlagTest, Interface, InterfaceName, PortTest, TcpFlags};
+use std::alloc::Global;
 use std::rc::Rc;
 
-/// One alternative.
-pub(crate) fn single<'c>(
-    alloc: Global,
-    family: Option<Family>,
-    protocol: Protocol,
-    tests: Vec<Match<'c>>,
-) -> Result<Vec<Alternative<'c>>, AllocError>
-    ensures { IfOk result (λ v. map alternative_of v.items
-        ≡ record { family = family; protocol = protocol; tests = map match_of tests.entry.items } ∷ []) }
-{
-    let mut all = Vec::new(alloc);
-    all.push(Alternative {
-        family,
-        protocol,
-        tests,
-    })?;
-    Ok(all)
-}
-
 /// Nothing is asked.
-pub(crate) fn always<'c>(alloc: Global) -> Result<Vec<Alternative<'c>>, AllocError>
+pub(crate) fn always<'c>(alloc: Global) -> Alternatives<'c>
     ensures { IfOk result (λ v. map alternative_of v.items ≡ always ∷ []) }
 {
-    single(alloc, None, Protocol::AnyProtocol, Vec::new(alloc))
+    family_alternatives(alloc, None)
 }
 
 /// One test of packets of this protocol.
-fn of_protocol<'c>(
-    alloc: Global,
-    number: u8,
-    test: Match<'c>,
-) -> Result<Vec<Alternative<'c>>, AllocError>
+fn of_protocol<'c>(alloc: Global, number: u8, test: Match<'c>) -> Alternatives<'c>
     ensures { IfOk result (λ v. map alternative_of v.items ≡ of_protocol number (match_of test.entry) ∷ []) }
 {
-    let mut tests = Vec::new(alloc);
-    tests.push(test)?;
-    single(alloc, None, Protocol::Only(number), tests)
+    let tests = vec![in alloc; test]?;
+    Ok(vec![in alloc; Alternative::of(None, Protocol::Only(number), tests)]?)
 }
 
 fn direction_alternatives<'c>(
     alloc: Global,
     direction: Direction,
     wanted: Option<Direction>,
-) -> Result<Vec<Alternative<'c>>, AllocError>
+) -> Alternatives<'c>
     ensures { IfOk result (λ v. map alternative_of v.items ≡ direction_alternatives direction wanted) }
 {
     match (wanted, direction) {
-        (None, _) | (Some(Direction::In), Direction::In) | (Some(Direction::Out), Direction::Out) =>
-            always(alloc),
         (Some(Direction::In), Direction::Out) | (Some(Direction::Out), Direction::In) => Ok(
             Vec::new(alloc),
         ),
+        _ => always(alloc),
     }
 }
 
-fn family_alternatives<'c>(
-    alloc: Global,
-    family: Option<Family>,
-) -> Result<Vec<Alternative<'c>>, AllocError>
+fn family_alternatives<'c>(alloc: Global, family: Option<Family>) -> Alternatives<'c>
     ensures { IfOk result (λ v. map alternative_of v.items ≡ family_alternatives family) }
 {
-    single(alloc, family, Protocol::AnyProtocol, Vec::new(alloc))
+    Ok(vec![in alloc; Alternative::of(family, Protocol::AnyProtocol, Vec::new(alloc))]?)
 }
 
-fn protocol_alternatives<'c>(
-    alloc: Global,
-    protocol: Option<u8>,
-) -> Result<Vec<Alternative<'c>>, AllocError>
+fn protocol_alternatives<'c>(alloc: Global, protocol: Option<u8>) -> Alternatives<'c>
     ensures { IfOk result (λ v. map alternative_of v.items ≡ protocol_alternatives protocol) }
 {
-    match protocol {
-        None => always(alloc),
-        Some(number) => single(alloc, None, Protocol::Only(number), Vec::new(alloc)),
-    }
+    let protocol = protocol.map_or(Protocol::AnyProtocol, |number| Protocol::Only(number));
+    Ok(vec![in alloc; Alternative::of(None, protocol, Vec::new(alloc))]?)
 }
 
-fn type_alternatives<'c>(
-    alloc: Global,
-    wanted: Option<u8>,
-) -> Result<Vec<Alternative<'c>>, AllocError>
+fn type_alternatives<'c>(alloc: Global, wanted: Option<u8>) -> Alternatives<'c>
     ensures { IfOk result (λ v. map alternative_of v.items ≡ type_alternatives wanted) }
 {
     match wanted {
@@ -126,7 +89,7 @@ fn masked_by(mask: TcpFlags, flags: TcpFlags) -> TcpFlags
 }
 
 /// Flags are asked of TCP packets alone.
-fn flag_alternatives<'c>(alloc: Global, test: FlagTest) -> Result<Vec<Alternative<'c>>, AllocError>
+fn flag_alternatives<'c>(alloc: Global, test: FlagTest) -> Alternatives<'c>
     ensures { IfOk result (λ v. map alternative_of v.items ≡ flag_alternatives test) }
 {
     match test {
@@ -134,46 +97,39 @@ fn flag_alternatives<'c>(alloc: Global, test: FlagTest) -> Result<Vec<Alternativ
         FlagTest::Just { set, of } => {
             let value = masked_by(of, set);
             let mut all = of_protocol(alloc, 6, Match::WithFlags { mask: of, value })?;
-            all.push(Alternative {
-                family: None,
-                protocol: Protocol::NotTcp,
-                tests: Vec::new(alloc),
-            })?;
+            all.push(Alternative::of(None, Protocol::NotTcp, Vec::new(alloc)))?;
             Ok(all)
         }
     }
 }
 
 /// A packet on one of these interfaces, of which there may be none.
-pub(crate) fn on_some<'c>(
-    alloc: Global,
-    names: Vec<InterfaceName>,
-) -> Result<Vec<Alternative<'c>>, AllocError>
+pub(crate) fn on_some<'c>(alloc: Global, names: Vec<InterfaceName>) -> Alternatives<'c>
     ensures { IfOk result (λ v. map alternative_of v.items ≡ on_some names.items) }
 {
     if names.is_empty() {
         return Ok(Vec::new(alloc));
     }
     let names = Rc::new(alloc, names)?;
-    let mut tests = Vec::new(alloc);
-    tests.push(Match::OnInterface {
-        names,
-        negated: false,
-    })?;
-    single(alloc, None, Protocol::AnyProtocol, tests)
+    let tests = vec![in alloc;
+        Match::OnInterface {
+            names,
+            negated: false
+        },
+    ]?;
+    Ok(vec![in alloc; Alternative::of(None, Protocol::AnyProtocol, tests)]?)
 }
 
-fn interface_alternatives<'c>(
-    alloc: Global,
-    machine: &[MachineInterface],
-    wanted: &Option<Interface>,
-) -> Result<Vec<Alternative<'c>>, AllocError>
+fn interface_alternatives<'c>(place: Place<'c>, wanted: &Option<Interface>) -> Alternatives<'c>
     ensures { IfOk result (λ v. map alternative_of v.items
-        ≡ interface_alternatives (machine_of machine.now) wanted.now) }
+        ≡ interface_alternatives (machine_of place.entry.machine.now) wanted.now) }
 {
     match wanted {
-        None => always(alloc),
-        Some(interface) => on_some(alloc, interfaces_matched(alloc, machine, interface)?),
+        None => always(place.alloc),
+        Some(wanted) => on_some(
+            place.alloc,
+            interfaces_matched(place.alloc, place.machine, wanted)?,
+        ),
     }
 }
 
@@ -183,6 +139,21 @@ pub(crate) struct PortSpan {
     pub(crate) low: u16,
     pub(crate) high: u16,
     pub(crate) negated: bool,
+}
+
+impl PortSpan {
+    /// A packet's port at this end is one of them.
+    fn at<'c>(self, side: Side) -> Match<'c>
+        ensures { match_of result ≡ AtPort side self.low self.high self.negated }
+    {
+        let PortSpan { low, high, negated } = self;
+        Match::AtPort {
+            side,
+            low,
+            high,
+            negated,
+        }
+    }
 }
 
 fn ports_from(low: u16, high: u16) -> Option<PortSpan>
@@ -231,11 +202,7 @@ fn port_span(test: PortTest) -> Option<PortSpan>
 }
 
 /// TCP and UDP have ports.
-fn port_alternatives<'c>(
-    alloc: Global,
-    side: Side,
-    wanted: Option<PortTest>,
-) -> Result<Vec<Alternative<'c>>, AllocError>
+fn port_alternatives<'c>(alloc: Global, side: Side, wanted: Option<PortTest>) -> Alternatives<'c>
     ensures { IfOk result (λ v. map alternative_of v.items ≡ port_alternatives side wanted) }
 {
     let Some(test) = wanted else {
@@ -244,50 +211,23 @@ fn port_alternatives<'c>(
     let Some(span) = port_span(test) else {
         return Ok(Vec::new(alloc));
     };
-    let PortSpan { low, high, negated } = span;
-    let mut all = of_protocol(
-        alloc,
-        6,
-        Match::AtPort {
-            side,
-            low,
-            high,
-            negated,
-        },
-    )?;
-    let mut tests = Vec::new(alloc);
-    tests.push(Match::AtPort {
-        side,
-        low,
-        high,
-        negated,
-    })?;
-    all.push(Alternative {
-        family: None,
-        protocol: Protocol::Only(17),
-        tests,
-    })?;
+    let mut all = of_protocol(alloc, 6, span.at(side))?;
+    let tests = vec![in alloc; span.at(side)]?;
+    all.push(Alternative::of(None, Protocol::Only(17), tests))?;
     Ok(all)
 }
 
 /// What is asked of the packet itself.
 #[tactic(auto, unfolding(crate::specs::Rendering::such_alternatives))]
-fn such_alternatives<'c>(
-    alloc: Global,
-    machine: &[MachineInterface],
-    direction: Direction,
-    rule: &Conditions,
-) -> Result<Vec<Alternative<'c>>, AllocError>
+fn such_alternatives<'c>(place: Place<'c>, rule: &Conditions) -> Alternatives<'c>
     ensures { IfOk result (λ v. map alternative_of v.items
-        ≡ such_alternatives (machine_of machine.now) direction rule.now) }
+        ≡ such_alternatives (machine_of place.entry.machine.now) place.entry.direction rule.now) }
 {
-    let ways = direction_alternatives(alloc, direction, rule.direction)?;
+    let alloc = place.alloc;
+    let ways = direction_alternatives(alloc, place.direction, rule.direction)?;
     let families = both(alloc, &ways, &family_alternatives(alloc, rule.family)?)?;
-    let protocols = both(
-        alloc,
-        &families,
-        &protocol_alternatives(alloc, rule.protocol)?,
-    )?;
+    let protocol = protocol_alternatives(alloc, rule.protocol)?;
+    let protocols = both(alloc, &families, &protocol)?;
     let types = both(
         alloc,
         &protocols,
@@ -297,52 +237,33 @@ fn such_alternatives<'c>(
     both(
         alloc,
         &flags,
-        &interface_alternatives(alloc, machine, &rule.interface)?,
+        &interface_alternatives(place, &rule.interface)?,
     )
 }
 
 /// What is asked of its two ends.
 #[tactic(auto, unfolding(crate::specs::Rendering::end_alternatives))]
-fn end_alternatives<'c>(
-    alloc: Global,
-    config: &'c Config,
-    path: &'c [Name],
-    rule: &'c Conditions,
-) -> Result<Vec<Alternative<'c>>, AllocError>
-    ensures { IfOk result (λ v. map alternative_of v.items ≡ end_alternatives config.now path.now rule.now) }
+fn end_alternatives<'c>(place: Place<'c>, rule: &'c Conditions) -> Alternatives<'c>
+    ensures { IfOk result (λ v. map alternative_of v.items
+        ≡ end_alternatives place.entry.config.now place.entry.path.now rule.now) }
 {
+    let alloc = place.alloc;
     let first = port_alternatives(alloc, Side::Source, rule.source_port)?;
-    let ports = both(
-        alloc,
-        &first,
-        &port_alternatives(alloc, Side::Destination, rule.destination_port)?,
-    )?;
-    let sources = host_alternatives(alloc, config, path, Side::Source, &rule.source)?;
+    let second = port_alternatives(alloc, Side::Destination, rule.destination_port)?;
+    let ports = both(alloc, &first, &second)?;
+    let sources = host_alternatives(place, Side::Source, &rule.source)?;
     let left = both(alloc, &ports, &sources)?;
-    let destinations = host_alternatives(
-        alloc,
-        config,
-        path,
-        Side::Destination,
-        &rule.destination,
-    )?;
+    let destinations = host_alternatives(place, Side::Destination, &rule.destination)?;
     both(alloc, &left, &destinations)
 }
 
 /// What a rule at a path asks, for packets of a direction.
 #[tactic(auto, unfolding(crate::specs::Rendering::alternatives))]
-pub(crate) fn alternatives<'c>(
-    alloc: Global,
-    config: &'c Config,
-    machine: &[MachineInterface],
-    direction: Direction,
-    path: &'c [Name],
-    rule: &'c Conditions,
-) -> Result<Vec<Alternative<'c>>, AllocError>
-    ensures { IfOk result (λ v. map alternative_of v.items
-        ≡ alternatives config.now (machine_of machine.now) direction path.now rule.now) }
+pub(crate) fn alternatives<'c>(place: Place<'c>, rule: &'c Conditions) -> Alternatives<'c>
+    ensures { IfOk result (λ v. map alternative_of v.items ≡ alternatives place.entry.config.now
+        (machine_of place.entry.machine.now) place.entry.direction place.entry.path.now rule.now) }
 {
-    let such = such_alternatives(alloc, machine, direction, rule)?;
-    let ends = end_alternatives(alloc, config, path, rule)?;
-    both(alloc, &such, &ends)
+    let such = such_alternatives(place, rule)?;
+    let ends = end_alternatives(place, rule)?;
+    both(place.alloc, &such, &ends)
 }

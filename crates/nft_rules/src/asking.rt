@@ -61,10 +61,7 @@ pub(crate) fn left_after<'r, 'c>(
     };
     let mut now = left;
     for rule in &chain.rules {
-        let Some(next) = left_behind(whole, depth - 1, rule.statement, now) else {
-            return None;
-        };
-        now = next;
+        now = left_behind(whole, depth - 1, rule.statement, now)?;
     }
     Some(now)
 }

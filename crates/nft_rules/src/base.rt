@@ -9,7 +9,8 @@ ghost use Rattle.nft_rules.specs.Rendering.{base_chain};
 ghost use Rattle.nft_rules.specs.Seen.{match_of, chain_name_of, nft_rule_of, chain_of, machine_of};
 
 use crate::asked::{always, on_some};
-use crate::machine::{MachineInterface, interfaces_skipped, known};
+use crate::chains::Place;
+use crate::machine::{interfaces_skipped, known};
 use crate::rules::{push_jumps, push_rules};
 use crate::subset::{Chain, ChainName, Match, NftRule, Note, Outcome, Pass, Statement};
 use pf_config::Config;
@@ -28,49 +29,39 @@ fn unknown_matches<'c>(
         return Ok(Vec::new(alloc));
     }
     let names = Rc::new(alloc, names)?;
-    let mut matches = Vec::new(alloc);
-    matches.push(Match::OnInterface {
-        names,
-        negated: true,
-    })?;
-    Ok(matches)
+    Ok(vec![in alloc;
+        Match::OnInterface {
+            names,
+            negated: true
+        },
+    ]?)
 }
 
 /// Packets on no interface of the machine's list are dropped.
-fn push_unknown<'c>(
-    alloc: Global,
-    machine: &[MachineInterface],
-    rules: &mut Vec<NftRule<'c>>,
-) -> Result<(), AllocError>
+fn push_unknown<'c>(place: Place<'c>, rules: &mut Vec<NftRule<'c>>) -> Result<(), AllocError>
     ensures { OnOk result (map nft_rule_of rules.new.items ≡ map nft_rule_of rules.old.items
-        ++ ending Drop Unknown (unknown_matches (known (machine_of machine.now))) ∷ []) }
+        ++ ending Drop Unknown (unknown_matches (known (machine_of place.entry.machine.now))) ∷ []) }
 {
-    let matches = unknown_matches(alloc, known(alloc, machine)?)?;
+    let matches = unknown_matches(place.alloc, known(place.alloc, place.machine)?)?;
     let statement = Statement::Ends {
         outcome: Outcome::Drop,
         note: Note::Unknown,
     };
-    rules.push(NftRule { matches, statement })?;
-    Ok(())
+    Ok(rules.push(NftRule { matches, statement })?)
 }
 
 /// Packets on skipped interfaces pass.
-fn push_skips<'c>(
-    alloc: Global,
-    config: &Config,
-    machine: &[MachineInterface],
-    rules: &mut Vec<NftRule<'c>>,
-) -> Result<(), AllocError>
+fn push_skips<'c>(place: Place<'c>, rules: &mut Vec<NftRule<'c>>) -> Result<(), AllocError>
     ensures { OnOk result (map nft_rule_of rules.new.items ≡ map nft_rule_of rules.old.items
-        ++ skip_rules config.now (machine_of machine.now)) }
+        ++ skip_rules place.entry.config.now (machine_of place.entry.machine.now)) }
 {
-    let names = interfaces_skipped(alloc, machine, config.skip())?;
-    let asked = on_some(alloc, names)?;
+    let names = interfaces_skipped(place.alloc, place.machine, place.config.skip())?;
+    let asked = on_some(place.alloc, names)?;
     let statement = Statement::Ends {
         outcome: Outcome::Accept,
         note: Note::Skip,
     };
-    push_rules(alloc, rules, &asked, statement)
+    push_rules(rules, &asked, statement)
 }
 
 /// The two chains of the main ruleset, if it has rules.
@@ -78,55 +69,39 @@ fn push_skips<'c>(
 fn main_chains<'c>(alloc: Global, config: &Config) -> Result<Vec<ChainName<'c>>, AllocError>
     ensures { IfOk result (λ v. map chain_name_of v.items ≡ main_chains config.now) }
 {
-    let mut chains = Vec::new(alloc);
     if config.items(&[]).is_empty() {
-        return Ok(chains);
+        return Ok(Vec::new(alloc));
     }
-    chains.push(ChainName::At {
-        pass: Pass::Forward,
-        path: &[],
-    })?;
-    chains.push(ChainName::At {
-        pass: Pass::Backward,
-        path: &[],
-    })?;
-    Ok(chains)
+    Ok(vec![in alloc;
+        ChainName::at(Pass::Forward, &[]),
+        ChainName::at(Pass::Backward, &[]),
+    ]?)
 }
 
 /// What no rule matches passes.
-fn push_default<'c>(alloc: Global, rules: &mut Vec<NftRule<'c>>) -> Result<(), AllocError>
+fn push_default<'c>(rules: &mut Vec<NftRule<'c>>) -> Result<(), AllocError>
     ensures { OnOk result (map nft_rule_of rules.new.items ≡ map nft_rule_of rules.old.items
         ++ ending Accept Default [] ∷ []) }
 {
+    let matches = Vec::new(*rules.allocator());
     let statement = Statement::Ends {
         outcome: Outcome::Accept,
         note: Note::Default,
     };
-    rules.push(NftRule {
-        matches: Vec::new(alloc),
-        statement,
-    })?;
-    Ok(())
+    Ok(rules.push(NftRule { matches, statement })?)
 }
 
 /// The chain at the hook.
-pub(crate) fn base_chain<'c>(
-    alloc: Global,
-    config: &Config,
-    machine: &[MachineInterface],
-) -> Result<Chain<'c>, AllocError>
-    ensures { IfOk result (λ v. chain_of v ≡ base_chain config.now (machine_of machine.now)) }
+pub(crate) fn base_chain<'c>(place: Place<'c>) -> Result<Chain<'c>, AllocError>
+    ensures { IfOk result (λ v. chain_of v
+        ≡ base_chain place.entry.config.now (machine_of place.entry.machine.now)) }
 {
-    let mut rules = Vec::new(alloc);
-    push_unknown(alloc, machine, &mut rules)?;
-    push_skips(alloc, config, machine, &mut rules)?;
-    push_jumps(
-        alloc,
-        &mut rules,
-        &always(alloc)?,
-        &main_chains(alloc, config)?,
-    )?;
-    push_default(alloc, &mut rules)?;
+    let mut rules = Vec::new(place.alloc);
+    push_unknown(place, &mut rules)?;
+    push_skips(place, &mut rules)?;
+    let chains = main_chains(place.alloc, place.config)?;
+    push_jumps(&mut rules, &always(place.alloc)?, &chains)?;
+    push_default(&mut rules)?;
     Ok(Chain {
         name: ChainName::Base,
         rules,

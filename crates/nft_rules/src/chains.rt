@@ -49,14 +49,7 @@ fn push_filter<'c>(
         ++ filter_rules (alternatives place.entry.config.now (machine_of place.entry.machine.now) place.entry.direction
         place.entry.path.now rule.now.conditions) place.entry.path.now index rule.now) }
 {
-    let asked = alternatives(
-        place.alloc,
-        place.config,
-        place.machine,
-        place.direction,
-        place.path,
-        &rule.conditions,
-    )?;
+    let asked = alternatives(place, &rule.conditions)?;
     let note = Note::Spot {
         path: place.path,
         index,
@@ -65,7 +58,7 @@ fn push_filter<'c>(
         outcome: outcome_of(rule.action),
         note,
     };
-    push_rules(place.alloc, rules, &asked, statement)
+    push_rules(rules, &asked, statement)
 }
 
 /// The chains to which an anchor rule leads forwards; within a quick one the last hit ends the evaluation too.
@@ -76,13 +69,12 @@ fn chains_forward<'c>(
     ensures { IfOk result (λ v. map chain_name_of v.items
         ≡ anchor_chains place.entry.config.now place.entry.path.now (heading_of heading.now)) }
 {
-    let paths = chained_targets(place.alloc, place.config, place.path, &heading.target)?;
+    let paths = chained_targets(place, &heading.target)?;
     let mut chains = Vec::new(place.alloc);
     push_forward(&mut chains, &paths)?;
-    if !heading.quick {
-        return Ok(chains);
+    if heading.quick {
+        push_backward(&mut chains, &paths)?;
     }
-    push_backward(&mut chains, &paths)?;
     Ok(chains)
 }
 
@@ -97,16 +89,9 @@ fn push_forward_anchor<'c>(
         ++ forward_rule place.entry.config.now (machine_of place.entry.machine.now) place.entry.direction
         place.entry.path.now index (AnchorRule (heading_of heading.now))) }
 {
-    let asked = alternatives(
-        place.alloc,
-        place.config,
-        place.machine,
-        place.direction,
-        place.path,
-        &heading.conditions,
-    )?;
+    let asked = alternatives(place, &heading.conditions)?;
     let chains = chains_forward(place, heading)?;
-    push_jumps(place.alloc, rules, &asked, &chains)
+    push_jumps(rules, &asked, &chains)
 }
 
 /// Puts the jumps of an anchor rule backwards behind the rules that are there: none of a quick one.
@@ -123,18 +108,11 @@ fn push_backward_anchor<'c>(
     if heading.quick {
         return Ok(());
     }
-    let asked = alternatives(
-        place.alloc,
-        place.config,
-        place.machine,
-        place.direction,
-        place.path,
-        &heading.conditions,
-    )?;
-    let paths = chained_targets(place.alloc, place.config, place.path, &heading.target)?;
+    let asked = alternatives(place, &heading.conditions)?;
+    let paths = chained_targets(place, &heading.target)?;
     let mut chains = Vec::new(place.alloc);
     push_backward(&mut chains, &paths)?;
-    push_jumps(place.alloc, rules, &asked, &chains)
+    push_jumps(rules, &asked, &chains)
 }
 
 /// Puts what a rule gives in this pass behind the rules that are there: what may end the evaluation, or the rest.
@@ -151,18 +129,11 @@ fn push_rule<'c>(
         place.entry.path.now index (rule_of item.now)) }
 {
     match (pass, item) {
-        (Pass::Forward, Item::Filter(rule)) => {
-            if !rule.quick {
-                return Ok(());
-            }
-            push_filter(place, index, rule, rules)
-        }
-        (Pass::Backward, Item::Filter(rule)) => {
-            if rule.quick {
-                return Ok(());
-            }
-            push_filter(place, index, rule, rules)
-        }
+        (Pass::Forward, Item::Filter(rule)) if rule.quick => push_filter(place, index, rule, rules),
+        (Pass::Backward, Item::Filter(rule)) if !rule.quick => push_filter(
+            place, index, rule, rules,
+        ),
+        (_, Item::Filter(_)) => Ok(()),
         (Pass::Forward, Item::Anchor(anchor)) => {
             push_forward_anchor(place, index, &anchor.heading, rules)
         }
@@ -208,9 +179,6 @@ pub(crate) fn chain_in<'c>(place: Place<'c>, pass: Pass) -> Result<Chain<'c>, Al
 {
     let mut rules = Vec::new(place.alloc);
     push_rules_in(place, pass, 0, place.config.items(place.path), &mut rules)?;
-    let name = ChainName::At {
-        pass,
-        path: place.path,
-    };
+    let name = ChainName::at(pass, place.path);
     Ok(Chain { name, rules })
 }

@@ -9,22 +9,22 @@ ghost use Rattle.nft_rules.specs.Rendering.{owner_of, place_of, of_place, off_pl
 ghost use Rattle.nft_rules.specs.Seen.{where_of};
 ghost use Rattle.nft_rules.specs.inner.Asked.{alternative_of};
 
-use crate::alternative::{Alternative, Protocol};
+use crate::alternative::{Alternative, Alternatives, Protocol};
 use crate::asked::always;
+use crate::chains::Place;
 use crate::subset::{Match, SetName, Side, Where};
 use pf_addr::{Addr, Family, Prefix};
-use pf_config::Config;
 use pf_rules::{Addresses, Host, Name};
-use std::alloc::{AllocError, Global};
+use std::alloc::AllocError;
 
 /// Whose table a rule at a path names: the path's own, else main's.
-fn owner_of<'c>(config: &'c Config, path: &'c [Name], name: &str) -> Option<&'c [Name]>
-    ensures { option_map (λ p. p.now) result ≡ owner_of config.now path.now name.now }
+fn owner_of<'c>(place: Place<'c>, name: &str) -> Option<&'c [Name]>
+    ensures { option_map (λ p. p.now) result ≡ owner_of place.entry.config.now place.entry.path.now name.now }
 {
-    if config.table(path, name).is_some() {
-        return Some(path);
+    if place.config.table(place.path, name).is_some() {
+        return Some(place.path);
     }
-    if config.table(&[], name).is_some() {
+    if place.config.table(&[], name).is_some() {
         Some(&[])
     } else {
         None
@@ -35,10 +35,10 @@ fn owner_of<'c>(config: &'c Config, path: &'c [Name], name: &str) -> Option<&'c 
 pub(crate) fn is_same(one: Family, other: Family) -> bool
     ensures { result ≡ family_eq one other }
 {
-    match (one, other) {
-        (Family::Inet, Family::Inet) | (Family::Inet6, Family::Inet6) => true,
-        (Family::Inet, Family::Inet6) | (Family::Inet6, Family::Inet) => false,
-    }
+    matches!(
+        (one, other),
+        (Family::Inet, Family::Inet) | (Family::Inet6, Family::Inet6)
+    )
 }
 
 /// The address as a number.
@@ -87,13 +87,8 @@ pub(crate) fn last_of(prefix: &Prefix) -> u128
 }
 
 /// The addresses of that family, none if there are none.
-fn place_of<'c>(
-    config: &'c Config,
-    path: &'c [Name],
-    family: Family,
-    set: &'c Addresses,
-) -> Option<Where<'c>>
-    ensures { option_map where_of result ≡ place_of config.now path.now family set.now }
+fn place_of<'c>(place: Place<'c>, family: Family, set: &'c Addresses) -> Option<Where<'c>>
+    ensures { option_map where_of result ≡ place_of place.entry.config.now place.entry.path.now family set.now }
 {
     match set {
         Addresses::Prefix(prefix) => {
@@ -116,7 +111,7 @@ fn place_of<'c>(
         }
         Addresses::Table(name) => {
             let table = name.as_str();
-            let owner = owner_of(config, path, table)?;
+            let owner = owner_of(place, table)?;
             Some(Where::InSet(SetName {
                 owner,
                 table,
@@ -128,108 +123,72 @@ fn place_of<'c>(
 
 /// Puts what is asked of packets of one family behind what is there.
 fn push_place<'c>(
-    alloc: Global,
+    place: Place<'c>,
     all: &mut Vec<Alternative<'c>>,
     side: Side,
     family: Family,
-    place: Option<Where<'c>>,
+    set: &'c Addresses,
 ) -> Result<(), AllocError>
-    ensures { OnOk result (map alternative_of all.new.items
-        ≡ map alternative_of all.old.items ++ of_place side family (option_map where_of place.entry)) }
+    ensures { OnOk result (map alternative_of all.new.items ≡ map alternative_of all.old.items
+        ++ of_place side family (place_of place.entry.config.now place.entry.path.now family set.now)) }
 {
-    let Some(place) = place else {
+    let Some(found) = place_of(place, family, set) else {
         return Ok(());
     };
-    let mut tests = Vec::new(alloc);
-    tests.push(Match::AtAddress {
-        side,
-        family,
-        place,
-        negated: false,
-    })?;
-    all.push(Alternative {
-        family: Some(family),
-        protocol: Protocol::AnyProtocol,
-        tests,
-    })?;
-    Ok(())
+    let tests = vec![in place.alloc;
+        Match::AtAddress {
+            side,
+            family,
+            place: found,
+            negated: false
+        },
+    ]?;
+    Ok(all.push(Alternative::of(Some(family), Protocol::AnyProtocol, tests))?)
 }
 
 /// Puts what is asked of packets of one family that aren't there behind what is there.
 fn push_other<'c>(
-    alloc: Global,
+    place: Place<'c>,
     all: &mut Vec<Alternative<'c>>,
     side: Side,
     family: Family,
-    place: Option<Where<'c>>,
+    set: &'c Addresses,
 ) -> Result<(), AllocError>
-    ensures { OnOk result (map alternative_of all.new.items
-        ≡ map alternative_of all.old.items ++ off_place side family (option_map where_of place.entry)) }
+    ensures { OnOk result (map alternative_of all.new.items ≡ map alternative_of all.old.items
+        ++ off_place side family (place_of place.entry.config.now place.entry.path.now family set.now)) }
 {
-    let mut tests = Vec::new(alloc);
-    if let Some(place) = place {
+    let mut tests = Vec::new(place.alloc);
+    if let Some(found) = place_of(place, family, set) {
         tests.push(Match::AtAddress {
             side,
             family,
-            place,
+            place: found,
             negated: true,
         })?;
     }
-    all.push(Alternative {
-        family: Some(family),
-        protocol: Protocol::AnyProtocol,
-        tests,
-    })?;
-    Ok(())
+    Ok(all.push(Alternative::of(Some(family), Protocol::AnyProtocol, tests))?)
 }
 
 /// What is asked of one of its addresses.
 pub(crate) fn host_alternatives<'c>(
-    alloc: Global,
-    config: &'c Config,
-    path: &'c [Name],
+    place: Place<'c>,
     side: Side,
     host: &'c Host,
-) -> Result<Vec<Alternative<'c>>, AllocError>
+) -> Alternatives<'c>
     ensures { IfOk result (λ v. map alternative_of v.items
-        ≡ host_alternatives config.now path.now side host.now) }
+        ≡ host_alternatives place.entry.config.now place.entry.path.now side host.now) }
 {
-    let mut all = Vec::new(alloc);
+    let mut all = Vec::new(place.alloc);
     match host {
-        Host::Any => return always(alloc),
+        Host::Any => return always(place.alloc),
         Host::In(set) => {
-            push_place(
-                alloc,
-                &mut all,
-                side,
-                Family::Inet,
-                place_of(config, path, Family::Inet, set),
-            )?;
-            push_place(
-                alloc,
-                &mut all,
-                side,
-                Family::Inet6,
-                place_of(config, path, Family::Inet6, set),
-            )?;
-            Ok(all)
+            push_place(place, &mut all, side, Family::Inet, set)?;
+            push_place(place, &mut all, side, Family::Inet6, set)?;
         }
         Host::NotIn(set) => {
-            push_other(
-                alloc,
-                &mut all,
-                side,
-                Family::Inet,
-                place_of(config, path, Family::Inet, set),
-            )?;
-            push_other(
-                alloc,
-                &mut all,
-                side,
-                Family::Inet6,
-                place_of(config, path, Family::Inet6, set),
-            )?;
-            Ok(all)
+            push_other(place, &mut all, side, Family::Inet, set)?;
+            push_other(place, &mut all, side, Family::Inet6, set)?;
         }
     }
+    Ok(all)
 }

@@ -56,13 +56,9 @@ fn is_named(machine: &[MachineInterface], interface: &InterfaceName, name: &[u8]
     ensures { result ≡ list_any (λ n. bytes_eq n name.now) (names_in (machine_of machine.now) interface.now) }
 {
     let own = interface.as_bytes();
-    if own == name || without_digits(own) == name {
-        return true;
-    }
-    match groups_in(machine, interface) {
-        Some(groups) => is_among(groups, name),
-        None => false,
-    }
+    own == name
+        || without_digits(own) == name
+        || groups_in(machine, interface).is_some_and(|groups| is_among(groups, name))
 }
 
 /// Whether a rule on this interface, group or stem, or on what isn't, is meant for the machine's interface.

@@ -11,10 +11,10 @@ use crate::subset::{ChainName, Pass, SetName};
 fn same_pass(one: Pass, other: Pass) -> bool
     ensures { result ≡ pass_eq one other }
 {
-    match (one, other) {
-        (Pass::Forward, Pass::Forward) | (Pass::Backward, Pass::Backward) => true,
-        (Pass::Forward, Pass::Backward) | (Pass::Backward, Pass::Forward) => false,
-    }
+    matches!(
+        (one, other),
+        (Pass::Forward, Pass::Forward) | (Pass::Backward, Pass::Backward)
+    )
 }
 
 /// Whether they are the names of one chain.

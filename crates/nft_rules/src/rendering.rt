@@ -107,14 +107,7 @@ fn push_chains<'c>(
         (map (λ p. p.now) paths.now)) }
 {
     for path in paths {
-        let here = Place {
-            alloc: place.alloc,
-            config: place.config,
-            machine: place.machine,
-            direction: place.direction,
-            path,
-        };
-        chains.push(chain_in(here, pass)?)?;
+        chains.push(chain_in(Place { path, ..place }, pass)?)?;
     }
     Ok(())
 }
@@ -126,9 +119,9 @@ fn rendered<'c>(place: Place<'c>, paths: &[&'c [Name]]) -> Result<NftRuleset<'c>
     ensures { IfOk result (λ r. ruleset_of r
         ≡ rendered place.entry.config.now (machine_of place.entry.machine.now) place.entry.direction) }
 {
-    let sets = sets_of(place.alloc, place.config, paths)?;
+    let sets = sets_of(place, paths)?;
     let mut chains = Vec::new(place.alloc);
-    chains.push(base_chain(place.alloc, place.config, place.machine)?)?;
+    chains.push(base_chain(place)?)?;
     push_chains(place, Pass::Forward, paths, &mut chains)?;
     push_chains(place, Pass::Backward, paths, &mut chains)?;
     Ok(NftRuleset { sets, chains })

@@ -39,7 +39,6 @@ fn matches_of<'c>(
 /// Puts a rule behind those that are there.
 #[tactic(auto, unfolding(crate::specs::Rendering::with_statement))]
 fn push_rule<'c>(
-    alloc: Global,
     rules: &mut Vec<NftRule<'c>>,
     alternative: &Alternative<'c>,
     statement: Statement<'c>,
@@ -47,14 +46,12 @@ fn push_rule<'c>(
     ensures { OnOk result (map nft_rule_of rules.new.items ≡ map nft_rule_of rules.old.items
         ++ with_statement (statement_of statement.entry) (alternative_of alternative.now) ∷ []) }
 {
-    let matches = matches_of(alloc, alternative)?;
-    rules.push(NftRule { matches, statement })?;
-    Ok(())
+    let matches = matches_of(*rules.allocator(), alternative)?;
+    Ok(rules.push(NftRule { matches, statement })?)
 }
 
 /// Puts a rule with this statement for each alternative behind those that are there.
 pub(crate) fn push_rules<'c>(
-    alloc: Global,
     rules: &mut Vec<NftRule<'c>>,
     alternatives: &[Alternative<'c>],
     statement: Statement<'c>,
@@ -63,7 +60,7 @@ pub(crate) fn push_rules<'c>(
         ++ map (with_statement (statement_of statement.entry)) (map alternative_of alternatives.now)) }
 {
     for alternative in alternatives {
-        push_rule(alloc, rules, alternative, statement)?;
+        push_rule(rules, alternative, statement)?;
     }
     Ok(())
 }
@@ -71,7 +68,6 @@ pub(crate) fn push_rules<'c>(
 #[tactic(auto, unfolding(crate::specs::Rendering::jump_each))]
 /// Puts a jump to each chain, in their order, under one alternative behind the rules that are there.
 fn push_each<'c>(
-    alloc: Global,
     rules: &mut Vec<NftRule<'c>>,
     alternative: &Alternative<'c>,
     chains: &[ChainName<'c>],
@@ -80,14 +76,13 @@ fn push_each<'c>(
         ++ jump_each (map chain_name_of chains.now) (alternative_of alternative.now)) }
 {
     for chain in chains {
-        push_rule(alloc, rules, alternative, Statement::Jump(*chain))?;
+        push_rule(rules, alternative, Statement::Jump(*chain))?;
     }
     Ok(())
 }
 
 /// Puts the jumps to these chains under each alternative behind the rules that are there.
 pub(crate) fn push_jumps<'c>(
-    alloc: Global,
     rules: &mut Vec<NftRule<'c>>,
     alternatives: &[Alternative<'c>],
     chains: &[ChainName<'c>],
@@ -96,7 +91,7 @@ pub(crate) fn push_jumps<'c>(
         ++ jump_rules (map alternative_of alternatives.now) (map chain_name_of chains.now)) }
 {
     for alternative in alternatives {
-        push_each(alloc, rules, alternative, chains)?;
+        push_each(rules, alternative, chains)?;
     }
     Ok(())
 }

@@ -5,30 +5,29 @@ ghost use Rattle.std.specs.List.{flat_map};
 ghost use Rattle.nft_rules.specs.Rendering.{table_set, table_sets, path_sets};
 ghost use Rattle.nft_rules.specs.Seen.{named_set_of};
 
+use crate::chains::Place;
 use crate::elements::elements;
 use crate::subset::{NamedSet, SetName};
 use pf_addr::Family;
-use pf_config::Config;
 use pf_rules::Name;
-use std::alloc::{AllocError, Global};
+use std::alloc::AllocError;
 
 /// The set of a table's addresses of one family.
 #[tactic(auto, using(crate::proofs::Spanning::elements_none))]
 fn table_set<'c>(
-    alloc: Global,
-    config: &'c Config,
-    owner: &'c [Name],
+    place: Place<'c>,
     table: &'c str,
     family: Family,
 ) -> Result<NamedSet<'c>, AllocError>
-    ensures { IfOk result (λ s. named_set_of s ≡ table_set config.now owner.now table.now family) }
+    ensures { IfOk result (λ s. named_set_of s
+        ≡ table_set place.entry.config.now place.entry.path.now table.now family) }
 {
-    let elements = match config.table(owner, table) {
-        Some(there) => elements(alloc, family, there)?,
-        None => Vec::new(alloc),
+    let elements = match place.config.table(place.path, table) {
+        Some(there) => elements(place.alloc, family, there)?,
+        None => Vec::new(place.alloc),
     };
     let name = SetName {
-        owner,
+        owner: place.path,
         table,
         family,
     };
@@ -37,48 +36,40 @@ fn table_set<'c>(
 
 /// Puts the sets of these tables of a path behind those that are there.
 fn push_table_sets<'c>(
-    alloc: Global,
-    config: &'c Config,
-    owner: &'c [Name],
+    place: Place<'c>,
     tables: &[&'c str],
     sets: &mut Vec<NamedSet<'c>>,
 ) -> Result<(), AllocError>
     ensures { OnOk result (map named_set_of sets.new.items ≡ map named_set_of sets.old.items
-        ++ flat_map (table_sets config.now owner.now) (map (λ t. t.now) tables.now)) }
+        ++ flat_map (table_sets place.entry.config.now place.entry.path.now) (map (λ t. t.now) tables.now)) }
 {
     for table in tables {
-        sets.push(table_set(alloc, config, owner, table, Family::Inet)?)?;
-        sets.push(table_set(alloc, config, owner, table, Family::Inet6)?)?;
+        sets.push(table_set(place, table, Family::Inet)?)?;
+        sets.push(table_set(place, table, Family::Inet6)?)?;
     }
     Ok(())
 }
 
 /// Puts the sets of a path's tables behind those that are there.
-fn push_path_sets<'c>(
-    alloc: Global,
-    config: &'c Config,
-    owner: &'c [Name],
-    sets: &mut Vec<NamedSet<'c>>,
-) -> Result<(), AllocError>
+fn push_path_sets<'c>(place: Place<'c>, sets: &mut Vec<NamedSet<'c>>) -> Result<(), AllocError>
     ensures { OnOk result (map named_set_of sets.new.items
-        ≡ map named_set_of sets.old.items ++ path_sets config.now owner.now) }
+        ≡ map named_set_of sets.old.items ++ path_sets place.entry.config.now place.entry.path.now) }
 {
-    let tables = config.table_names(owner)?;
-    push_table_sets(alloc, config, owner, &tables, sets)
+    let tables = place.config.table_names(place.path)?;
+    push_table_sets(place, &tables, sets)
 }
 
 /// The sets of these paths' tables.
 pub(crate) fn sets_of<'c>(
-    alloc: Global,
-    config: &'c Config,
+    place: Place<'c>,
     paths: &[&'c [Name]],
 ) -> Result<Vec<NamedSet<'c>>, AllocError>
     ensures { IfOk result (λ v. map named_set_of v.items
-        ≡ flat_map (path_sets config.now) (map (λ p. p.now) paths.now)) }
+        ≡ flat_map (path_sets place.entry.config.now) (map (λ p. p.now) paths.now)) }
 {
-    let mut sets = Vec::new(alloc);
+    let mut sets = Vec::new(place.alloc);
     for path in paths {
-        push_path_sets(alloc, config, path, &mut sets)?;
+        push_path_sets(Place { path, ..place }, &mut sets)?;
     }
     Ok(sets)
 }

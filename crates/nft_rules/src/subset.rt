@@ -1,11 +1,11 @@
 //! The part of nftables in which a configuration is written (nft(8)).
 
-ghost use Rattle.std.specs.Prelude.{◌≡◌, IfOk};
-ghost use Rattle.nft_rules.specs.Seen.{match_of};
+ghost use Rattle.std.specs.Prelude.{◌≡◌};
+ghost use Rattle.nft_rules.specs.Seen.{chain_name_of};
+ghost use Rattle.nft_rules.specs.Subset as subset;
 
 use pf_addr::Family;
 use pf_rules::{InterfaceName, Name, TcpFlags};
-use std::alloc::AllocError;
 use std::rc::Rc;
 
 /// Of the two ends of a packet.
@@ -76,7 +76,7 @@ pub enum Where<'c> {
 }
 
 /// An expression that matches (nft(8), PAYLOAD EXPRESSIONS, META EXPRESSIONS).
-#[derive(Drop)]
+#[derive(Clone, Drop)]
 pub enum Match<'c> {
     /// `iifname { .. }` of packets in, `oifname { .. }` of packets out.
     OnInterface {
@@ -113,55 +113,6 @@ pub enum Match<'c> {
     OfType(u8),
 }
 
-impl<'c> Match<'c> {
-    /// The same match once more. A growth that is refused is the error.
-    pub(crate) fn copied(&self) -> Result<Match<'c>, AllocError>
-        ensures { IfOk result (λ m. match_of m ≡ match_of self.now) }
-    {
-        let copy = match self {
-            Match::OnInterface { names, negated } => {
-                return Ok(Match::OnInterface {
-                    names: names.clone()?,
-                    negated: *negated,
-                });
-            }
-            Match::OfFamily(family) => Match::OfFamily(*family),
-            Match::OfProtocol { number, negated } => Match::OfProtocol {
-                number: *number,
-                negated: *negated,
-            },
-            Match::AtAddress {
-                side,
-                family,
-                place,
-                negated,
-            } => Match::AtAddress {
-                side: *side,
-                family: *family,
-                place: *place,
-                negated: *negated,
-            },
-            Match::AtPort {
-                side,
-                low,
-                high,
-                negated,
-            } => Match::AtPort {
-                side: *side,
-                low: *low,
-                high: *high,
-                negated: *negated,
-            },
-            Match::WithFlags { mask, value } => Match::WithFlags {
-                mask: *mask,
-                value: *value,
-            },
-            Match::OfType(number) => Match::OfType(*number),
-        };
-        Ok(copy)
-    }
-}
-
 /// The name of a chain.
 #[derive(Clone, Copy)]
 pub enum ChainName<'c> {
@@ -169,6 +120,15 @@ pub enum ChainName<'c> {
     Base,
     /// One of the two of a path.
     At { pass: Pass, path: &'c [Name] },
+}
+
+impl<'c> ChainName<'c> {
+    /// The chain of a path in this pass.
+    pub(crate) fn at(pass: Pass, path: &'c [Name]) -> ChainName<'c>
+        ensures { chain_name_of result ≡ subset.At pass path.now }
+    {
+        ChainName::At { pass, path }
+    }
 }
 
 /// What a rule's counter and comment are for.

@@ -7,6 +7,7 @@ ghost use Rattle.nft_rules.specs.Rendering.{is_chained, chained_targets, forward
 ghost use Rattle.nft_rules.specs.inner.Rendering.{is_member};
 ghost use Rattle.nft_rules.specs.Seen.{chain_name_of};
 
+use crate::chains::Place;
 use crate::subset::{ChainName, Pass};
 use pf_config::{Anchor, Config};
 use pf_rules::{Name, PATH_MAX, Target};
@@ -45,10 +46,7 @@ pub(crate) fn push_forward<'c>(
         ≡ map chain_name_of chains.old.items ++ forward_chains (map (λ p. p.now) paths.now)) }
 {
     for path in paths {
-        chains.push(ChainName::At {
-            pass: Pass::Forward,
-            path,
-        })?;
+        chains.push(ChainName::at(Pass::Forward, path))?;
     }
     Ok(())
 }
@@ -66,11 +64,7 @@ pub(crate) fn push_backward<'c>(
         return Ok(());
     };
     push_backward(chains, rest)?;
-    chains.push(ChainName::At {
-        pass: Pass::Backward,
-        path,
-    })?;
-    Ok(())
+    Ok(chains.push(ChainName::at(Pass::Backward, path))?)
 }
 
 /// Puts the paths of these anchors, but for unnamed blocks, behind those that are there, if a jump may lead to them.
@@ -143,20 +137,18 @@ fn push_names(alloc: Global, all: &mut Vec<Name>, names: &[Name]) -> Result<(), 
 /// The paths that an anchor rule evaluates and to which a jump may lead, in their order.
 #[tactic(auto, using(crate::proofs::Targeted::named_paths))]
 pub(crate) fn chained_targets<'c>(
-    alloc: Global,
-    config: &'c Config,
-    path: &[Name],
+    place: Place<'c>,
     target: &Target,
 ) -> Result<Vec<&'c [Name]>, AllocError>
     ensures { IfOk result (λ v. map (λ p. p.now) v.items
-        ≡ chained_targets config.now path.now (target_of target.now)) }
+        ≡ chained_targets place.entry.config.now place.entry.path.now (target_of target.now)) }
 {
-    let names = joined(alloc, path, &target.names)?;
-    let mut paths = Vec::new(alloc);
+    let names = joined(place.alloc, place.path, &target.names)?;
+    let mut paths = Vec::new(place.alloc);
     if target.children {
-        push_members(config, &mut paths, config.kids(&names))?;
+        push_members(place.config, &mut paths, place.config.kids(&names))?;
     } else {
-        push_anchor(config, &mut paths, &names)?;
+        push_anchor(place.config, &mut paths, &names)?;
     }
     Ok(paths)
 }

@@ -5,5 +5,5 @@ use Rattle.nft_rules.specs.Seen.{named_set_of}
 use Rattle.nft_rules.proofs.sets.push_table_sets.Given as goal
 
 abbrev pub invariant-loop-table : goal.invariant-loop-table
-invariant-loop-table l = map named_set_of l.sets.items ++ flat_map (table_sets l.fn.config l.fn.owner) (map (λ t. t.now) (drop l.table-index l.tables))
-    ≡ map named_set_of l.fn.sets.items ++ flat_map (table_sets l.fn.config l.fn.owner) (map (λ t. t.now) l.fn.tables)
+invariant-loop-table l = map named_set_of l.sets.items ++ flat_map (table_sets l.fn.place.config.now l.fn.place.path.now) (map (λ t. t.now) (drop l.table-index l.tables))
+    ≡ map named_set_of l.fn.sets.items ++ flat_map (table_sets l.fn.place.config.now l.fn.place.path.now) (map (λ t. t.now) l.fn.tables)
