@@ -11,6 +11,7 @@ use Rattle.pf_rules.specs.declared.parts.Direction.{Direction}
 use Rattle.pf_rules.specs.declared.parts.Direction.TheVariants.{In, Out}
 use Rattle.pf_rules.specs.Names.{Name}
 use Rattle.pf_config.specs.Map.{Path}
+use Rattle.pf_show.specs.Shown.{slashed}
 use Rattle.nft_rules.specs.Cuts.{address, top}
 use Rattle.nft_rules.specs.Evaluation.{is_set, is_chain}
 use Rattle.pf_eval.specs.Matching.{of_family}
@@ -135,11 +136,6 @@ match_text position d r (OfType number) = codes "@th,0,8 " ++ (decimal number ++
 abbrev pub are_short : ℕ → Path → Bool
 are_short room [] = true
 are_short room (n ∷ ns) = nat_lt (length n) room && are_short (room - (length n + 1)) ns
-
--- names between slashes
-abbrev pub slashed : Path → List ℕ
-slashed [] = []
-slashed (n ∷ ns) = n ++ flat_map (λ m. 47 ∷ m) ns
 
 -- a comment has at most 128 bytes: a longer path is left out
 abbrev pub path_text : Path → List ℕ

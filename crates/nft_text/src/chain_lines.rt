@@ -1,25 +1,13 @@
 //! Chains as text.
 
-ghost use Rattle.std.specs.Prelude.{◌≡◌, ◌≤◌, Some, length, map};
+ghost use Rattle.std.specs.Prelude.{◌≡◌, ◌≤◌, ◌++◌, OnOk, length, map, string_bytes};
 ghost use Rattle.std.specs.List.{flat_map};
-ghost use Rattle.nft_rules.specs.Seen.{chain_name_of, note_of, statement_of, nft_rule_of, chain_of, ruleset_of};
-ghost use Rattle.nft_text.specs.Texts.{note_first, asks_interface, first_rules, states_text, front_text};
-ghost use Rattle.nft_text.specs.Texts.{chain_text, chain_gone};
+ghost use Rattle.nft_rules.specs.Seen.{chain_name_of, chain_of, nft_rule_of, ruleset_of, statement_of};
+ghost use Rattle.nft_text.specs.Texts.{asks_interface, first_rules, front_text, states_text, chain_text, chain_gone};
 
 use crate::labels::{ChainLabel, Generation, Whole};
-use crate::rule_lines::RuleTexts;
 use nft_rules::{Chain, ChainName, NftRule, Note, Statement};
-use std::fmt::{self, Display};
-
-/// Whether a rule with this note asks for the interface alone.
-fn note_first(note: Note<'_>) -> bool
-    ensures { result ≡ note_first (note_of note.entry) }
-{
-    match note {
-        Note::Unknown | Note::Skip => true,
-        Note::Default | Note::Spot { .. } => false,
-    }
-}
+use std::alloc::AllocError;
 
 /// Whether a rule that does this asks for the interface alone.
 fn asks_interface(statement: Statement<'_>) -> bool
@@ -27,7 +15,7 @@ fn asks_interface(statement: Statement<'_>) -> bool
 {
     match statement {
         Statement::Jump(_) => false,
-        Statement::Ends { note, .. } => note_first(note),
+        Statement::Ends { note, .. } => matches!(note, Note::Unknown | Note::Skip),
     }
 }
 
@@ -46,137 +34,82 @@ fn first_rules(rules: &[NftRule<'_>]) -> usize
     count
 }
 
-/// What is at the hook behind the rules that ask for the interface alone.
-#[derive(Clone, Copy)]
-struct FrontText<'c> {
-    position: u32,
-    keeps: bool,
-    name: ChainName<'c>,
+/// What lets through what belongs to a connection, where a rule keeps state.
+fn states_text(keeps: bool) -> &'static str
+    ensures { result.now ≡ states_text keeps }
+{
+    if keeps {
+        "ct state established,related counter accept comment \"state\"; "
+    } else {
+        ""
+    }
 }
 
-impl fmt::Display for FrontText<'_> {
-    ghost output = { λ x. Some (front_text x.position x.keeps (chain_name_of x.name)) };
-
-    fn fmt<W: fmt::Write>(&self, f: &mut fmt::Formatter<W>) -> fmt::Result {
-        match self.name {
+impl<'c> Whole<'_, 'c> {
+    /// Puts what is at the hook behind the rules that ask for the interface alone behind the text.
+    fn push_front(
+        self,
+        out: &mut String,
+        keeps: bool,
+        name: ChainName<'c>,
+    ) -> Result<(), AllocError>
+        ensures { OnOk result (string_bytes out.new ≡ string_bytes out.old
+            ++ front_text self.entry.position keeps (chain_name_of name.entry)) }
+    {
+        match name {
             ChainName::At { .. } => Ok(()),
             ChainName::Base => {
                 let generation = Generation(self.position);
-                let states = StatesText(self.keeps);
-                write!(f, "jump {generation}guard; {states}")
+                write!(out, "jump {generation}guard; {}", states_text(keeps))
             }
         }
     }
-}
 
-/// What lets through what belongs to a connection, where a rule keeps state.
-#[derive(Clone, Copy)]
-struct StatesText(bool);
-
-impl fmt::Display for StatesText {
-    ghost output = { λ s. Some (states_text s.0) };
-
-    fn fmt<W: fmt::Write>(&self, f: &mut fmt::Formatter<W>) -> fmt::Result {
-        if self.0 {
-            f.write_str("ct state established,related counter accept comment \"state\"; ")
-        } else {
-            Ok(())
-        }
-    }
-}
-
-/// A chain.
-#[derive(Clone, Copy)]
-struct ChainText<'r, 'c> {
-    whole: Whole<'r, 'c>,
-    keeps: bool,
-    chain: &'r Chain<'c>,
-}
-
-impl fmt::Display for ChainText<'_, '_> {
-    ghost output = { λ x. Some (chain_text x.whole.position x.keeps x.whole.direction (ruleset_of x.whole.parts.now)
-        (chain_of x.chain.now)) };
-
+    /// Puts a chain behind the text.
     #[tactic(auto, using(crate::proofs::Parting::parted), unfolding(crate::specs::Texts::chain_text))]
-    fn fmt<W: fmt::Write>(&self, f: &mut fmt::Formatter<W>) -> fmt::Result {
-        let whole = self.whole;
-        let name = self.chain.name;
-        let label = ChainLabel { whole, name };
-        let (first, rest) = self.chain.rules.split_at(first_rules(&self.chain.rules));
-        let first = RuleTexts {
-            whole,
-            rules: first,
-        };
-        let front = FrontText {
-            position: whole.position,
-            keeps: self.keeps,
-            name,
-        };
-        let rest = RuleTexts { whole, rules: rest };
-        write!(f, "chain {label} {{ {first}{front}{rest}}}; ")
+    fn push_chain(self, out: &mut String, keeps: bool, chain: &Chain<'c>) -> Result<(), AllocError>
+        ensures { OnOk result (string_bytes out.new ≡ string_bytes out.old
+            ++ chain_text self.entry.position keeps self.entry.direction (ruleset_of self.entry.parts.now)
+            (chain_of chain.now)) }
+    {
+        let (first, rest) = chain.rules.split_at(first_rules(&chain.rules));
+        write!(out, "chain {} {{ ", ChainLabel(self, chain.name))?;
+        self.push_rules(out, first)?;
+        self.push_front(out, keeps, chain.name)?;
+        self.push_rules(out, rest)?;
+        out.push_str("}; ")
     }
-}
 
-/// Chains, one behind the other.
-#[derive(Clone, Copy)]
-pub(crate) struct ChainTexts<'r, 'c> {
-    pub(crate) whole: Whole<'r, 'c>,
-    pub(crate) keeps: bool,
-}
-
-impl fmt::Display for ChainTexts<'_, '_> {
-    ghost output = { λ x. Some (flat_map (chain_text x.whole.position x.keeps x.whole.direction
-        (ruleset_of x.whole.parts.now)) (map chain_of x.whole.parts.now.chains.items)) };
-
-    fn fmt<W: fmt::Write>(&self, f: &mut fmt::Formatter<W>) -> fmt::Result {
-        for chain in &self.whole.parts.chains {
-            ChainText {
-                whole: self.whole,
-                keeps: self.keeps,
-                chain,
-            }
-            .fmt(f)?;
+    /// Puts the ruleset's chains, one behind the other, behind the text.
+    pub(crate) fn push_chains(self, out: &mut String, keeps: bool) -> Result<(), AllocError>
+        ensures { OnOk result (string_bytes out.new ≡ string_bytes out.old
+            ++ flat_map (chain_text self.entry.position keeps self.entry.direction (ruleset_of self.entry.parts.now))
+            (map chain_of self.entry.parts.now.chains.items)) }
+    {
+        for chain in &self.parts.chains {
+            self.push_chain(out, keeps, chain)?;
         }
         Ok(())
     }
-}
 
-/// The end of a chain.
-#[derive(Clone, Copy)]
-struct ChainGone<'r, 'c> {
-    whole: Whole<'r, 'c>,
-    chain: &'r Chain<'c>,
-}
-
-impl fmt::Display for ChainGone<'_, '_> {
-    ghost output = { λ x. Some (chain_gone x.whole.position x.whole.direction (ruleset_of x.whole.parts.now)
-        (chain_of x.chain.now)) };
-
+    /// Puts the end of a chain behind the text.
     #[tactic(auto, unfolding(crate::specs::Texts::chain_gone))]
-    fn fmt<W: fmt::Write>(&self, f: &mut fmt::Formatter<W>) -> fmt::Result {
-        let label = ChainLabel {
-            whole: self.whole,
-            name: self.chain.name,
-        };
-        write!(f, "delete chain inet reltzuma {label}; ")
+    fn push_chain_gone(self, out: &mut String, chain: &Chain<'c>) -> Result<(), AllocError>
+        ensures { OnOk result (string_bytes out.new ≡ string_bytes out.old ++ chain_gone self.entry.position
+            self.entry.direction (ruleset_of self.entry.parts.now) (chain_of chain.now)) }
+    {
+        let label = ChainLabel(self, chain.name);
+        write!(out, "delete chain inet reltzuma {label}; ")
     }
-}
 
-/// The end of a ruleset's chains.
-#[derive(Clone, Copy)]
-pub(crate) struct ChainsGone<'r, 'c>(pub(crate) Whole<'r, 'c>);
-
-impl fmt::Display for ChainsGone<'_, '_> {
-    ghost output = { λ x. Some (flat_map (chain_gone x.0.position x.0.direction (ruleset_of x.0.parts.now))
-        (map chain_of x.0.parts.now.chains.items)) };
-
-    fn fmt<W: fmt::Write>(&self, f: &mut fmt::Formatter<W>) -> fmt::Result {
-        for chain in &self.0.parts.chains {
-            ChainGone {
-                whole: self.0,
-                chain,
-            }
-            .fmt(f)?;
+    /// Puts the end of the ruleset's chains behind the text.
+    pub(crate) fn push_chains_gone(self, out: &mut String) -> Result<(), AllocError>
+        ensures { OnOk result (string_bytes out.new ≡ string_bytes out.old
+            ++ flat_map (chain_gone self.entry.position self.entry.direction (ruleset_of self.entry.parts.now))
+            (map chain_of self.entry.parts.now.chains.items)) }
+    {
+        for chain in &self.parts.chains {
+            self.push_chain_gone(out, chain)?;
         }
         Ok(())
     }

@@ -6,7 +6,7 @@ ghost use Rattle.nft_text.specs.Texts.{chain_index, set_index, generation, chain
 
 use nft_rules::{Chain, ChainName, NamedSet, NftRuleset, SetName, same_chain, same_set};
 use pf_rules::Direction;
-use std::fmt::{self, Display};
+use std::fmt;
 
 /// How many chains are before the first of that name.
 fn chain_index<'c>(chains: &[Chain<'c>], name: ChainName<'c>) -> usize
@@ -52,48 +52,37 @@ impl fmt::Display for Generation {
     ghost output = { λ g. Some (generation g.0) };
 
     fn fmt<W: fmt::Write>(&self, f: &mut fmt::Formatter<W>) -> fmt::Result {
-        f.write_str("g")?;
-        f.write(self.0)?;
-        f.write_str("_")
+        write!(f, "g{}_", self.0)
     }
 }
 
 /// The name of a chain.
 #[derive(Clone, Copy)]
-pub(crate) struct ChainLabel<'r, 'c> {
-    pub(crate) whole: Whole<'r, 'c>,
-    pub(crate) name: ChainName<'c>,
-}
+pub(crate) struct ChainLabel<'r, 'c>(pub(crate) Whole<'r, 'c>, pub(crate) ChainName<'c>);
 
 impl fmt::Display for ChainLabel<'_, '_> {
-    ghost output = { λ x. Some (chain_label x.whole.position x.whole.direction (ruleset_of x.whole.parts.now)
-        (chain_name_of x.name)) };
+    ghost output = { λ x. Some (chain_label x.0.position x.0.direction (ruleset_of x.0.parts.now)
+        (chain_name_of x.1)) };
 
     fn fmt<W: fmt::Write>(&self, f: &mut fmt::Formatter<W>) -> fmt::Result {
-        let index = chain_index(&self.whole.parts.chains, self.name);
-        Generation(self.whole.position).fmt(f)?;
-        match self.whole.direction {
-            Direction::In => f.write_str("i")?,
-            Direction::Out => f.write_str("o")?,
+        let generation = Generation(self.0.position);
+        let index = chain_index(&self.0.parts.chains, self.1);
+        match self.0.direction {
+            Direction::In => write!(f, "{generation}i{index}"),
+            Direction::Out => write!(f, "{generation}o{index}"),
         }
-        f.write(index)
     }
 }
 
 /// The name of a set.
 #[derive(Clone, Copy)]
-pub(crate) struct SetLabel<'r, 'c> {
-    pub(crate) whole: Whole<'r, 'c>,
-    pub(crate) name: SetName<'c>,
-}
+pub(crate) struct SetLabel<'r, 'c>(pub(crate) Whole<'r, 'c>, pub(crate) SetName<'c>);
 
 impl fmt::Display for SetLabel<'_, '_> {
-    ghost output = { λ x. Some (set_label x.whole.position (ruleset_of x.whole.parts.now) (set_name_of x.name)) };
+    ghost output = { λ x. Some (set_label x.0.position (ruleset_of x.0.parts.now) (set_name_of x.1)) };
 
     fn fmt<W: fmt::Write>(&self, f: &mut fmt::Formatter<W>) -> fmt::Result {
-        let index = set_index(&self.whole.parts.sets, self.name);
-        Generation(self.whole.position).fmt(f)?;
-        f.write_str("s")?;
-        f.write(index)
+        let generation = Generation(self.0.position);
+        write!(f, "{generation}s{}", set_index(&self.0.parts.sets, self.1))
     }
 }

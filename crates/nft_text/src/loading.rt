@@ -1,25 +1,22 @@
 //! The three transactions.
 
-ghost use Rattle.std.specs.Prelude.{◌≡◌, ◌++◌, Some, IfOk, codes};
+ghost use Rattle.std.specs.Prelude.{◌≡◌, ◌++◌, IfOk, OnOk, codes, map, string_bytes};
 ghost use Rattle.std.specs.List.{flat_map};
+ghost use Rattle.nft_rules.specs.Guard.{hook_of, ToChain};
 ghost use Rattle.nft_rules.specs.Subset.{Base};
-ghost use Rattle.nft_rules.specs.Guard.{ToChain, hook_of};
 ghost use Rattle.nft_rules.specs.Refusing.{Renders};
-ghost use Rattle.nft_rules.specs.Seen.{machine_of, ruleset_of};
-ghost use Rattle.nft_text.specs.Texts.{fragments_text, headers_text, guard_text, refuse_text, jump_text, hook_text};
-ghost use Rattle.nft_text.specs.Texts.{sets_line, rules_line, fixed_gone, gone_line, lines};
+ghost use Rattle.nft_rules.specs.Seen.{chain_of, machine_of, ruleset_of};
+ghost use Rattle.nft_text.specs.Texts.{members_text, chain_text, headers_text, guard_text, refuse_text, jump_text, hook_text};
+ghost use Rattle.nft_text.specs.Texts.{fixed_gone, sets_line, rules_line, gone_line, lines};
 ghost use Rattle.nft_text.specs.Loading.{transactions_value, rendered_lines};
 
-use crate::chain_lines::{ChainTexts, ChainsGone};
 use crate::labels::{ChainLabel, Generation, Whole};
-use crate::members::{MembersGone, MembersText};
-use crate::set_lines::{SetTexts, SetsGone};
+use crate::members::{push_members, push_members_gone};
 use crate::states::some_keep_state;
 use nft_rules::{ChainName, MachineInterface, Member, NftRuleset, RenderFault, render};
 use pf_config::Config;
 use pf_rules::Direction;
 use std::alloc::{AllocError, Global};
-use std::fmt::{self, Display};
 
 /// What nft(8) is to load of a position: three lines, a transaction each.
 #[derive(Drop)]
@@ -30,141 +27,96 @@ pub struct Transactions {
     pub end: String,
 }
 
-/// What are the hooks of a machine's packets, and the sets: nothing asks them yet.
-#[derive(Clone, Copy)]
-struct SetsLine<'r, 'c>(Whole<'r, 'c>);
+/// Puts what drops headers of TCP, UDP or ICMP that are cut short behind the text.
+fn push_headers(out: &mut String) -> Result<(), AllocError>
+    ensures { OnOk result (string_bytes out.new ≡ string_bytes out.old ++ headers_text) }
+{
+    out.push_str("meta l4proto 6 tcp urgptr 0-65535 return; meta l4proto 6 counter drop; ")?;
+    out.push_str("meta l4proto 17 udp checksum 0-65535 return; meta l4proto 17 counter drop; ")?;
+    out.push_str("meta nfproto ipv4 meta l4proto 1 icmp checksum 0-65535 return; ")?;
+    out.push_str("meta nfproto ipv4 meta l4proto 1 counter drop; ")
+}
 
-impl fmt::Display for SetsLine<'_, '_> {
-    ghost output = { λ x. Some (sets_line x.0.position (ruleset_of x.0.parts.now)) };
+/// Puts the chain that drops what can't be judged since a header is missing behind the text: later fragments, and
+/// headers of TCP, UDP or ICMP that are cut short.
+fn push_guard(out: &mut String, position: u32) -> Result<(), AllocError>
+    ensures { OnOk result (string_bytes out.new ≡ string_bytes out.old ++ guard_text position) }
+{
+    write!(out, "chain {}guard {{ ", Generation(position))?;
+    out.push_str("ip frag-off & 0x1fff != 0 counter drop; frag frag-off != 0 counter drop; ")?;
+    push_headers(out)?;
+    out.push_str("}; ")
+}
 
+/// Puts the chain that answers what is refused behind the text.
+fn push_refuse(out: &mut String, position: u32) -> Result<(), AllocError>
+    ensures { OnOk result (string_bytes out.new ≡ string_bytes out.old ++ refuse_text position) }
+{
+    write!(out, "chain {}", Generation(position))?;
+    out.push_str("refuse { meta l4proto 6 counter reject with tcp reset; ")?;
+    out.push_str("counter reject with icmpx port-unreachable; }; ")
+}
+
+/// Puts the end of the chains that each position has behind the text.
+fn push_fixed_gone(out: &mut String, position: u32) -> Result<(), AllocError>
+    ensures { OnOk result (string_bytes out.new ≡ string_bytes out.old ++ fixed_gone position) }
+{
+    let generation = Generation(position);
+    write!(
+        out,
+        "delete chain inet reltzuma {generation}guard; delete chain inet reltzuma {generation}refuse; "
+    )
+}
+
+impl Whole<'_, '_> {
+    /// Puts the hooks of a machine's packets, and the sets, behind the text: nothing asks them yet.
     #[tactic(auto, unfolding(crate::specs::Texts::sets_line))]
-    fn fmt<W: fmt::Write>(&self, f: &mut fmt::Formatter<W>) -> fmt::Result {
-        let sets = SetTexts(self.0);
-        f.write_str("table inet reltzuma { ")?;
-        f.write_str("chain in { type filter hook prerouting priority 0; policy accept; }; ")?;
-        f.write_str("chain out_l { type filter hook output priority 0; policy accept; }; ")?;
-        f.write_str("chain out_f { type filter hook forward priority 0; policy accept; }; ")?;
-        sets.fmt(f)?;
-        f.write_str("}\n")
+    fn push_sets_line(self, out: &mut String) -> Result<(), AllocError>
+        ensures { OnOk result (string_bytes out.new ≡ string_bytes out.old
+            ++ sets_line self.entry.position (ruleset_of self.entry.parts.now)) }
+    {
+        out.push_str("table inet reltzuma { ")?;
+        out.push_str("chain in { type filter hook prerouting priority 0; policy accept; }; ")?;
+        out.push_str("chain out_l { type filter hook output priority 0; policy accept; }; ")?;
+        out.push_str("chain out_f { type filter hook forward priority 0; policy accept; }; ")?;
+        self.push_sets(out)?;
+        out.push_str("}\n")
     }
-}
 
-/// What drops later fragments.
-#[derive(Clone, Copy)]
-struct FragmentsText;
-
-impl fmt::Display for FragmentsText {
-    ghost output = { λ x. Some fragments_text };
-
-    fn fmt<W: fmt::Write>(&self, f: &mut fmt::Formatter<W>) -> fmt::Result {
-        f.write_str("ip frag-off & 0x1fff != 0 counter drop; frag frag-off != 0 counter drop; ")
-    }
-}
-
-/// What drops headers of TCP, UDP or ICMP that are cut short.
-#[derive(Clone, Copy)]
-struct HeadersText;
-
-impl fmt::Display for HeadersText {
-    ghost output = { λ x. Some headers_text };
-
-    fn fmt<W: fmt::Write>(&self, f: &mut fmt::Formatter<W>) -> fmt::Result {
-        f.write_str("meta l4proto 6 tcp urgptr 0-65535 return; meta l4proto 6 counter drop; ")?;
-        f.write_str("meta l4proto 17 udp checksum 0-65535 return; meta l4proto 17 counter drop; ")?;
-        f.write_str("meta nfproto ipv4 meta l4proto 1 icmp checksum 0-65535 return; ")?;
-        f.write_str("meta nfproto ipv4 meta l4proto 1 counter drop; ")
-    }
-}
-
-/// The chain that drops what can't be judged since a header is missing.
-#[derive(Clone, Copy)]
-struct GuardText(u32);
-
-impl fmt::Display for GuardText {
-    ghost output = { λ x. Some (guard_text x.0) };
-
-    fn fmt<W: fmt::Write>(&self, f: &mut fmt::Formatter<W>) -> fmt::Result {
-        let generation = Generation(self.0);
-        let fragments = FragmentsText;
-        let headers = HeadersText;
-        write!(f, "chain {generation}guard {{ {fragments}{headers}}}; ")
-    }
-}
-
-/// The chain that answers what is refused.
-#[derive(Clone, Copy)]
-struct RefuseText(u32);
-
-impl fmt::Display for RefuseText {
-    ghost output = { λ x. Some (refuse_text x.0) };
-
-    fn fmt<W: fmt::Write>(&self, f: &mut fmt::Formatter<W>) -> fmt::Result {
-        f.write_str("chain ")?;
-        Generation(self.0).fmt(f)?;
-        f.write_str("refuse { meta l4proto 6 counter reject with tcp reset; ")?;
-        f.write_str("counter reject with icmpx port-unreachable; }; ")
-    }
-}
-
-/// The jump to the ruleset's first chain, which names the position.
-#[derive(Clone, Copy)]
-struct RulesetJump<'r, 'c>(Whole<'r, 'c>);
-
-impl fmt::Display for RulesetJump<'_, '_> {
-    ghost output = { λ x. Some (jump_text x.0.position x.0.direction (ruleset_of x.0.parts.now) (ToChain Base)) };
-
+    /// Puts the jump to the ruleset's first chain, which names the position, behind the text.
     #[tactic(auto, unfolding(crate::specs::Texts::jump_text))]
-    fn fmt<W: fmt::Write>(&self, f: &mut fmt::Formatter<W>) -> fmt::Result {
-        let label = ChainLabel {
-            whole: self.0,
-            name: ChainName::Base,
-        };
-        let position = self.0.position;
-        write!(f, "jump {label} comment \"applied {position}\"; ")
+    fn push_jump(self, out: &mut String) -> Result<(), AllocError>
+        ensures { OnOk result (string_bytes out.new ≡ string_bytes out.old ++ jump_text self.entry.position
+            self.entry.direction (ruleset_of self.entry.parts.now) (ToChain Base)) }
+    {
+        let label = ChainLabel(self, ChainName::Base);
+        write!(out, "jump {label} comment \"applied {}\"; ", self.position)
     }
-}
 
-/// The jumps of a hook: to the members' guard, if there are members, and then to the ruleset's first chain.
-#[derive(Clone, Copy)]
-struct HookJumps<'r, 'c> {
-    members: &'r [Member],
-    whole: Whole<'r, 'c>,
-}
-
-impl fmt::Display for HookJumps<'_, '_> {
-    ghost output = { λ x. Some (flat_map (jump_text x.whole.position x.whole.direction (ruleset_of x.whole.parts.now))
-        (hook_of x.members.now)) };
-
-    #[tactic(auto, using(crate::proofs::Guarded::jumps_none, crate::proofs::Guarded::jumps_some))]
-    fn fmt<W: fmt::Write>(&self, f: &mut fmt::Formatter<W>) -> fmt::Result {
-        let rules = RulesetJump(self.whole);
-        if self.members.is_empty() {
-            return rules.fmt(f);
+    /// Puts the jumps of a hook behind the text: to the members' guard, if there are members, and then to the ruleset's
+    /// first chain.
+    #[tactic(auto, using(crate::proofs::Guarded::jumps_none))]
+    fn push_jumps(self, out: &mut String, members: &[Member]) -> Result<(), AllocError>
+        ensures { OnOk result (string_bytes out.new ≡ string_bytes out.old
+            ++ flat_map (jump_text self.entry.position self.entry.direction (ruleset_of self.entry.parts.now))
+            (hook_of members.now)) }
+    {
+        if members.is_empty() {
+            return self.push_jump(out);
         }
-        let generation = Generation(self.whole.position);
-        write!(f, "jump {generation}members; {rules}")
+        write!(out, "jump {}members; ", Generation(self.position))?;
+        self.push_jump(out)
     }
-}
 
-/// A hook's chain.
-#[derive(Clone, Copy)]
-struct HookText<'a, 'r, 'c> {
-    name: &'a str,
-    members: &'r [Member],
-    whole: Whole<'r, 'c>,
-}
-
-impl fmt::Display for HookText<'_, '_, '_> {
-    ghost output = { λ x. Some (hook_text x.name.now x.whole.position x.whole.direction (ruleset_of x.whole.parts.now)
-        (hook_of x.members.now)) };
-
-    fn fmt<W: fmt::Write>(&self, f: &mut fmt::Formatter<W>) -> fmt::Result {
-        let name = self.name;
-        let jumps = HookJumps {
-            members: self.members,
-            whole: self.whole,
-        };
-        write!(f, "chain {name} {{ {jumps}}}; ")
+    /// Puts a hook's chain behind the text.
+    fn push_hook(self, out: &mut String, name: &str, members: &[Member]) -> Result<(), AllocError>
+        ensures { OnOk result (string_bytes out.new ≡ string_bytes out.old
+            ++ hook_text name.now self.entry.position self.entry.direction (ruleset_of self.entry.parts.now)
+            (hook_of members.now)) }
+    {
+        write!(out, "chain {name} {{ ")?;
+        self.push_jumps(out, members)?;
+        out.push_str("}; ")
     }
 }
 
@@ -178,132 +130,105 @@ struct Both<'r, 'c> {
     outward: &'r NftRuleset<'c>,
 }
 
-/// The three hooks.
-#[derive(Clone, Copy)]
-struct HooksFilled<'r, 'c> {
-    members: &'r [Member],
-    inward: Whole<'r, 'c>,
-    outward: Whole<'r, 'c>,
+/// Puts the three hooks, of which one is for packets in and two for packets out, behind the text.
+fn push_hooks(
+    out: &mut String,
+    members: &[Member],
+    inward: Whole<'_, '_>,
+    outward: Whole<'_, '_>,
+) -> Result<(), AllocError>
+    ensures { OnOk result (string_bytes out.new ≡ string_bytes out.old ++ (hook_text (codes "in")
+        inward.entry.position inward.entry.direction (ruleset_of inward.entry.parts.now) (hook_of members.now)
+        ++ (hook_text (codes "out_l") outward.entry.position outward.entry.direction
+        (ruleset_of outward.entry.parts.now) (hook_of members.now)
+        ++ hook_text (codes "out_f") outward.entry.position outward.entry.direction
+        (ruleset_of outward.entry.parts.now) (hook_of members.now)))) }
+{
+    inward.push_hook(out, "in", members)?;
+    outward.push_hook(out, "out_l", members)?;
+    outward.push_hook(out, "out_f", members)
 }
 
-impl fmt::Display for HooksFilled<'_, '_> {
-    ghost output = { λ x. Some (hook_text (codes "in") x.inward.position x.inward.direction
-        (ruleset_of x.inward.parts.now) (hook_of x.members.now)
-        ++ (hook_text (codes "out_l") x.outward.position x.outward.direction (ruleset_of x.outward.parts.now)
-        (hook_of x.members.now)
-        ++ hook_text (codes "out_f") x.outward.position x.outward.direction (ruleset_of x.outward.parts.now)
-        (hook_of x.members.now))) };
-
-    fn fmt<W: fmt::Write>(&self, f: &mut fmt::Formatter<W>) -> fmt::Result {
-        let inward = HookText {
-            name: "in",
-            members: self.members,
-            whole: self.inward,
-        };
-        let local = HookText {
-            name: "out_l",
-            members: self.members,
-            whole: self.outward,
-        };
-        let forwarded = HookText {
-            name: "out_f",
-            members: self.members,
-            whole: self.outward,
-        };
-        write!(f, "{inward}{local}{forwarded}")
-    }
+/// Puts the chains and the hooks of the table, up to its end, behind the text.
+fn push_table(
+    out: &mut String,
+    keeps: bool,
+    members: &[Member],
+    inward: Whole<'_, '_>,
+    outward: Whole<'_, '_>,
+) -> Result<(), AllocError>
+    ensures { OnOk result (string_bytes out.new ≡ string_bytes out.old
+        ++ (flat_map (chain_text inward.entry.position keeps inward.entry.direction (ruleset_of inward.entry.parts.now))
+        (map chain_of inward.entry.parts.now.chains.items)
+        ++ (flat_map (chain_text outward.entry.position keeps outward.entry.direction
+        (ruleset_of outward.entry.parts.now)) (map chain_of outward.entry.parts.now.chains.items)
+        ++ ((hook_text (codes "in") inward.entry.position inward.entry.direction (ruleset_of inward.entry.parts.now)
+        (hook_of members.now) ++ (hook_text (codes "out_l") outward.entry.position outward.entry.direction
+        (ruleset_of outward.entry.parts.now) (hook_of members.now) ++ hook_text (codes "out_f") outward.entry.position
+        outward.entry.direction (ruleset_of outward.entry.parts.now) (hook_of members.now))) ++ codes "}\n")))) }
+{
+    inward.push_chains(out, keeps)?;
+    outward.push_chains(out, keeps)?;
+    push_hooks(out, members, inward, outward)?;
+    out.push_str("}\n")
 }
 
-/// All rules go, and those of this position come.
-#[derive(Clone, Copy)]
-struct RulesLine<'r, 'c>(Both<'r, 'c>);
+/// Puts the end of all rules behind the text, and the chains that each position's table has first.
+fn push_front(out: &mut String, position: u32, members: &[Member]) -> Result<(), AllocError>
+    ensures { OnOk result (string_bytes out.new ≡ string_bytes out.old
+        ++ (codes "flush table inet reltzuma; table inet reltzuma { " ++ (members_text position members.now
+        ++ (guard_text position ++ refuse_text position)))) }
+{
+    out.push_str("flush table inet reltzuma; table inet reltzuma { ")?;
+    push_members(out, position, members)?;
+    push_guard(out, position)?;
+    push_refuse(out, position)
+}
 
-impl fmt::Display for RulesLine<'_, '_> {
-    ghost output = { λ x. Some (rules_line x.0.position x.0.keeps x.0.members.now (ruleset_of x.0.inward.now)
-        (ruleset_of x.0.outward.now)) };
-
-    #[tactic(auto, unfolding(crate::specs::Texts::rules_line))]
-    fn fmt<W: fmt::Write>(&self, f: &mut fmt::Formatter<W>) -> fmt::Result {
-        let keeps = self.0.keeps;
+impl Both<'_, '_> {
+    /// Puts the line behind the text by which all rules go, and those of this position come.
+    fn push_rules_line(self, out: &mut String) -> Result<(), AllocError>
+        ensures { OnOk result (string_bytes out.new ≡ string_bytes out.old
+            ++ rules_line self.entry.position self.entry.keeps self.entry.members.now (ruleset_of self.entry.inward.now)
+            (ruleset_of self.entry.outward.now)) }
+    {
         let inward = Whole {
-            position: self.0.position,
+            position: self.position,
             direction: Direction::In,
-            parts: self.0.inward,
+            parts: self.inward,
         };
         let outward = Whole {
-            position: self.0.position,
+            position: self.position,
             direction: Direction::Out,
-            parts: self.0.outward,
+            parts: self.outward,
         };
-        let members = MembersText {
-            position: self.0.position,
-            members: self.0.members,
-        };
-        let guard = GuardText(self.0.position);
-        let refuse = RefuseText(self.0.position);
-        let first = ChainTexts {
-            whole: inward,
-            keeps,
-        };
-        let second = ChainTexts {
-            whole: outward,
-            keeps,
-        };
-        let hooks = HooksFilled {
-            members: self.0.members,
-            inward,
-            outward,
-        };
-        f.write_str("flush table inet reltzuma; table inet reltzuma { ")?;
-        write!(f, "{members}{guard}{refuse}{first}{second}{hooks}}}\n")
+        push_front(out, self.position, self.members)?;
+        push_table(out, self.keeps, self.members, inward, outward)
     }
-}
 
-/// The end of the chains that each position has.
-#[derive(Clone, Copy)]
-struct FixedGone(u32);
-
-impl fmt::Display for FixedGone {
-    ghost output = { λ x. Some (fixed_gone x.0) };
-
-    fn fmt<W: fmt::Write>(&self, f: &mut fmt::Formatter<W>) -> fmt::Result {
-        let generation = Generation(self.0);
-        write!(
-            f,
-            "delete chain inet reltzuma {generation}guard; delete chain inet reltzuma {generation}refuse; "
-        )
-    }
-}
-
-/// The chains and sets of this position go.
-#[derive(Clone, Copy)]
-struct GoneLine<'r, 'c>(Both<'r, 'c>);
-
-impl fmt::Display for GoneLine<'_, '_> {
-    ghost output = { λ x. Some (gone_line x.0.position x.0.members.now (ruleset_of x.0.inward.now)
-        (ruleset_of x.0.outward.now)) };
-
+    /// Puts the line behind the text by which the chains and sets of this position go.
     #[tactic(auto, unfolding(crate::specs::Texts::gone_line))]
-    fn fmt<W: fmt::Write>(&self, f: &mut fmt::Formatter<W>) -> fmt::Result {
+    fn push_gone_line(self, out: &mut String) -> Result<(), AllocError>
+        ensures { OnOk result (string_bytes out.new ≡ string_bytes out.old
+            ++ gone_line self.entry.position self.entry.members.now (ruleset_of self.entry.inward.now)
+            (ruleset_of self.entry.outward.now)) }
+    {
         let inward = Whole {
-            position: self.0.position,
+            position: self.position,
             direction: Direction::In,
-            parts: self.0.inward,
+            parts: self.inward,
         };
         let outward = Whole {
-            position: self.0.position,
+            position: self.position,
             direction: Direction::Out,
-            parts: self.0.outward,
+            parts: self.outward,
         };
-        let first = ChainsGone(inward);
-        let second = ChainsGone(outward);
-        let fixed = FixedGone(self.0.position);
-        let members = MembersGone {
-            position: self.0.position,
-            members: self.0.members,
-        };
-        let sets = SetsGone(inward);
-        write!(f, "{first}{second}{fixed}{members}{sets}\n")
+        inward.push_chains_gone(out)?;
+        outward.push_chains_gone(out)?;
+        push_fixed_gone(out, self.position)?;
+        push_members_gone(out, self.position, self.members)?;
+        inward.push_sets_gone(out)?;
+        out.push_str("\n")
     }
 }
 
@@ -332,17 +257,17 @@ pub fn lines<'r, 'c>(
         inward,
         outward,
     };
-    let sets = SetsLine(Whole {
+    let mut load = String::new(alloc);
+    let whole = Whole {
         position,
         direction: Direction::In,
         parts: inward,
-    });
-    let rules = RulesLine(both);
-    let gone = GoneLine(both);
-    Ok(Transactions {
-        load: format!(in alloc; "{sets}{rules}")?,
-        end: format!(in alloc; "{gone}")?,
-    })
+    };
+    whole.push_sets_line(&mut load)?;
+    both.push_rules_line(&mut load)?;
+    let mut end = String::new(alloc);
+    both.push_gone_line(&mut end)?;
+    Ok(Transactions { load, end })
 }
 
 /// A configuration, on a machine with these interfaces, behind the guard of these members, as three lines for nft(8),

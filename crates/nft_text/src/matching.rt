@@ -1,76 +1,34 @@
 //! Expressions that match.
 
-ghost use Rattle.std.specs.Prelude.{◌≡◌, Some};
+ghost use Rattle.std.specs.Prelude.{◌≡◌, ◌++◌, OnOk, string_bytes};
 ghost use Rattle.std.specs.List.{flat_map};
 ghost use Rattle.nft_rules.specs.Seen.{match_of, where_of, ruleset_of};
 ghost use Rattle.nft_text.specs.Texts.{not_text, place_text, quoted, interface_text, family_text, address_text};
 ghost use Rattle.nft_text.specs.Texts.{port_text, match_text};
 
-use crate::flags::flags_byte;
+use crate::flags::FlagsByte;
 use crate::labels::{SetLabel, Whole};
-use crate::numbers::IntervalText;
+use crate::numbers::push_interval;
 use nft_rules::{Match, Side, Where};
 use pf_addr::Family;
 use pf_rules::{Direction, InterfaceName};
-use std::fmt::{self, Display};
+use std::alloc::AllocError;
 
 /// What turns a match round, if it is turned round.
-#[derive(Clone, Copy)]
-struct NotText(bool);
-
-impl fmt::Display for NotText {
-    ghost output = { λ n. Some (not_text n.0) };
-
-    fn fmt<W: fmt::Write>(&self, f: &mut fmt::Formatter<W>) -> fmt::Result {
-        if self.0 { f.write_str("!= ") } else { Ok(()) }
-    }
+fn not_text(negated: bool) -> &'static str
+    ensures { result.now ≡ not_text negated }
+{
+    if negated { "!= " } else { "" }
 }
 
-/// A place among addresses.
-#[derive(Clone, Copy)]
-struct PlaceText<'r, 'c> {
-    whole: Whole<'r, 'c>,
-    family: Family,
-    place: Where<'c>,
-}
-
-impl fmt::Display for PlaceText<'_, '_> {
-    ghost output = { λ x. Some (place_text x.whole.position (ruleset_of x.whole.parts.now) x.family
-        (where_of x.place)) };
-
-    fn fmt<W: fmt::Write>(&self, f: &mut fmt::Formatter<W>) -> fmt::Result {
-        match self.place {
-            Where::From { low, high } => IntervalText {
-                family: self.family,
-                low,
-                high,
-            }
-            .fmt(f),
-            Where::InSet(name) => {
-                f.write_str("@")?;
-                SetLabel {
-                    whole: self.whole,
-                    name,
-                }
-                .fmt(f)
-            }
-        }
+/// Puts names of interfaces, each between quotes and with a comma behind it, behind the text.
+fn push_quoted(out: &mut String, names: &[InterfaceName]) -> Result<(), AllocError>
+    ensures { OnOk result (string_bytes out.new ≡ string_bytes out.old ++ flat_map quoted names.now) }
+{
+    for name in names {
+        write!(out, "\"{}\", ", name.as_str())?;
     }
-}
-
-/// Names of interfaces, each between quotes and with a comma behind it.
-#[derive(Clone, Copy)]
-struct QuotedNames<'a>(&'a [InterfaceName]);
-
-impl fmt::Display for QuotedNames<'_> {
-    ghost output = { λ n. Some (flat_map quoted n.0.now) };
-
-    fn fmt<W: fmt::Write>(&self, f: &mut fmt::Formatter<W>) -> fmt::Result {
-        for name in self.0 {
-            write!(f, "\"{}\", ", name.as_str())?;
-        }
-        Ok(())
-    }
+    Ok(())
 }
 
 /// What asks for the interface.
@@ -113,32 +71,41 @@ fn port_text(side: Side) -> &'static str
     }
 }
 
-/// A match.
-#[derive(Clone, Copy)]
-pub(crate) struct MatchText<'r, 'c> {
-    pub(crate) whole: Whole<'r, 'c>,
-    pub(crate) test: &'r Match<'c>,
-}
+impl<'c> Whole<'_, 'c> {
+    /// Puts a place among addresses behind the text.
+    fn push_place(
+        self,
+        out: &mut String,
+        family: Family,
+        place: Where<'c>,
+    ) -> Result<(), AllocError>
+        ensures { OnOk result (string_bytes out.new ≡ string_bytes out.old
+            ++ place_text self.entry.position (ruleset_of self.entry.parts.now) family (where_of place.entry)) }
+    {
+        match place {
+            Where::From { low, high } => push_interval(out, family, low, high),
+            Where::InSet(name) => write!(out, "@{}", SetLabel(self, name)),
+        }
+    }
 
-impl fmt::Display for MatchText<'_, '_> {
-    ghost output = { λ x. Some (match_text x.whole.position x.whole.direction (ruleset_of x.whole.parts.now)
-        (match_of x.test.now)) };
-
+    /// Puts a match behind the text.
     #[tactic(auto, unfolding(crate::specs::Texts::match_text))]
-    fn fmt<W: fmt::Write>(&self, f: &mut fmt::Formatter<W>) -> fmt::Result {
-        let whole = self.whole;
-        match self.test {
+    pub(crate) fn push_match(self, out: &mut String, test: &Match<'c>) -> Result<(), AllocError>
+        ensures { OnOk result (string_bytes out.new ≡ string_bytes out.old
+            ++ match_text self.entry.position self.entry.direction (ruleset_of self.entry.parts.now)
+            (match_of test.now)) }
+    {
+        match test {
             Match::OnInterface { names, negated } => {
-                let what = interface_text(whole.direction);
-                let turned = NotText(*negated);
-                let list = QuotedNames(names);
-                write!(f, "{what}{turned}{{ {list}}} ")
+                let what = interface_text(self.direction);
+                write!(out, "{what}{}{{ ", not_text(*negated))?;
+                push_quoted(out, names)?;
+                out.push_str("} ")
             }
-            Match::OfFamily(Family::Inet) => f.write_str("meta nfproto ipv4 "),
-            Match::OfFamily(Family::Inet6) => f.write_str("meta nfproto ipv6 "),
+            Match::OfFamily(Family::Inet) => out.push_str("meta nfproto ipv4 "),
+            Match::OfFamily(Family::Inet6) => out.push_str("meta nfproto ipv6 "),
             Match::OfProtocol { number, negated } => {
-                let turned = NotText(*negated);
-                write!(f, "meta l4proto {turned}{number} ")
+                write!(out, "meta l4proto {}{number} ", not_text(*negated))
             }
             Match::AtAddress {
                 side,
@@ -146,32 +113,31 @@ impl fmt::Display for MatchText<'_, '_> {
                 place,
                 negated,
             } => {
-                let what = family_text(*family);
-                let end = address_text(*side);
-                let turned = NotText(*negated);
-                let place = PlaceText {
-                    whole,
-                    family: *family,
-                    place: *place,
-                };
-                write!(f, "{what}{end}{turned}{place} ")
+                let (what, end) = (family_text(*family), address_text(*side));
+                write!(out, "{what}{end}{}", not_text(*negated))?;
+                self.push_place(out, *family, *place)?;
+                out.push_str(" ")
             }
             Match::AtPort {
                 side,
                 low,
                 high,
                 negated,
-            } => {
-                let end = port_text(*side);
-                let turned = NotText(*negated);
-                write!(f, "{end}{turned}{low}-{high} ")
-            }
+            } => write!(
+                out,
+                "{}{}{low}-{high} ",
+                port_text(*side),
+                not_text(*negated)
+            ),
             Match::WithFlags { mask, value } => {
-                let mask = flags_byte(*mask);
-                let value = flags_byte(*value);
-                write!(f, "tcp flags & {mask} == {value} ")
+                write!(
+                    out,
+                    "tcp flags & {} == {} ",
+                    FlagsByte(*mask),
+                    FlagsByte(*value)
+                )
             }
-            Match::OfType(number) => write!(f, "@th,0,8 {number} "),
+            Match::OfType(number) => write!(out, "@th,0,8 {number} "),
         }
     }
 }

@@ -1,19 +1,23 @@
 //! The members' guard.
 
-ghost use Rattle.std.specs.Prelude.{◌≡◌, Some, [], ◌∷◌};
+ghost use Rattle.std.specs.Prelude.{◌≡◌, ◌++◌, ◌∷◌, [], Some, OnOk, string_bytes};
 ghost use Rattle.std.specs.List.{flat_map};
 ghost use Rattle.pf_eval.specs.Matching.{of_family};
 ghost use Rattle.nft_rules.specs.declared.subset.Side.TheVariants.{Source, Destination};
-ghost use Rattle.nft_rules.specs.Guard.{has_family, AtMember, AtHome, OfUdp, IsLater, IsTooBig, family_rules};
-ghost use Rattle.nft_rules.specs.Guard.{link_rules};
-ghost use Rattle.nft_text.specs.Texts.{member_text, udp_text, later_text, too_big_text};
-ghost use Rattle.nft_text.specs.Texts.{guard_match_text, guard_rule_text, members_text, members_gone};
+ghost use Rattle.nft_rules.specs.Guard.{has_family, AtMember, AtHome, OfUdp, IsLater, IsTooBig};
+ghost use Rattle.nft_rules.specs.Guard.{family_rules, link_rules};
+ghost use Rattle.nft_text.specs.Texts.{member_text, udp_text, later_text, too_big_text, guard_match_text};
+ghost use Rattle.nft_text.specs.Texts.{guard_rule_text, members_text, members_gone};
 
 use crate::labels::Generation;
 use crate::matching::{address_text, family_text};
 use nft_rules::{Member, Side};
 use pf_addr::{Addr, Family};
-use std::fmt::{self, Display};
+use std::alloc::AllocError;
+use std::fmt;
+
+/// What is done with what a rule of the guard matches.
+const ACCEPT: &str = "counter accept comment \"members\"; ";
 
 /// Whether the address is of the family.
 #[tactic(auto, using(crate::proofs::Guarded::of_its_family))]
@@ -33,54 +37,6 @@ fn has_family(family: Family, members: &[Member]) -> bool
         }
     }
     false
-}
-
-/// Where a member listens, if its address is of the family: the address, and its port where ports are asked too.
-#[derive(Clone, Copy)]
-struct MemberText {
-    has_port: bool,
-    family: Family,
-    member: Member,
-}
-
-impl fmt::Display for MemberText {
-    ghost output = { λ x. Some (member_text x.has_port x.family x.member) };
-
-    fn fmt<W: fmt::Write>(&self, f: &mut fmt::Formatter<W>) -> fmt::Result {
-        if !of_family(self.member.address, self.family) {
-            return Ok(());
-        }
-        let address = self.member.address;
-        let port = self.member.port;
-        if self.has_port {
-            return write!(f, "{address} . {port}, ");
-        }
-        write!(f, "{address}, ")
-    }
-}
-
-/// The same of all members.
-#[derive(Clone, Copy)]
-struct MemberTexts<'m> {
-    has_port: bool,
-    family: Family,
-    members: &'m [Member],
-}
-
-impl fmt::Display for MemberTexts<'_> {
-    ghost output = { λ x. Some (flat_map (member_text x.has_port x.family) x.members.now) };
-
-    fn fmt<W: fmt::Write>(&self, f: &mut fmt::Formatter<W>) -> fmt::Result {
-        for member in self.members {
-            MemberText {
-                has_port: self.has_port,
-                family: self.family,
-                member: *member,
-            }
-            .fmt(f)?;
-        }
-        Ok(())
-    }
 }
 
 /// Which port is asked for.
@@ -113,158 +69,112 @@ fn too_big_text(family: Family) -> &'static str
     }
 }
 
-/// That an end is a member of a family, at its port.
+/// The members of a cluster, of which those with addresses of a family are meant.
 #[derive(Clone, Copy)]
-struct AtMemberText<'m> {
-    side: Side,
+struct Guard<'m> {
     family: Family,
     members: &'m [Member],
 }
 
-impl fmt::Display for AtMemberText<'_> {
-    ghost output = { λ x. Some (guard_match_text (AtMember x.side x.family x.members.now)) };
-
-    #[tactic(auto, unfolding(crate::specs::Texts::guard_match_text))]
-    fn fmt<W: fmt::Write>(&self, f: &mut fmt::Formatter<W>) -> fmt::Result {
-        let what = family_text(self.family);
-        let end = address_text(self.side);
-        let port = udp_text(self.side);
-        let all = MemberTexts {
-            has_port: true,
-            family: self.family,
-            members: self.members,
-        };
-        write!(f, "{what}{end}{port}{{ {all}}} ")
-    }
-}
-
-/// That an end is the address of a member of a family.
-#[derive(Clone, Copy)]
-struct AtHomeText<'m> {
-    side: Side,
-    family: Family,
-    members: &'m [Member],
-}
-
-impl fmt::Display for AtHomeText<'_> {
-    ghost output = { λ x. Some (guard_match_text (AtHome x.side x.family x.members.now)) };
-
-    #[tactic(auto, unfolding(crate::specs::Texts::guard_match_text))]
-    fn fmt<W: fmt::Write>(&self, f: &mut fmt::Formatter<W>) -> fmt::Result {
-        let what = family_text(self.family);
-        let end = address_text(self.side);
-        let all = MemberTexts {
-            has_port: false,
-            family: self.family,
-            members: self.members,
-        };
-        write!(f, "{what}{end}{{ {all}}} ")
-    }
-}
-
-/// The rule for the members' datagrams in a family.
-#[derive(Clone, Copy)]
-struct DatagramText<'m> {
-    family: Family,
-    members: &'m [Member],
-}
-
-impl fmt::Display for DatagramText<'_> {
-    ghost output = { λ x. Some (guard_rule_text (AtMember Source x.family x.members.now
-        ∷ AtMember Destination x.family x.members.now ∷ [])) };
-
-    #[tactic(auto, using(crate::proofs::Guarded::two_parts))]
-    fn fmt<W: fmt::Write>(&self, f: &mut fmt::Formatter<W>) -> fmt::Result {
-        let from = AtMemberText {
-            side: Side::Source,
-            family: self.family,
-            members: self.members,
-        };
-        let to = AtMemberText {
-            side: Side::Destination,
-            family: self.family,
-            members: self.members,
-        };
-        write!(f, "{from}{to}counter accept comment \"members\"; ")
-    }
-}
-
-/// The rule for their later fragments.
-#[derive(Clone, Copy)]
-struct FragmentText<'m> {
-    family: Family,
-    members: &'m [Member],
-}
-
-impl fmt::Display for FragmentText<'_> {
-    ghost output = { λ x. Some (guard_rule_text (IsLater x.family ∷ OfUdp
-        ∷ AtHome Source x.family x.members.now ∷ AtHome Destination x.family x.members.now ∷ [])) };
-
-    #[tactic(auto, using(crate::proofs::Guarded::fragment_parts))]
-    fn fmt<W: fmt::Write>(&self, f: &mut fmt::Formatter<W>) -> fmt::Result {
-        let later = later_text(self.family);
-        let from = AtHomeText {
-            side: Side::Source,
-            family: self.family,
-            members: self.members,
-        };
-        let to = AtHomeText {
-            side: Side::Destination,
-            family: self.family,
-            members: self.members,
-        };
-        write!(
-            f,
-            "{later}meta l4proto 17 {from}{to}counter accept comment \"members\"; "
-        )
-    }
-}
-
-/// The rule for reports that a packet was too big.
-#[derive(Clone, Copy)]
-struct TooBigText<'m> {
-    family: Family,
-    members: &'m [Member],
-}
-
-impl fmt::Display for TooBigText<'_> {
-    ghost output = { λ x. Some (guard_rule_text (IsTooBig x.family
-        ∷ AtHome Destination x.family x.members.now ∷ [])) };
-
-    #[tactic(auto, using(crate::proofs::Guarded::too_big_parts))]
-    fn fmt<W: fmt::Write>(&self, f: &mut fmt::Formatter<W>) -> fmt::Result {
-        let what = too_big_text(self.family);
-        let to = AtHomeText {
-            side: Side::Destination,
-            family: self.family,
-            members: self.members,
-        };
-        write!(f, "{what}{to}counter accept comment \"members\"; ")
-    }
-}
-
-/// These three rules, if some member is of the family.
-#[derive(Clone, Copy)]
-struct FamilyText<'m> {
-    family: Family,
-    members: &'m [Member],
-}
-
-impl fmt::Display for FamilyText<'_> {
-    ghost output = { λ x. Some (flat_map guard_rule_text (family_rules x.family x.members.now)) };
-
-    #[tactic(auto, using(crate::proofs::Guarded::family_some))]
-    fn fmt<W: fmt::Write>(&self, f: &mut fmt::Formatter<W>) -> fmt::Result {
-        let family = self.family;
-        let members = self.members;
-        if !has_family(family, members) {
+impl Guard<'_> {
+    /// Puts where a member listens, if its address is of the family, behind the text: the address, and its port where
+    /// ports are asked too.
+    fn push_member(self, out: &mut String, has_port: bool, member: Member) -> Result<(), AllocError>
+        ensures { OnOk result (string_bytes out.new ≡ string_bytes out.old
+            ++ member_text has_port self.entry.family member) }
+    {
+        let Member { address, port } = member;
+        if !of_family(address, self.family) {
             return Ok(());
         }
-        let datagram = DatagramText { family, members };
-        let fragment = FragmentText { family, members };
-        let too_big = TooBigText { family, members };
-        write!(f, "{datagram}{fragment}{too_big}")
+        if has_port {
+            return write!(out, "{address} . {port}, ");
+        }
+        write!(out, "{address}, ")
     }
+
+    /// The same of all members.
+    fn push_members(self, out: &mut String, has_port: bool) -> Result<(), AllocError>
+        ensures { OnOk result (string_bytes out.new ≡ string_bytes out.old
+            ++ flat_map (member_text has_port self.entry.family) self.entry.members.now) }
+    {
+        for member in self.members {
+            self.push_member(out, has_port, *member)?;
+        }
+        Ok(())
+    }
+
+    /// Puts that an end is a member of the family, at its port, behind the text.
+    #[tactic(auto, unfolding(crate::specs::Texts::guard_match_text))]
+    fn push_at_member(self, out: &mut String, side: Side) -> Result<(), AllocError>
+        ensures { OnOk result (string_bytes out.new ≡ string_bytes out.old
+            ++ guard_match_text (AtMember side self.entry.family self.entry.members.now)) }
+    {
+        let (what, end) = (family_text(self.family), address_text(side));
+        write!(out, "{what}{end}{}{{ ", udp_text(side))?;
+        self.push_members(out, true)?;
+        out.push_str("} ")
+    }
+
+    /// Puts that an end is the address of a member of the family behind the text.
+    #[tactic(auto, unfolding(crate::specs::Texts::guard_match_text))]
+    fn push_at_home(self, out: &mut String, side: Side) -> Result<(), AllocError>
+        ensures { OnOk result (string_bytes out.new ≡ string_bytes out.old
+            ++ guard_match_text (AtHome side self.entry.family self.entry.members.now)) }
+    {
+        let (what, end) = (family_text(self.family), address_text(side));
+        write!(out, "{what}{end}{{ ")?;
+        self.push_members(out, false)?;
+        out.push_str("} ")
+    }
+
+    /// Puts the rule for the members' datagrams behind the text.
+    fn push_datagrams(self, out: &mut String) -> Result<(), AllocError>
+        ensures { OnOk result (string_bytes out.new ≡ string_bytes out.old ++ guard_rule_text
+            (AtMember Source self.entry.family self.entry.members.now
+            ∷ AtMember Destination self.entry.family self.entry.members.now ∷ [])) }
+    {
+        self.push_at_member(out, Side::Source)?;
+        self.push_at_member(out, Side::Destination)?;
+        out.push_str(ACCEPT)
+    }
+
+    /// Puts the rule for their later fragments behind the text.
+    fn push_fragments(self, out: &mut String) -> Result<(), AllocError>
+        ensures { OnOk result (string_bytes out.new ≡ string_bytes out.old ++ guard_rule_text
+            (IsLater self.entry.family ∷ OfUdp ∷ AtHome Source self.entry.family self.entry.members.now
+            ∷ AtHome Destination self.entry.family self.entry.members.now ∷ [])) }
+    {
+        write!(out, "{}meta l4proto 17 ", later_text(self.family))?;
+        self.push_at_home(out, Side::Source)?;
+        self.push_at_home(out, Side::Destination)?;
+        out.push_str(ACCEPT)
+    }
+
+    /// Puts the rule for reports that a packet was too big behind the text.
+    fn push_too_big(self, out: &mut String) -> Result<(), AllocError>
+        ensures { OnOk result (string_bytes out.new ≡ string_bytes out.old ++ guard_rule_text
+            (IsTooBig self.entry.family ∷ AtHome Destination self.entry.family self.entry.members.now ∷ [])) }
+    {
+        out.push_str(too_big_text(self.family))?;
+        self.push_at_home(out, Side::Destination)?;
+        out.push_str(ACCEPT)
+    }
+}
+
+/// Puts these three rules, if some member is of the family, behind the text.
+#[tactic(auto, using(crate::proofs::Guarded::family_some))]
+fn push_family(out: &mut String, family: Family, members: &[Member]) -> Result<(), AllocError>
+    ensures { OnOk result (string_bytes out.new ≡ string_bytes out.old
+        ++ flat_map guard_rule_text (family_rules family members.now)) }
+{
+    if !has_family(family, members) {
+        return Ok(());
+    }
+    let guard = Guard { family, members };
+    guard.push_datagrams(out)?;
+    guard.push_fragments(out)?;
+    guard.push_too_big(out)
 }
 
 /// What members with IPv6 addresses need beside, if there are such.
@@ -284,51 +194,39 @@ impl fmt::Display for LinkText<'_> {
     }
 }
 
-/// The chain of the guard, if there are members.
-#[derive(Clone, Copy)]
-pub(crate) struct MembersText<'m> {
-    pub(crate) position: u32,
-    pub(crate) members: &'m [Member],
-}
-
-impl fmt::Display for MembersText<'_> {
-    ghost output = { λ x. Some (members_text x.position x.members.now) };
-
-    #[tactic(auto, using(crate::proofs::Guarded::members_some), unfolding(crate::specs::Texts::members_text))]
-    fn fmt<W: fmt::Write>(&self, f: &mut fmt::Formatter<W>) -> fmt::Result {
-        if self.members.is_empty() {
-            return Ok(());
-        }
-        let generation = Generation(self.position);
-        let four = FamilyText {
-            family: Family::Inet,
-            members: self.members,
-        };
-        let six = FamilyText {
-            family: Family::Inet6,
-            members: self.members,
-        };
-        let link = LinkText(self.members);
-        write!(f, "chain {generation}members {{ {four}{six}{link}}}; ")
+/// Puts the chain of the guard, if there are members, behind the text.
+#[tactic(auto, using(crate::proofs::Guarded::members_some), unfolding(crate::specs::Texts::members_text))]
+pub(crate) fn push_members(
+    out: &mut String,
+    position: u32,
+    members: &[Member],
+) -> Result<(), AllocError>
+    ensures { OnOk result (string_bytes out.new ≡ string_bytes out.old ++ members_text position members.now) }
+{
+    if members.is_empty() {
+        return Ok(());
     }
+    write!(out, "chain {}members {{ ", Generation(position))?;
+    push_family(out, Family::Inet, members)?;
+    push_family(out, Family::Inet6, members)?;
+    write!(out, "{}}}; ", LinkText(members))
 }
 
-/// The end of the guard's chain, if there are members.
-#[derive(Clone, Copy)]
-pub(crate) struct MembersGone<'m> {
-    pub(crate) position: u32,
-    pub(crate) members: &'m [Member],
-}
-
-impl fmt::Display for MembersGone<'_> {
-    ghost output = { λ x. Some (members_gone x.position x.members.now) };
-
-    #[tactic(auto, using(crate::proofs::Guarded::gone_some), unfolding(crate::specs::Texts::members_gone))]
-    fn fmt<W: fmt::Write>(&self, f: &mut fmt::Formatter<W>) -> fmt::Result {
-        if self.members.is_empty() {
-            return Ok(());
-        }
-        let generation = Generation(self.position);
-        write!(f, "delete chain inet reltzuma {generation}members; ")
+/// Puts the end of the guard's chain, if there are members, behind the text.
+#[tactic(auto, using(crate::proofs::Guarded::gone_some), unfolding(crate::specs::Texts::members_gone))]
+pub(crate) fn push_members_gone(
+    out: &mut String,
+    position: u32,
+    members: &[Member],
+) -> Result<(), AllocError>
+    ensures { OnOk result (string_bytes out.new ≡ string_bytes out.old ++ members_gone position members.now) }
+{
+    if members.is_empty() {
+        return Ok(());
     }
+    write!(
+        out,
+        "delete chain inet reltzuma {}members; ",
+        Generation(position)
+    )
 }

@@ -1,51 +1,32 @@
 //! Addresses from their numbers.
 
-ghost use Rattle.std.specs.Prelude.{Some};
+ghost use Rattle.std.specs.Prelude.{◌≡◌, ◌++◌, OnOk, string_bytes};
 ghost use Rattle.nft_text.specs.Texts.{number_text, interval_text};
 
 use nft_rules::{address, top};
 use pf_addr::Family;
-use std::fmt::{self, Display};
+use std::alloc::AllocError;
 
-/// The address of a number, if the family has one.
-#[derive(Clone, Copy)]
-struct NumberText {
+/// Puts the address of a number, if the family has one, behind the text.
+fn push_number(out: &mut String, family: Family, number: u128) -> Result<(), AllocError>
+    ensures { OnOk result (string_bytes out.new ≡ string_bytes out.old ++ number_text family number) }
+{
+    if number <= top(family) {
+        write!(out, "{}", address(family, number))?;
+    }
+    Ok(())
+}
+
+/// Puts what is from one address to another behind the text.
+pub(crate) fn push_interval(
+    out: &mut String,
     family: Family,
-    number: u128,
-}
-
-impl fmt::Display for NumberText {
-    ghost output = { λ x. Some (number_text x.family x.number) };
-
-    fn fmt<W: fmt::Write>(&self, f: &mut fmt::Formatter<W>) -> fmt::Result {
-        if self.number <= top(self.family) {
-            let addr = address(self.family, self.number);
-            return addr.fmt(f);
-        }
-        Ok(())
-    }
-}
-
-/// From one address to another.
-#[derive(Clone, Copy)]
-pub(crate) struct IntervalText {
-    pub(crate) family: Family,
-    pub(crate) low: u128,
-    pub(crate) high: u128,
-}
-
-impl fmt::Display for IntervalText {
-    ghost output = { λ x. Some (interval_text x.family x.low x.high) };
-
-    fn fmt<W: fmt::Write>(&self, f: &mut fmt::Formatter<W>) -> fmt::Result {
-        let low = NumberText {
-            family: self.family,
-            number: self.low,
-        };
-        let high = NumberText {
-            family: self.family,
-            number: self.high,
-        };
-        write!(f, "{low}-{high}")
-    }
+    low: u128,
+    high: u128,
+) -> Result<(), AllocError>
+    ensures { OnOk result (string_bytes out.new ≡ string_bytes out.old ++ interval_text family low high) }
+{
+    push_number(out, family, low)?;
+    out.push_str("-")?;
+    push_number(out, family, high)
 }

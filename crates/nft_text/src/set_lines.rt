@@ -1,60 +1,39 @@
 //! Sets as text.
 
-ghost use Rattle.std.specs.Prelude.{◌≡◌, Some, map};
+ghost use Rattle.std.specs.Prelude.{◌≡◌, ◌++◌, OnOk, map, string_bytes};
 ghost use Rattle.std.specs.List.{flat_map};
 ghost use Rattle.nft_rules.specs.Seen.{named_set_of, ruleset_of};
 ghost use Rattle.nft_text.specs.Texts.{element_text, elements_text, type_text, set_text, set_gone};
 
 use crate::labels::{SetLabel, Whole};
-use crate::numbers::IntervalText;
+use crate::numbers::push_interval;
 use nft_rules::{Interval, NamedSet};
 use pf_addr::Family;
-use std::fmt::{self, Display};
+use std::alloc::AllocError;
 
-/// Elements, each with a comma behind it.
-#[derive(Clone, Copy)]
-struct ElementTexts<'a> {
-    family: Family,
-    elements: &'a [Interval],
-}
-
-impl fmt::Display for ElementTexts<'_> {
-    ghost output = { λ x. Some (flat_map (element_text x.family) x.elements.now) };
-
-    fn fmt<W: fmt::Write>(&self, f: &mut fmt::Formatter<W>) -> fmt::Result {
-        for element in self.elements {
-            let interval = IntervalText {
-                family: self.family,
-                low: element.low,
-                high: element.high,
-            };
-            write!(f, "{interval}, ")?;
-        }
-        Ok(())
+/// Puts elements, each with a comma behind it, behind the text.
+fn push_each(out: &mut String, family: Family, elements: &[Interval]) -> Result<(), AllocError>
+    ensures { OnOk result (string_bytes out.new ≡ string_bytes out.old
+        ++ flat_map (element_text family) elements.now) }
+{
+    for element in elements {
+        push_interval(out, family, element.low, element.high)?;
+        out.push_str(", ")?;
     }
+    Ok(())
 }
 
-/// The elements of a set, if it has any.
-#[derive(Clone, Copy)]
-struct ElementsText<'a> {
-    family: Family,
-    elements: &'a [Interval],
-}
-
-impl fmt::Display for ElementsText<'_> {
-    ghost output = { λ x. Some (elements_text x.family x.elements.now) };
-
-    #[tactic(auto, using(crate::proofs::Parting::some_elements))]
-    fn fmt<W: fmt::Write>(&self, f: &mut fmt::Formatter<W>) -> fmt::Result {
-        if self.elements.is_empty() {
-            return Ok(());
-        }
-        let all = ElementTexts {
-            family: self.family,
-            elements: self.elements,
-        };
-        write!(f, "elements = {{ {all}}}; ")
+/// Puts the elements of a set, if it has any, behind the text.
+#[tactic(auto, using(crate::proofs::Parting::some_elements))]
+fn push_elements(out: &mut String, family: Family, elements: &[Interval]) -> Result<(), AllocError>
+    ensures { OnOk result (string_bytes out.new ≡ string_bytes out.old ++ elements_text family elements.now) }
+{
+    if elements.is_empty() {
+        return Ok(());
     }
+    out.push_str("elements = { ")?;
+    push_each(out, family, elements)?;
+    out.push_str("}; ")
 }
 
 /// Of which type a set is.
@@ -67,79 +46,54 @@ fn type_text(family: Family) -> &'static str
     }
 }
 
-/// A set.
-#[derive(Clone, Copy)]
-struct SetText<'r, 'c> {
-    whole: Whole<'r, 'c>,
-    set: &'r NamedSet<'c>,
-}
-
-impl fmt::Display for SetText<'_, '_> {
-    ghost output = { λ x. Some (set_text x.whole.position (ruleset_of x.whole.parts.now) (named_set_of x.set.now)) };
-
+impl<'c> Whole<'_, 'c> {
+    /// Puts a set behind the text.
     #[tactic(auto, unfolding(crate::specs::Texts::set_text))]
-    fn fmt<W: fmt::Write>(&self, f: &mut fmt::Formatter<W>) -> fmt::Result {
-        let name = self.set.name;
-        let label = SetLabel {
-            whole: self.whole,
-            name,
-        };
-        let kind = type_text(name.family);
-        let elements = ElementsText {
-            family: name.family,
-            elements: &self.set.elements,
-        };
-        write!(f, "set {label} {{ {kind}{elements}}}; ")
+    fn push_set(self, out: &mut String, set: &NamedSet<'c>) -> Result<(), AllocError>
+        ensures { OnOk result (string_bytes out.new ≡ string_bytes out.old
+            ++ set_text self.entry.position (ruleset_of self.entry.parts.now) (named_set_of set.now)) }
+    {
+        let family = set.name.family;
+        write!(
+            out,
+            "set {} {{ {}",
+            SetLabel(self, set.name),
+            type_text(family)
+        )?;
+        push_elements(out, family, &set.elements)?;
+        out.push_str("}; ")
     }
-}
 
-/// Sets, one behind the other.
-#[derive(Clone, Copy)]
-pub(crate) struct SetTexts<'r, 'c>(pub(crate) Whole<'r, 'c>);
-
-impl fmt::Display for SetTexts<'_, '_> {
-    ghost output = { λ x. Some (flat_map (set_text x.0.position (ruleset_of x.0.parts.now))
-        (map named_set_of x.0.parts.now.sets.items)) };
-
-    fn fmt<W: fmt::Write>(&self, f: &mut fmt::Formatter<W>) -> fmt::Result {
-        for set in &self.0.parts.sets {
-            SetText { whole: self.0, set }.fmt(f)?;
+    /// Puts the ruleset's sets, one behind the other, behind the text.
+    pub(crate) fn push_sets(self, out: &mut String) -> Result<(), AllocError>
+        ensures { OnOk result (string_bytes out.new ≡ string_bytes out.old
+            ++ flat_map (set_text self.entry.position (ruleset_of self.entry.parts.now))
+            (map named_set_of self.entry.parts.now.sets.items)) }
+    {
+        for set in &self.parts.sets {
+            self.push_set(out, set)?;
         }
         Ok(())
     }
-}
 
-/// The end of a set.
-#[derive(Clone, Copy)]
-struct SetGone<'r, 'c> {
-    whole: Whole<'r, 'c>,
-    set: &'r NamedSet<'c>,
-}
-
-impl fmt::Display for SetGone<'_, '_> {
-    ghost output = { λ x. Some (set_gone x.whole.position (ruleset_of x.whole.parts.now) (named_set_of x.set.now)) };
-
+    /// Puts the end of a set behind the text.
     #[tactic(auto, unfolding(crate::specs::Texts::set_gone))]
-    fn fmt<W: fmt::Write>(&self, f: &mut fmt::Formatter<W>) -> fmt::Result {
-        let label = SetLabel {
-            whole: self.whole,
-            name: self.set.name,
-        };
-        write!(f, "delete set inet reltzuma {label}; ")
+    fn push_set_gone(self, out: &mut String, set: &NamedSet<'c>) -> Result<(), AllocError>
+        ensures { OnOk result (string_bytes out.new ≡ string_bytes out.old
+            ++ set_gone self.entry.position (ruleset_of self.entry.parts.now) (named_set_of set.now)) }
+    {
+        let label = SetLabel(self, set.name);
+        write!(out, "delete set inet reltzuma {label}; ")
     }
-}
 
-/// The end of a ruleset's sets.
-#[derive(Clone, Copy)]
-pub(crate) struct SetsGone<'r, 'c>(pub(crate) Whole<'r, 'c>);
-
-impl fmt::Display for SetsGone<'_, '_> {
-    ghost output = { λ x. Some (flat_map (set_gone x.0.position (ruleset_of x.0.parts.now))
-        (map named_set_of x.0.parts.now.sets.items)) };
-
-    fn fmt<W: fmt::Write>(&self, f: &mut fmt::Formatter<W>) -> fmt::Result {
-        for set in &self.0.parts.sets {
-            SetGone { whole: self.0, set }.fmt(f)?;
+    /// Puts the end of the ruleset's sets behind the text.
+    pub(crate) fn push_sets_gone(self, out: &mut String) -> Result<(), AllocError>
+        ensures { OnOk result (string_bytes out.new ≡ string_bytes out.old
+            ++ flat_map (set_gone self.entry.position (ruleset_of self.entry.parts.now))
+            (map named_set_of self.entry.parts.now.sets.items)) }
+    {
+        for set in &self.parts.sets {
+            self.push_set_gone(out, set)?;
         }
         Ok(())
     }

@@ -12,10 +12,7 @@ use pf_rules::{Action, Item, Name};
 fn passes(action: Action) -> bool
     ensures { result ≡ passes action }
 {
-    match action {
-        Action::Pass => true,
-        Action::Drop | Action::Return => false,
-    }
+    matches!(action, Action::Pass)
 }
 
 /// Whether it is a pass rule that keeps state.
