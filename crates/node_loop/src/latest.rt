@@ -170,10 +170,8 @@ impl Latest {
 
     /// Whether a datagram longer than a packet may go to this member again, at this time in microseconds.
     fn is_large_due(&self, to: u8, now: u64) -> bool {
-        match self.large.get(usize::from(to)) {
-            Some(due) => now >= *due,
-            None => false,
-        }
+        let due = self.large.get(usize::from(to));
+        due.is_some_and(|due| now >= *due)
     }
 
     /// Notes that a datagram of that many bytes was sent to this member at this time. Where these are more than a

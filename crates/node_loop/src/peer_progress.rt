@@ -41,9 +41,7 @@ impl PeerProgress {
     {
         PeerProgress {
             reached: self.reached,
-            has_learned: false,
-            accepting: 0,
-            lacking: [0; MEMBERS],
+            ..PeerProgress::new()
         }
     }
 
@@ -51,16 +49,8 @@ impl PeerProgress {
     pub(crate) fn lacks(&self, member: u8, front: u32) -> Option<u32>
         ensures { result ≡ lacked member front self.now }
     {
-        match self.lacking.get(usize::from(member)) {
-            Some(&next) => {
-                if next > 0 && next <= front {
-                    Some(next - 1)
-                } else {
-                    None
-                }
-            }
-            None => None,
-        }
+        let next = *self.lacking.get(usize::from(member))?;
+        (next > 0 && next <= front).then(|| next - 1)
     }
 
     /// This member lacks the positions from one less than this on.

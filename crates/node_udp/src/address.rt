@@ -56,8 +56,7 @@ fn four(text: &[u8]) -> Option<Addr>
 {
     match parse_bytes(text) {
         Ok(Addr::V4(bits)) => Some(Addr::V4(bits)),
-        Ok(Addr::V6(_)) => None,
-        Err(_) => None,
+        Ok(Addr::V6(_)) | Err(_) => None,
     }
 }
 
@@ -66,9 +65,8 @@ fn six(text: &[u8]) -> Option<Addr>
     ensures { result ≡ six_in (addr_of text.now) }
 {
     match parse_bytes(text) {
-        Ok(Addr::V4(_)) => None,
         Ok(Addr::V6(bits)) => Some(Addr::V6(bits)),
-        Err(_) => None,
+        Ok(Addr::V4(_)) | Err(_) => None,
     }
 }
 
@@ -78,10 +76,7 @@ fn with_port(ip: Option<Addr>, port: &[u8]) -> Option<Address>
 {
     let ip = ip?;
     let port = parse_decimal(port, 5, u16::MAX)?;
-    if port == 0 {
-        return None;
-    }
-    Some(Address { ip, port })
+    (port != 0).then(|| Address { ip, port })
 }
 
 /// An IPv4 address, `:` and a port.

@@ -80,20 +80,8 @@ fn ask_answer(message: &MessageView) -> Option<AskAnswer>
     ensures { result ≡ ask_answer (message_of message.now) }
 {
     match message {
-        Message::Asked { token, number } => {
-            if *token == TOKEN {
-                Some(AskAnswer::Asked(*number))
-            } else {
-                None
-            }
-        }
-        Message::AskRefused { token, code } => {
-            if *token == TOKEN {
-                Some(AskAnswer::Refused(*code))
-            } else {
-                None
-            }
-        }
+        Message::Asked { token, number } if *token == TOKEN => Some(AskAnswer::Asked(*number)),
+        Message::AskRefused { token, code } if *token == TOKEN => Some(AskAnswer::Refused(*code)),
         _ => None,
     }
 }

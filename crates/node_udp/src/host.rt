@@ -37,10 +37,8 @@ fn is_host(text: &[u8]) -> bool
 fn used_port(text: &[u8]) -> Option<u16>
     ensures { result ≡ used_port (number_of 5 65535 text.now) }
 {
-    match parse_decimal(text, 5, u16::MAX) {
-        Some(port) => { if port == 0 { None } else { Some(port) } }
-        None => None,
-    }
+    let port = parse_decimal(text, 5, u16::MAX)?;
+    (port != 0).then(|| port)
 }
 
 /// The port of a host's name, `:` and a port.

@@ -42,11 +42,7 @@ impl MemorySocket {
     pub fn went(&self) -> Option<&[(SocketAddr, Vec<u8>)]>
         ensures { option_map (λ s. map (λ d. (d.0, d.1.items)) s.now) result ≡ went_of self.now }
     {
-        if self.is_whole {
-            Some(self.went.as_slice())
-        } else {
-            None
-        }
+        self.is_whole.then(|| self.went.as_slice())
     }
 
     fn keep(&mut self, bytes: &[u8], to: SocketAddr) -> Result<(), AllocError>

@@ -134,10 +134,8 @@ fn own_address(peers: &[Address], me: u8) -> Option<Address>
     if me != CLIENT {
         return peers.get(usize::from(me)).copied();
     }
-    match peers.first() {
-        Some(address) => Some(Address::any_port(address.ip)),
-        None => Some(Address::any_port(Addr::V4(0))),
-    }
+    let ip = peers.first().map_or(Addr::V4(0), |address| address.ip);
+    Some(Address::any_port(ip))
 }
 
 /// The clock's reading, for a member.
@@ -477,10 +475,7 @@ impl<S: Socket, C: Clock> UdpWire<S, C> {
         ensures hears { hears_of self.new ≡ hears_of self.old }
         ensures last { last_of self.new ≡ last_of self.old }
     {
-        match self.socket.send(bytes, to) {
-            Ok(n) => n == bytes.len(),
-            Err(_) => false,
-        }
+        self.socket.send(bytes, to).is_ok_and(|n| n == bytes.len())
     }
 }
 

@@ -231,10 +231,8 @@ impl<R: Records> Node<R> {
     pub fn learned(&self, position: u32) -> Option<&[u8]>
         ensures { option_map (λ b. b.now) result ≡ option_map spelled (learned_by self.now position) }
     {
-        match self.replica.learned(position) {
-            Some(entry) => Some(entry.bytes()),
-            None => None,
-        }
+        let entry = self.replica.learned(position)?;
+        Some(entry.bytes())
     }
 
     /// The round that the record has, as last committed; of a failed node as last known.

@@ -51,9 +51,6 @@ impl Outcomes {
         ensures kept { IsSome result ↔ (back < length self.now.kept.items) }
         ensures value { IfSome result (λ o. o ≡ slice_index_or self.now.kept.items back o) }
     {
-        match self.kept.get(back) {
-            Some(outcome) => Some(*outcome),
-            None => None,
-        }
+        self.kept.get(back).copied()
     }
 }

@@ -64,10 +64,7 @@ impl Numbers {
         if stretches == 0 || stretches * STRETCH != position as usize {
             return None;
         }
-        match self.bounds.get(stretches - 1) {
-            Some(bound) => Some(*bound),
-            None => None,
-        }
+        self.bounds.get(stretches - 1).copied()
     }
 
     /// Whether the request isn't below the position, as its number passes the bound there.
