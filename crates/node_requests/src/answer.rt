@@ -28,15 +28,20 @@ pub fn status_of(code: u8) -> u16
         20 => 404,
         41 => 413,
         60 => 429,
-        62 => 503,
-        70 => 503,
-        72 => 503,
-        80 => 503,
+        62 | 70 | 72 | 80 => 503,
         _ => 400,
     }
 }
 
 impl Answer {
+    /// An answer with this status and body.
+    pub(crate) fn of(alloc: Global, code: u16, text: &str) -> Result<Answer, AllocError>
+        ensures { IfOk result (λ a. answer_value a ≡ record { code = code; body = text.now }) }
+    {
+        let body = String::from_str(alloc, text)?;
+        Ok(Answer { code, body })
+    }
+
     /// What was asked for.
     pub(crate) fn shown(body: String) -> Answer
         ensures { answer_value result ≡ shown (string_bytes body) }

@@ -36,29 +36,11 @@ fn with_number(accepted: Option<(u64, u64)>, changed: Changed) -> Option<(u64, u
     ensures { result ≡ with_number accepted changed }
 {
     match changed {
-        Changed::Refused(_) => accepted,
-        Changed::Memory => accepted,
-        Changed::Asked(_, number) => match accepted {
-            Some((first, _)) => Some((first, number)),
-            None => Some((number, number)),
-        },
-    }
-}
-
-/// A node's status, as JSON or in lines.
-fn status_as(
-    alloc: Global,
-    json: bool,
-    figures: &Figures,
-    health: Health,
-    counters: &Counters,
-) -> Result<Answer, AllocError>
-    ensures { IfOk result (λ a. answer_value a ≡ shown (status_as json figures.now health counters.now)) }
-{
-    if json {
-        status_json(alloc, figures, health, counters)
-    } else {
-        status(alloc, figures, health, counters)
+        Changed::Refused(_) | Changed::Memory => accepted,
+        Changed::Asked(_, number) => {
+            let first = accepted.map_or(number, |(first, _)| first);
+            Some((first, number))
+        }
     }
 }
 
@@ -115,7 +97,12 @@ impl<R: Records> RequestHandler<R> {
         ensures { IfOk result (λ a. IsStatus self.now.node counters.now json (answer_value a)) }
     {
         let figures = Figures::of(&self.node)?;
-        status_as(self.alloc, json, &figures, self.health(counters), counters)
+        let health = self.health(counters);
+        if json {
+            status_json(self.alloc, &figures, health, counters)
+        } else {
+            status(self.alloc, &figures, health, counters)
+        }
     }
 
     /// The node's numbers for Prometheus.
@@ -149,8 +136,7 @@ impl<R: Records> RequestHandler<R> {
             counters.now read.now (answer_value a)) }
     {
         if self.node.applied() < at {
-            let body = String::from_str(self.alloc, "waiting\n")?;
-            return Ok(Answer { code: 503, body });
+            return Answer::of(self.alloc, 503, "waiting\n");
         }
         self.read(read, counters)
     }
@@ -172,8 +158,7 @@ impl<R: Records> RequestHandler<R> {
     fn change_answer(&mut self, command: &Command) -> Answer
         ensures { IsChange self.old self.new (command_value command.now) (answer_value result) }
     {
-        let changed = self.change(command);
-        match changed.to_answer(self.alloc) {
+        match self.change(command).to_answer(self.alloc) {
             Ok(answer) => answer,
             Err(_) => Answer {
                 code: 503,
@@ -188,9 +173,9 @@ impl<R: Records> RequestHandler<R> {
         ensures answer { IfOk result (λ a. answer_value a ≡ shown (codes "stopping\n")) }
         ensures memory { OnErr result (self.new ≡ self.old) }
     {
-        let body = String::from_str(self.alloc, "stopping\n")?;
+        let answer = Answer::of(self.alloc, 200, "stopping\n")?;
         self.is_stopping = true;
-        Ok(Answer { code: 200, body })
+        Ok(answer)
     }
 
     /// What a request answers: a read leaves all as it was, a change is one ask of the node or a refusal with nothing

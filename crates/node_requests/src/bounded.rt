@@ -76,10 +76,7 @@ fn left_in_members(config: &Config, kids: &[Rc<Anchor>], depth: u8, left: u32) -
 {
     let mut now = left;
     for kid in kids {
-        let Some(next) = left_in_member(config, kid, depth, now) else {
-            return None;
-        };
-        now = next;
+        now = left_in_member(config, kid, depth, now)?;
     }
     Some(now)
 }
@@ -127,10 +124,7 @@ fn left_after(config: &Config, anchor: &Anchor, depth: u8, left: u32) -> Option<
     let mut now = left;
     let mut index = 0u32;
     for item in anchor.items() {
-        let Some(next) = left_behind(config, anchor, depth - 1, index, item, now) else {
-            return None;
-        };
-        now = next;
+        now = left_behind(config, anchor, depth - 1, index, item, now)?;
         index = index.saturating_add(1);
     }
     Some(now)
@@ -155,8 +149,5 @@ fn met(config: &Config) -> Option<u32>
 pub(crate) fn fitting(config: &Config) -> u32
     ensures { result ≡ fitting config.now }
 {
-    match met(config) {
-        Some(met) => MET_MAX / met.max(1),
-        None => 0,
-    }
+    met(config).map_or(0, |met| MET_MAX / met.max(1))
 }

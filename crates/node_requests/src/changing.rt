@@ -26,10 +26,9 @@ pub enum Changed {
 fn refused_by(fault: NodeFault) -> Changed
     ensures { result ≡ refused_by fault }
 {
-    match fault.code() {
-        None => Changed::Memory,
-        Some(code) => Changed::Refused(code),
-    }
+    fault
+        .code()
+        .map_or(Changed::Memory, |code| Changed::Refused(code))
 }
 
 /// Asks the node to accept the command.

@@ -29,17 +29,12 @@ enum Show {
 }
 
 /// Puts the line of a position's entry behind the text.
-fn push_entry<R: Records>(
-    alloc: Global,
-    out: &mut String,
-    node: &Node<R>,
-    position: u32,
-) -> Result<(), AllocError>
+fn push_entry<R: Records>(out: &mut String, node: &Node<R>, position: u32) -> Result<(), AllocError>
     ensures { OnOk result (string_bytes out.new ≡ string_bytes out.old ++ entry_line (learned_by node.now) position) }
 {
     match node.learned(position) {
         Some(bytes) => {
-            let digits = hex::encode(alloc, bytes)?;
+            let digits = hex::encode(*out.allocator(), bytes)?;
             push_line(out, digits.as_str())
         }
         None => Ok(()),
@@ -48,7 +43,6 @@ fn push_entry<R: Records>(
 
 /// Puts what is shown of a position behind the text.
 fn push_shown<R: Records>(
-    alloc: Global,
     out: &mut String,
     node: &Node<R>,
     show: Show,
@@ -57,15 +51,14 @@ fn push_shown<R: Records>(
     ensures { OnOk result (string_bytes out.new ≡ string_bytes out.old ++ line_shown show node.now position) }
 {
     match show {
-        Show::Command => push_position(alloc, out, node, position),
-        Show::Entry => push_entry(alloc, out, node, position),
+        Show::Command => push_position(out, node, position),
+        Show::Entry => push_entry(out, node, position),
     }
 }
 
 /// Puts the lines of the last `count` positions before an end behind the text, until it has that many bytes that no
 /// further one is shown.
 fn push_lines<R: Records>(
-    alloc: Global,
     out: &mut String,
     node: &Node<R>,
     show: Show,
@@ -81,7 +74,7 @@ fn push_lines<R: Records>(
         if out.as_bytes().len() >= ENTRIES_BYTES {
             return Ok(());
         }
-        push_shown(alloc, out, node, show, end - left)?;
+        push_shown(out, node, show, end - left)?;
         left -= 1;
     }
     Ok(())
@@ -100,16 +93,10 @@ pub(crate) fn entries<R: Records>(
     let first = from.unwrap_or(0);
     let most = count.unwrap_or(ENTRIES_MAX).min(ENTRIES_MAX);
     let end = node.applied().min(first.saturating_add(most));
+    let lines = end.saturating_sub(first);
     let mut body = String::new(alloc);
-    push_lines(
-        alloc,
-        &mut body,
-        node,
-        Show::Entry,
-        end,
-        end.saturating_sub(first),
-    )?;
-    Ok(Answer { code: 200, body })
+    push_lines(&mut body, node, Show::Entry, end, lines)?;
+    Ok(Answer::shown(body))
 }
 
 /// The log from a position on, or its last 20 lines: the positions that are applied, each a line with the member that
@@ -125,14 +112,8 @@ pub(crate) fn log<R: Records>(
     let applied = node.applied();
     let first = from.unwrap_or(applied.saturating_sub(LAST_LINES));
     let end = applied.min(first.saturating_add(ENTRIES_MAX));
+    let lines = end.saturating_sub(first);
     let mut body = String::new(alloc);
-    push_lines(
-        alloc,
-        &mut body,
-        node,
-        Show::Command,
-        end,
-        end.saturating_sub(first),
-    )?;
-    Ok(Answer { code: 200, body })
+    push_lines(&mut body, node, Show::Command, end, lines)?;
+    Ok(Answer::shown(body))
 }

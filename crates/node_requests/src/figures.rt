@@ -59,10 +59,7 @@ struct Counts {
 fn entries_of(table: Option<&Table>) -> usize
     ensures { result ≡ entries_of (option_copied table.entry) }
 {
-    match table {
-        Some(table) => table.entry_count(),
-        None => 0,
-    }
+    table.map_or(0, |table| table.entry_count())
 }
 
 /// How many entries the tables of a path have.
@@ -91,10 +88,10 @@ fn with_path(config: &Config, path: &[Name], counts: Counts) -> Result<Counts, A
     let rules = config.items(path).len();
     let addresses = entries_at(config, path, &names);
     Ok(Counts {
-        anchors: counts.anchors,
         rules: counts.rules.saturating_add(rules),
         tables: counts.tables.saturating_add(names.len()),
         addresses: counts.addresses.saturating_add(addresses),
+        ..counts
     })
 }
 
@@ -119,8 +116,7 @@ fn count_config(config: &Config) -> Result<Counts, AllocError>
 pub(crate) fn positions_left<R: Records>(node: &Node<R>) -> u32
     ensures { result ≡ positions - front (learned_by node.now) }
 {
-    let front = node.front();
-    POSITIONS - front
+    POSITIONS - node.front()
 }
 
 impl Figures {

@@ -33,10 +33,7 @@ pub enum Health {
 fn is_recent(heard: Option<u64>) -> bool
     ensures { result ≡ is_recent heard }
 {
-    match heard {
-        Some(seconds) => seconds < 3,
-        None => false,
-    }
+    heard.is_some_and(|seconds| seconds < 3)
 }
 
 /// How many of the rows are of members that were heard in the last three seconds.
@@ -96,20 +93,14 @@ impl Health {
     fn health_code(self) -> u16
         ensures { result ≡ health_code self }
     {
-        match self {
-            Health::Works | Health::Behind | Health::Alone | Health::Stuck => 200,
-            Health::Failed => 503,
-        }
+        if self == Health::Failed { 503 } else { 200 }
     }
 
     /// 200 of one that works alone.
     fn ready_code(self) -> u16
         ensures { result ≡ ready_code self }
     {
-        match self {
-            Health::Works => 200,
-            Health::Behind | Health::Alone | Health::Stuck | Health::Failed => 503,
-        }
+        if self == Health::Works { 200 } else { 503 }
     }
 
     /// Whether the node works at all.

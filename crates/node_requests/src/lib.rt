@@ -7,9 +7,8 @@
 //!   changed.
 //! - [`request_in`]: what HTTP's method, target and body ask for, a [`Request`]. [`Answer`]: HTTP's status and the
 //!   body.
-//! - [`push_position`]: the line of a position in the log, `POSITION ORIGIN.NUMBER ARGUMENTS OUTCOME`;
-//!   [`push_positions`]: those of some positions. [`push_outcome`]: what came of a command, a line as a script prints
-//!   it.
+//! - [`push_positions`]: the lines of some positions of the log, `POSITION ORIGIN.NUMBER ARGUMENTS OUTCOME`.
+//!   [`push_outcome`]: what came of a command, a line as a script prints it.
 //! - [`laws`]: which requests change something, and with what others are refused; what a verdict meets is bounded.
 //! - `specs/Routing` defines what HTTP's requests ask for, `specs/Answers` what is answered, `specs/Changing` what a
 //!   change does, `specs/Positions` the lines of a log.
@@ -77,6 +76,6 @@ pub use health::{Health, STUCK, counted};
 pub use outcome::push_outcome;
 pub use pf_arguments::Action;
 pub use pf_node::Node;
-pub use positions::{push_position, push_positions};
+pub use positions::push_positions;
 pub use request::{Read, Request, Routed};
 pub use routing::request_in;

@@ -54,11 +54,8 @@ pub(crate) fn tables(alloc: Global, given: &[Parameter]) -> Result<Action, Comma
 pub(crate) fn table(alloc: Global, given: &[Parameter]) -> Result<Action, CommandFault>
     ensures { Answers result (asked (on_table (pairs_of given.now) (codes "show") []) []) }
 {
-    let Some(table) = table_in(alloc, given)? else {
-        return Err(CommandFault::Usage);
-    };
-    let path = path_in(alloc, given)?;
-    Ok(Action::TableShow(path, table))
+    let table = table_in(alloc, given)?.ok_or(CommandFault::Usage)?;
+    Ok(Action::TableShow(path_in(alloc, given)?, table))
 }
 
 /// The addresses of a line each, looked up in a table.
@@ -70,9 +67,7 @@ pub(crate) fn table_test(
 ) -> Result<Action, CommandFault>
     ensures { Answers result (asked (on_table (pairs_of given.now) (codes "test") (map (λ l. l.now) lines.now)) []) }
 {
-    let Some(table) = table_in(alloc, given)? else {
-        return Err(CommandFault::Usage);
-    };
+    let table = table_in(alloc, given)?.ok_or(CommandFault::Usage)?;
     if lines.is_empty() {
         return Err(CommandFault::Usage);
     }

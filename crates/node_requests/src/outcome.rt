@@ -18,10 +18,7 @@ use std::alloc::AllocError;
 fn counts_read(bytes: &[u8]) -> bool
     ensures { result ≡ counts_read (reading bytes.now) }
 {
-    match decode(bytes) {
-        Ok(entry) => is_counted(&entry.command),
-        Err(_) => false,
-    }
+    decode(bytes).is_ok_and(|entry| is_counted(&entry.command))
 }
 
 /// The same of the command at a position.
@@ -29,10 +26,8 @@ fn counts_read(bytes: &[u8]) -> bool
 fn counts_at<R: Records>(node: &Node<R>, position: u32) -> bool
     ensures { result ≡ counts_in (learned_by node.now position) }
 {
-    match node.learned(position) {
-        Some(bytes) => counts_read(bytes),
-        None => false,
-    }
+    node.learned(position)
+        .is_some_and(|bytes| counts_read(bytes))
 }
 
 /// Puts an outcome behind the text.

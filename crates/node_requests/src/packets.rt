@@ -25,7 +25,7 @@ fn verdicts(alloc: Global, config: &Config, packets: &[&str]) -> Result<Answer, 
             }
         }
     }
-    Ok(Answer { code: 200, body })
+    Ok(Answer::shown(body))
 }
 
 /// The same of as many packets as meet at most [`crate::MET_MAX`] rules together: 88 where one may meet more.

@@ -10,15 +10,15 @@ use pf_command::CommandArguments;
 use pf_entry::decode;
 use pf_node::Node;
 use px_records::Records;
-use std::alloc::{AllocError, Global};
+use std::alloc::AllocError;
 
 /// Puts the arguments of the command that bytes spell behind the text, with a blank before them.
-fn push_words(alloc: Global, out: &mut String, bytes: &[u8]) -> Result<(), AllocError>
+fn push_words(out: &mut String, bytes: &[u8]) -> Result<(), AllocError>
     ensures { OnOk result (string_bytes out.new ≡ string_bytes out.old ++ words_read (reading bytes.now)) }
 {
     match decode(bytes) {
         Ok(view) => {
-            let entry = view.to_entry(alloc)?;
+            let entry = view.to_entry(*out.allocator())?;
             write!(out, " {}", CommandArguments(&entry.command))
         }
         Err(_) => Ok(()),
@@ -36,8 +36,7 @@ fn push_behind(out: &mut String, outcome: &str) -> Result<(), AllocError>
 }
 
 /// Puts the line of a position behind the text.
-pub fn push_position<R: Records>(
-    alloc: Global,
+pub(crate) fn push_position<R: Records>(
     out: &mut String,
     node: &Node<R>,
     position: u32,
@@ -45,13 +44,13 @@ pub fn push_position<R: Records>(
     ensures { OnOk result (string_bytes out.new ≡ string_bytes out.old
         ++ log_line (learned_by node.now) (applied_of node.now) (kept_of node.now) position) }
 {
-    let mut outcome = String::new(alloc);
+    let mut outcome = String::new(*out.allocator());
     push_outcome(&mut outcome, node, position)?;
     match node.entry(position) {
         Some(entry) => {
             let (origin, number) = (entry.origin(), entry.number());
             write!(out, "{position} {origin}.{number}")?;
-            push_words(alloc, out, entry.bytes())?;
+            push_words(out, entry.bytes())?;
             push_behind(out, outcome.as_str())
         }
         None => Ok(()),
@@ -60,7 +59,6 @@ pub fn push_position<R: Records>(
 
 /// Puts the lines of the last `count` positions before an end behind the text.
 pub fn push_positions<R: Records>(
-    alloc: Global,
     out: &mut String,
     node: &Node<R>,
     end: u32,
@@ -72,7 +70,7 @@ pub fn push_positions<R: Records>(
 {
     let mut left = count;
     while left > 0 {
-        push_position(alloc, out, node, end - left)?;
+        push_position(out, node, end - left)?;
         left -= 1;
     }
     Ok(())

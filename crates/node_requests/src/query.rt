@@ -47,15 +47,8 @@ pub(crate) fn number_in(text: &str) -> Option<u64>
 fn position_in(text: &str) -> Option<u32>
     ensures { result ≡ position_in text.now }
 {
-    match number_in(text) {
-        Some(number) => {
-            if number > POSITIONS {
-                return None;
-            }
-            Some(number as u32)
-        }
-        None => None,
-    }
+    let number = number_in(text)?;
+    (number <= POSITIONS).then(|| number as u32)
 }
 
 /// A parameter of a query, decoded.
@@ -81,10 +74,7 @@ pub(crate) fn parameters(alloc: Global, query: &str) -> Result<Vec<Parameter>, A
 fn is_value(name: &str, value: &str) -> bool
     ensures { result ≡ is_value name.now value.now }
 {
-    if name == "at" || name == "from" || name == "count" {
-        return position_in(value).is_some();
-    }
-    true
+    !(name == "at" || name == "from" || name == "count") || position_in(value).is_some()
 }
 
 /// Whether there is a parameter of this name.
@@ -136,8 +126,5 @@ pub(crate) fn value_of<'a>(name: &str, given: &'a [Parameter]) -> Option<&'a str
 pub(crate) fn position_of(name: &str, given: &[Parameter]) -> Option<u32>
     ensures { result ≡ position_of name.now (pairs_of given.now) }
 {
-    match value_of(name, given) {
-        Some(value) => position_in(value),
-        None => None,
-    }
+    position_in(value_of(name, given)?)
 }

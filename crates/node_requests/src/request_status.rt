@@ -15,26 +15,14 @@ use std::alloc::{AllocError, Global};
 fn is_accepted(accepted: Option<(u64, u64)>, number: u64) -> bool
     ensures { result ≡ is_accepted accepted number }
 {
-    match accepted {
-        Some((first, last)) => first <= number && number <= last,
-        None => false,
-    }
+    accepted.is_some_and(|(first, last)| first <= number && number <= last)
 }
 
 /// It waits.
 fn waiting(alloc: Global) -> Result<Answer, AllocError>
     ensures { IfOk result (λ a. answer_value a ≡ waiting) }
 {
-    let body = String::from_str(alloc, "waiting\n")?;
-    Ok(Answer { code: 200, body })
-}
-
-/// Nothing is known of it.
-fn unknown(alloc: Global) -> Result<Answer, AllocError>
-    ensures { IfOk result (λ a. answer_value a ≡ unknown) }
-{
-    let body = String::from_str(alloc, "unknown\n")?;
-    Ok(Answer { code: 404, body })
+    Answer::of(alloc, 200, "waiting\n")
 }
 
 /// What became of a request: `applied`, its position and what came of it where that is applied, `waiting` where it is
@@ -56,13 +44,13 @@ pub(crate) fn request_status<R: Records>(
             let mut body = String::new(alloc);
             writeln!(body, "applied {position}")?;
             push_outcome(&mut body, node, position)?;
-            Ok(Answer { code: 200, body })
+            Ok(Answer::shown(body))
         }
         None => {
             if origin == node.membership().me() && is_accepted(accepted, number) {
                 return waiting(alloc);
             }
-            unknown(alloc)
+            Answer::of(alloc, 404, "unknown\n")
         }
     }
 }

@@ -63,18 +63,9 @@ fn lines_in(alloc: Global, body: &[u8]) -> Result<Option<Vec<&str>>, AllocError>
 fn request_number(text: &str) -> Option<(u8, u64)>
     ensures { result ≡ request_number text.now }
 {
-    let Some((origin, number)) = text.split_once('.') else {
-        return None;
-    };
-    match (number_in(origin), number_in(number)) {
-        (Some(origin), Some(number)) => {
-            if origin > 255 {
-                return None;
-            }
-            Some((origin as u8, number))
-        }
-        _ => None,
-    }
+    let (origin, number) = text.split_once('.')?;
+    let (origin, number) = (number_in(origin)?, number_in(number)?);
+    (origin <= 255).then(|| (origin as u8, number))
 }
 
 /// A change: its arguments are the first line, the text is what is behind it.
@@ -85,8 +76,7 @@ fn change_in<'a>(alloc: Global, body: &[u8]) -> Result<Routed<'a>, AllocError>
     let Some(rest) = words_in(alloc, line)? else {
         return Ok(Routed::Unread(USAGE));
     };
-    let mut words = Vec::new(alloc);
-    words.push("pfctl")?;
+    let mut words = vec![in alloc; "pfctl"]?;
     words.extend_from_slice(&rest)?;
     match read_change(alloc, &words, text) {
         Ok(command) => Ok(Routed::Asked(Request::Change(command))),
@@ -100,10 +90,7 @@ fn entry_in<'a>(alloc: Global, body: &[u8]) -> Result<Routed<'a>, AllocError>
     ensures { IfOk result (λ r. routed_value r ≡ entry_asked body.now) }
 {
     match decode(body) {
-        Ok(view) => {
-            let entry = view.to_entry(alloc)?;
-            Ok(Routed::Asked(Request::Change(entry.command)))
-        }
+        Ok(view) => Ok(Routed::Asked(Request::Change(view.to_entry(alloc)?.command))),
         Err(fault) => Ok(Routed::Unread(fault.code())),
     }
 }
@@ -128,10 +115,7 @@ fn lists<'a>(
 {
     match asked {
         Ok(action) => Ok(reads(given, Read::List(action))),
-        Err(fault) => match fault.code() {
-            Some(code) => Ok(Routed::Unread(code)),
-            None => Err(AllocError),
-        },
+        Err(fault) => Ok(Routed::Unread(fault.code().ok_or(AllocError)?)),
     }
 }
 
@@ -139,10 +123,8 @@ fn lists<'a>(
 fn table_test_in(alloc: Global, given: &[Parameter], body: &[u8]) -> Result<Action, CommandFault>
     ensures { Answers result (looked_up (pairs_of given.now) (lines_in body.now)) }
 {
-    match lines_in(alloc, body)? {
-        Some(lines) => table_test(alloc, given, &lines),
-        None => Err(CommandFault::Usage),
-    }
+    let lines = lines_in(alloc, body)?.ok_or(CommandFault::Usage)?;
+    table_test(alloc, given, &lines)
 }
 
 /// The verdicts for a line's packet each.
@@ -158,23 +140,6 @@ fn test_in<'a>(alloc: Global, given: &[Parameter], body: &'a [u8]) -> Result<Rou
     Ok(reads(given, Read::Test { packets }))
 }
 
-/// The log from a position on.
-fn log_in<'a>(given: &[Parameter]) -> Routed<'a>
-    ensures { routed_value result ≡ log_asked (pairs_of given.now) }
-{
-    let from = position_of("from", given);
-    reads(given, Read::Log { from })
-}
-
-/// The entries from a position on.
-fn entries_in<'a>(given: &[Parameter]) -> Routed<'a>
-    ensures { routed_value result ≡ entries_asked (pairs_of given.now) }
-{
-    let from = position_of("from", given);
-    let count = position_of("count", given);
-    reads(given, Read::Entries { from, count })
-}
-
 /// What a path asks for, of its parameters and the body.
 fn asked_at<'a>(
     alloc: Global,
@@ -185,6 +150,8 @@ fn asked_at<'a>(
 ) -> Result<Routed<'a>, AllocError>
     ensures { IfOk result (λ r. routed_value r ≡ asked_at target (pairs_of given.now) body.now json) }
 {
+    let from = position_of("from", given);
+    let count = position_of("count", given);
     match target {
         Target::Changes => change_in(alloc, body),
         Target::Entry => entry_in(alloc, body),
@@ -194,8 +161,8 @@ fn asked_at<'a>(
         Target::Table => lists(given, table(alloc, given)),
         Target::TableTest => lists(given, table_test_in(alloc, given, body)),
         Target::Test => test_in(alloc, given, body),
-        Target::Log => Ok(log_in(given)),
-        Target::Entries => Ok(entries_in(given)),
+        Target::Log => Ok(reads(given, Read::Log { from })),
+        Target::Entries => Ok(reads(given, Read::Entries { from, count })),
         Target::Status => Ok(reads(given, Read::Status { json })),
         Target::Health => Ok(reads(given, Read::Health)),
         Target::Ready => Ok(reads(given, Read::Ready)),
