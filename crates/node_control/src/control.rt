@@ -431,20 +431,10 @@ impl ControlSocket {
         RT: Files + Net<Listener = TcpListener, Stream = TcpStream>,
         ensures { IfOk result (IsOpened figures) }
     {
-        let Ok(poll) = Poll::new(rt) else {
-            return Err(ControlFault::NoSocket);
-        };
-        let Ok(events) = Events::with_capacity(alloc, EVENTS) else {
-            return Err(ControlFault::Memory);
-        };
-        let figures = match open_figures(rt, alloc, &keys, &poll, figures) {
-            Ok(figures) => figures,
-            Err(fault) => return Err(fault),
-        };
-        let operators = match open_path(rt, alloc, keys, &poll, path) {
-            Ok(operators) => operators,
-            Err(fault) => return Err(fault),
-        };
+        let poll = Poll::new(rt).map_err(|_| ControlFault::NoSocket)?;
+        let events = Events::with_capacity(alloc, EVENTS).map_err(|_| ControlFault::Memory)?;
+        let figures = open_figures(rt, alloc, &keys, &poll, figures)?;
+        let operators = open_path(rt, alloc, keys, &poll, path)?;
         Ok(ControlSocket {
             operators,
             figures,
@@ -593,10 +583,7 @@ fn open_path<RT: Files + Net>(
     if !free(rt, path) {
         return Err(ControlFault::NoSocket);
     }
-    let listener = match listen(rt, alloc, path) {
-        Ok(listener) => listener,
-        Err(error) => return Err(fault_of(&error)),
-    };
+    let listener = listen(rt, alloc, path).map_err(|error| fault_of(&error))?;
     if watch(poll, listener.raw_fd()).is_err() {
         let _gone = fs::remove_file(rt, path);
         return Err(ControlFault::NoSocket);
@@ -625,17 +612,11 @@ where
     let Some(address) = address else {
         return Ok(None);
     };
-    let Ok(keys) = keys.clone() else {
-        return Err(ControlFault::Memory);
-    };
-    let Ok(listener) = listen_at(rt, address) else {
-        return Err(ControlFault::NoPort);
-    };
+    let keys = keys.clone().map_err(|_| ControlFault::Memory)?;
+    let listener = listen_at(rt, address).map_err(|_| ControlFault::NoPort)?;
     if watch(poll, listener.raw_fd()).is_err() {
         return Err(ControlFault::NoPort);
     }
-    match Entrance::new(alloc, keys, listener, FIGURE_CLIENTS) {
-        Ok(entrance) => Ok(Some(entrance)),
-        Err(AllocError) => Err(ControlFault::Memory),
-    }
+    let entrance = Entrance::new(alloc, keys, listener, FIGURE_CLIENTS);
+    Ok(Some(entrance.map_err(|_| ControlFault::Memory)?))
 }

@@ -74,14 +74,8 @@ fn proposed_then(
     ensures { result ≡ proposed_then front now proposal was }
 {
     match proposal {
-        Some(position) => {
-            if front <= position {
-                Some((position, now))
-            } else {
-                was
-            }
-        }
-        None => was,
+        Some(position) if front <= position => Some((position, now)),
+        _ => was,
     }
 }
 
@@ -89,10 +83,7 @@ fn proposed_then(
 fn is_proposed(front: u32, now: u64, proposed: Option<(u32, u64)>) -> bool
     ensures { result ≡ is_proposed front now proposed }
 {
-    match proposed {
-        Some((position, at)) => front <= position && now.saturating_sub(at) < PROPOSED,
-        None => false,
-    }
+    proposed.is_some_and(|(position, at)| front <= position && now.saturating_sub(at) < PROPOSED)
 }
 
 /// Since when commands have waited while the front didn't move.
@@ -105,20 +96,14 @@ fn stood_since(has_moved: bool, waits: bool, since: Option<u64>, now: u64) -> Op
     if has_moved {
         return Some(now);
     }
-    match since {
-        Some(since) => Some(since),
-        None => Some(now),
-    }
+    Some(since.unwrap_or(now))
 }
 
 /// How many whole seconds have passed since then.
 fn seconds_since(since: Option<u64>, now: u64) -> u64
     ensures { result ≡ seconds_since since now }
 {
-    match since {
-        Some(since) => now.saturating_sub(since) / 1_000_000,
-        None => 0,
-    }
+    since.map_or(0, |since| now.saturating_sub(since) / 1_000_000)
 }
 
 /// Keeps what members have shown by now.
@@ -167,10 +152,7 @@ impl Row {
         let [_, _, shown] = self.earlier;
         PeerCounters {
             node: self.node,
-            heard: match self.heard {
-                Some(_) => Some(seconds_since(self.heard, now)),
-                None => None,
-            },
+            heard: self.heard.map(|_| seconds_since(self.heard, now)),
             datagrams_in: self.datagrams_in,
             datagrams_out: self.datagrams_out,
             shown,

@@ -62,10 +62,8 @@ fn content_type(request: &Request) -> &'static str
 fn accepts_json(request: &http::Request<Bytes>) -> bool
     ensures { result ≡ accepts_json request.now }
 {
-    match request.headers().get("accept") {
-        Some(value) => value.as_bytes() == b"application/json".as_slice(),
-        None => false,
-    }
+    let accept = request.headers().get("accept");
+    accept.is_some_and(|value| value.as_bytes() == b"application/json".as_slice())
 }
 
 /// Whether the path is one of figures.
@@ -90,10 +88,7 @@ fn is_urgent(request: &Request) -> bool
 fn is_change(request: &Request) -> bool
     ensures { result ≡ is_change request.now }
 {
-    match request {
-        Request::Change(_) => true,
-        Request::Read { .. } | Request::Stop => false,
-    }
+    matches!(request, Request::Change(_))
 }
 
 /// Adds a field.
@@ -108,12 +103,8 @@ fn add_text(
     ensures status { OnOk result (response.new.status ≡ response.old.status) }
     ensures body { OnOk result (response.new.body.items ≡ response.old.body.items) }
 {
-    let Ok(name) = HeaderName::from_bytes(alloc, name) else {
-        return Err(AllocError);
-    };
-    let Ok(value) = HeaderValue::from_str(alloc, text) else {
-        return Err(AllocError);
-    };
+    let name = HeaderName::from_bytes(alloc, name).map_err(|_| AllocError)?;
+    let value = HeaderValue::from_str(alloc, text).map_err(|_| AllocError)?;
     response.add_header(name, value)
 }
 
@@ -137,10 +128,7 @@ fn add_number(
 fn query_of(uri: &Uri) -> &str
     ensures { result.now ≡ unwrap_or (uri_query uri.now) [] }
 {
-    match uri.query() {
-        Some(query) => query,
-        None => "",
-    }
+    uri.query().unwrap_or("")
 }
 
 /// What a request asks for.
@@ -178,16 +166,7 @@ impl<R: Records> HttpService<R> {
     pub(crate) fn close(self) -> Node<R>
         ensures { result ≡ self.handler.node }
     {
-        let HttpService {
-            handler,
-            counters: _,
-            is_listening: _,
-            changes_left: _,
-            is_scraped: _,
-            is_spare: _,
-            answered: _,
-            alloc: _,
-        } = self;
+        let HttpService { handler, .. } = self;
         handler.close()
     }
 
@@ -230,10 +209,7 @@ impl<R: Records> HttpService<R> {
         ensures status { OnOk result (response.new.status ≡ answer.now.code) }
         ensures body { OnOk result (response.new.body.items ≡ string_bytes answer.now.body) }
     {
-        let Ok(status) = StatusCode::from_u16(answer.code) else {
-            return Err(AllocError);
-        };
-        response.status = status;
+        response.status = StatusCode::from_u16(answer.code).map_err(|_| AllocError)?;
         self.add_fields(answer.code, kind, response)?;
         response.body.put_slice(answer.body.as_bytes())
     }
