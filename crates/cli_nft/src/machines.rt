@@ -1,6 +1,6 @@
 //! The interfaces of a machine as a file lists them.
 
-ghost use Rattle.std.specs.Prelude.{◌≡◌, ◌∷◌, IfOk, Some, None, map, option_map, if◌then◌else◌};
+ghost use Rattle.std.specs.Prelude.{◌≡◌, IfOk, Some, None, map, option_map, if◌then◌else◌};
 ghost use Rattle.std.specs.List.{list_any};
 ghost use Rattle.std.specs.Str.{bytes_eq};
 ghost use Rattle.nft_rules.specs.Rendering.{known};
@@ -43,40 +43,26 @@ fn names_of(alloc: Global, words: &[&[u8]]) -> Result<Option<Vec<InterfaceName>>
     Ok(Some(names))
 }
 
-/// Puts an interface of this name and in these groups behind the machine's, if it may have one more.
-fn push_interface(
-    machine: &mut Vec<MachineInterface>,
-    name: InterfaceName,
-    groups: Vec<InterfaceName>,
-) -> Result<bool, AllocError>
+/// Puts what a line lists behind the machine's interfaces; false where it isn't as it should be, or the machine may not
+/// have one more of that name.
+fn push_line(machine: &mut Vec<MachineInterface>, line: &[u8]) -> Result<bool, AllocError>
     ensures { IfOk result (λ b. (if b then Some (machine_of machine.new.items) else None)
-        ≡ with_names (machine_of machine.old.items) (Some (name ∷ groups.items))) }
+        ≡ with_names (machine_of machine.old.items) (names_if (words line.now))) }
 {
+    let alloc = *machine.allocator();
+    let words = words_between_blanks(alloc, line)?;
+    let Some(mut groups) = names_of(alloc, &words)? else {
+        return Ok(false);
+    };
+    if groups.is_empty() {
+        return Ok(true);
+    }
+    let name = groups.remove(0);
     if machine.len() >= INTERFACES_MAX || is_known(machine, name.as_bytes()) {
         return Ok(false);
     }
     machine.push(MachineInterface { name, groups })?;
     Ok(true)
-}
-
-/// Puts what a line lists behind the machine's interfaces; false where it isn't as it should be.
-fn push_line(
-    alloc: Global,
-    machine: &mut Vec<MachineInterface>,
-    line: &[u8],
-) -> Result<bool, AllocError>
-    ensures { IfOk result (λ b. (if b then Some (machine_of machine.new.items) else None)
-        ≡ with_names (machine_of machine.old.items) (names_if (words line.now))) }
-{
-    let words = words_between_blanks(alloc, line)?;
-    let Some(mut names) = names_of(alloc, &words)? else {
-        return Ok(false);
-    };
-    if names.is_empty() {
-        return Ok(true);
-    }
-    let name = names.remove(0);
-    push_interface(machine, name, names)
 }
 
 /// The machine that a string lists, a line an interface: its name and then its groups, between blanks. None where a
@@ -88,7 +74,7 @@ pub fn machine_in(alloc: Global, text: &[u8]) -> Result<Option<Vec<MachineInterf
     let mut machine = Vec::new(alloc);
     let mut left = text;
     while let Some((line, rest)) = cut_line(left) {
-        if !push_line(alloc, &mut machine, line.content)? {
+        if !push_line(&mut machine, line.content)? {
             return Ok(None);
         }
         left = rest;

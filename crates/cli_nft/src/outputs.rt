@@ -1,14 +1,11 @@
 //! What `check --nft` and `show --nft` write.
 
-ghost use Rattle.std.specs.Prelude.{◌≡◌, ◌++◌, [], Some, IfOk, option_map, string_bytes};
-ghost use Rattle.pf_rules.specs.Rulesets.{ruleset_of};
-ghost use Rattle.pf_config.specs.Changes.{load_ruleset};
-ghost use Rattle.pf_command.specs.Effect.{empty};
+ghost use Rattle.std.specs.Prelude.{◌≡◌, Some, IfOk, option_map};
 ghost use Rattle.nft_rules.specs.Seen.{machine_of};
 ghost use Rattle.pf_grammar.specs.Reading.{reading};
 ghost use Rattle.pf_grammar.specs.declared.place.Place.TheVariants.{Main};
 ghost use Rattle.pf_rules.specs.declared.profile.Profile.TheVariants.{Two};
-ghost use Rattle.cli_nft.specs.Outputs.{refused, refused_at, written_lines, rendered_of};
+ghost use Rattle.cli_nft.specs.Outputs.{refused, refused_at, written_lines};
 ghost use Rattle.cli_nft.specs.Outputs.{loaded_of, output, config_output};
 ghost use Rattle.cli_nft.specs.Seen.{written};
 ghost use Rattle.nft_text.specs.Loading.{rendered_lines};
@@ -16,10 +13,10 @@ ghost use Rattle.nft_text.specs.Loading.{rendered_lines};
 use crate::machines::machine_in;
 use cli_io::{BAD_INTERFACES, INVALID_ARGUMENTS};
 use nft_rules::{MachineInterface, Member};
-use nft_text::{Transactions, rendered_lines};
+use nft_text::rendered_lines;
 use pf_config::Config;
 use pf_grammar::{ParseFault, Place, Profile, parse};
-use pf_rules::{Path, Ruleset};
+use pf_rules::Path;
 use std::alloc::{AllocError, Global};
 
 /// All that is to be written, and whether it is a refusal.
@@ -53,15 +50,6 @@ fn refused_at(alloc: Global, code: u8, line: u64) -> Result<Written, AllocError>
     })
 }
 
-/// All lines.
-fn all_lines(lines: Transactions) -> Result<String, AllocError>
-    ensures { IfOk result (λ text. string_bytes text ≡ string_bytes lines.load ++ string_bytes lines.end) }
-{
-    let mut text = lines.load;
-    text.push_str(lines.end.as_str())?;
-    Ok(text)
-}
-
 /// The lines of a configuration.
 fn written_lines(
     alloc: Global,
@@ -74,33 +62,19 @@ fn written_lines(
         ≡ written_lines (rendered_lines config.now (machine_of machine.now) members.now position)) }
 {
     match rendered_lines(alloc, config, machine, members, position) {
-        Ok(lines) => Ok(Written {
-            text: all_lines(lines)?,
-            refused: false,
-        }),
+        Ok(lines) => {
+            let mut text = lines.load;
+            text.push_str(lines.end.as_str())?;
+            Ok(Written {
+                text,
+                refused: false,
+            })
+        }
         Err(fault) => refused(alloc, fault.code().ok_or(AllocError)?),
     }
 }
 
-/// The ruleset is loaded as the main one of an empty configuration.
-fn rendered_of(
-    alloc: Global,
-    rules: Ruleset,
-    machine: &[MachineInterface],
-    members: &[Member],
-    position: u32,
-) -> Result<Written, AllocError>
-    ensures { IfOk result (λ w. written w ≡ rendered_of (machine_of machine.now) members.now position
-        (load_ruleset empty [] (ruleset_of rules))) }
-{
-    let mut config = Config::new(alloc)?;
-    match config.load(&Path::main(alloc), rules) {
-        Ok(()) => written_lines(alloc, &config, machine, members, position),
-        Err(fault) => refused(alloc, fault.code().ok_or(AllocError)?),
-    }
-}
-
-/// What is written for a machine over this input.
+/// What is written for a machine over this input, whose ruleset is loaded as the main one of an empty configuration.
 fn loaded_of(
     alloc: Global,
     machine: &[MachineInterface],
@@ -111,12 +85,17 @@ fn loaded_of(
     ensures { IfOk result (λ w. written w ≡ loaded_of (machine_of machine.now) members.now position
         (reading Main Two input.now)) }
 {
-    match parse(alloc, input, Place::Main, Profile::Two) {
-        Ok(rules) => rendered_of(alloc, rules, machine, members, position),
-        Err(ParseFault::Memory) => Err(AllocError),
+    let rules = match parse(alloc, input, Place::Main, Profile::Two) {
+        Ok(rules) => rules,
+        Err(ParseFault::Memory) => return Err(AllocError),
         Err(ParseFault::Refused(refusal)) => {
-            refused_at(alloc, refusal.cause.code(), refusal.line)
+            return refused_at(alloc, refusal.cause.code(), refusal.line);
         }
+    };
+    let mut config = Config::new(alloc)?;
+    match config.load(&Path::main(alloc), rules) {
+        Ok(()) => written_lines(alloc, &config, machine, members, position),
+        Err(fault) => refused(alloc, fault.code().ok_or(AllocError)?),
     }
 }
 

@@ -4,7 +4,7 @@ ghost use Rattle.std.specs.Prelude.{◌≡◌, IfOk, IfSome, map, option_map, by
 ghost use Rattle.std.specs.List.{list_any};
 ghost use Rattle.clap.specs.Words.{found_of, rows_of, first_of};
 ghost use Rattle.cli_io.specs.Sources.{IsAt};
-ghost use Rattle.cli_nft.specs.Options.{given_of, members_named, position_named};
+ghost use Rattle.cli_nft.specs.Options.{given_of};
 ghost use Rattle.cli_nft.specs.Running.{asks_nft, Wrote, Ran};
 
 use crate::members::members_in;
@@ -39,13 +39,6 @@ pub fn asks_nft<S: AsStr>(arguments: &[S]) -> bool
     }
 }
 
-/// The position that is given, 0 without one.
-fn position_in(inner: &ArgMatches<'_>) -> u32
-    ensures { result ≡ position_named (rows_of (found_of inner.now)) }
-{
-    number_in(inner, "position").unwrap_or(0)
-}
-
 /// The text of the file of interfaces, none where it can't be read.
 fn interfaces_in<T: Sources>(
     sources: &T,
@@ -59,13 +52,6 @@ fn interfaces_in<T: Sources>(
         Some(path) => read_file(sources, alloc, path),
         None => Ok(None),
     }
-}
-
-/// The members that are given, none where they are no members of a cluster.
-fn members_of(alloc: Global, inner: &ArgMatches<'_>) -> Result<Option<Vec<Member>>, AllocError>
-    ensures { IfOk result (λ o. option_map (λ v. v.items) o ≡ members_named (rows_of (found_of inner.now))) }
-{
-    members_in(alloc, values_in(inner, "members"))
 }
 
 /// The text at a path, none where it can't be read or is longer than an input may be.
@@ -133,13 +119,19 @@ pub fn run_nft<T: Sources, S: AsStr, R: Read, W: Write>(
     let Some(inner) = given_in(&matches, "check") else {
         return Status::Usage;
     };
-    let Ok(members) = members_of(alloc, inner) else {
+    let Ok(members) = members_in(alloc, values_in(inner, "members")) else {
         return out_of_memory(writer);
     };
-    let (named, position) = (members.as_deref(), position_in(inner));
-    match interfaces_in(sources, alloc, inner) {
-        Ok(Some(text)) => answer(alloc, Some(&text), named, position, reader, writer),
-        Ok(None) => answer(alloc, None, named, position, reader, writer),
-        Err(_) => out_of_memory(writer),
-    }
+    let Ok(file) = interfaces_in(sources, alloc, inner) else {
+        return out_of_memory(writer);
+    };
+    let position = number_in(inner, "position").unwrap_or(0);
+    answer(
+        alloc,
+        file.as_deref(),
+        members.as_deref(),
+        position,
+        reader,
+        writer,
+    )
 }
