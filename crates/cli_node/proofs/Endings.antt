@@ -200,6 +200,16 @@ some_of (Some y) x true h e = refl
 some_of (Some y) x false h e = let t : IsTrue false = h.0 refl in absurd cc
 
 -- the numbers are the first that is asked
+-- what is refused first, by the steps in which it is found
+pub checked_by : (place key other store starts addresses control sockets wired files keys rest all : Outcome) →
+    sockets ≡ first_of addresses control → wired ≡ first_of starts sockets → files ≡ first_of store wired →
+    keys ≡ first_of key other → rest ≡ first_of keys files → all ≡ first_of place rest →
+    all ≡ checked place (first_of key other) store starts addresses control
+checked_by place key other store starts addresses control sockets wired files keys rest all e1 e2 e3 e4 e5 e6 =
+    e6 ∙ ap (λ (o : Outcome). first_of place o) (e5 ∙ (ap (λ (o : Outcome). first_of o files) e4
+    ∙ ap (λ (o : Outcome). first_of (first_of key other) o) (e3 ∙ ap (λ (o : Outcome). first_of store o)
+    (e2 ∙ ap (λ (o : Outcome). first_of starts o) e1))))
+
 pub place_first : (place keys store starts addresses control : Outcome) → place ≡ Refused 40 →
     checked place keys store starts addresses control ≡ Refused 40
 place_first place keys store starts addresses control e = ap (λ (o : Outcome). checked o keys store starts addresses control) e

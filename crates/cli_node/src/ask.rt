@@ -150,7 +150,7 @@ pub trait Client {
     ghost is_unreached: { Self → (to : List ℕ) → Type 0 };
 
     /// A wire to this address: 82 where there is none.
-    fn bind(&mut self, alloc: Global, to: &str) -> Result<Self::Wire, Outcome>
+    fn bind(&mut self, to: &str) -> Result<Self::Wire, Outcome>
         ensures refused { OnErr result ((result ≡ Err Memory) ⊎ ((result ≡ Err (Refused 82)) ×
             is_unreached self.old to.now)) }
         ensures reaches { IfOk result (reaches self.old to.now) }
@@ -171,12 +171,8 @@ impl Client for HostRuntime {
 
     ghost is_unreached = { λ _ _. ⊤ };
 
-    fn bind(
-        &mut self,
-        alloc: Global,
-        to: &str,
-    ) -> Result<UdpWire<UdpSocket, HostRuntime>, Outcome> {
-        match UdpWire::bind(&*self, alloc, &[to], CLIENT, WAIT_MS) {
+    fn bind(&mut self, to: &str) -> Result<UdpWire<UdpSocket, HostRuntime>, Outcome> {
+        match UdpWire::bind(&*self, self.alloc(), &[to], CLIENT, WAIT_MS) {
             Ok(wire) => Ok(wire),
             Err(BindFault::Memory) => Err(Outcome::Memory),
             Err(BindFault::NoSocket) => Err(Outcome::Refused(BAD_ADDRESS)),
@@ -243,7 +239,7 @@ pub(crate) fn ask_outcome<T: Sources, C: Client, R: Read>(
         Ok(command) => command,
         Err(outcome) => return outcome,
     };
-    match client.bind(alloc, arguments.to) {
+    match client.bind(arguments.to) {
         Ok(mut wire) => {
             let outcome = asked_over(alloc, arguments, &m, &command, &mut wire);
             client.close(wire);

@@ -10,7 +10,7 @@ ghost use Rattle.px_store.specs.Judging.{reopen_refusal};
 ghost use Rattle.px_store.specs.declared.formats.Format.{Format};
 ghost use Rattle.cli_node.specs.declared.outcome.Outcome.{Outcome};
 ghost use Rattle.cli_node.specs.declared.outcome.Outcome.TheVariants.{Memory, Refused, Sound};
-ghost use Rattle.cli_node.specs.Endings.{checked, first_of, is_beyond};
+ghost use Rattle.cli_node.specs.Endings.{first_of, is_beyond};
 ghost use Rattle.cli_node.specs.Places.{has_place};
 ghost use Rattle.cli_node.specs.Secrets.{IsNamed};
 ghost use Rattle.px_wire.specs.declared.membership.Membership.{Membership};
@@ -20,20 +20,17 @@ ghost use Rattle.cli_node.specs.Stores.{IsFit, IsFoundAt, IsSoundAt, IsStoreless
 use crate::database::{Databases, Inspection};
 use crate::faults::{log_closed, log_metrics, log_place, log_storeless, log_unknown};
 use crate::files::NodeFiles;
-use crate::key::key_in;
-use crate::node::{NodeArguments, figures_at, membership};
+use crate::node::{NodeArguments, NodeStart, figures_at, membership};
 use crate::outcome::Outcome;
-use crate::sealing::of_starts;
 use crate::sockets::{of_control, of_own_address};
-use crate::store::{Found, Opening, failed_outcome, found_at, identity_of, opening_of, untaken};
+use crate::store::{Found, Opening, failed_outcome, identity_of, opening_of, untaken};
 use cli_io::{BAD_ADDRESS, INVALID_ARGUMENTS, STORE_FAILED, Shown, open_regular};
 use node_loop::Membership;
 use px_store::examine;
 use sqlite::{Alter, Connection, Error, ErrorCode, File, FileStore};
 use sqlite_trees::store::Store;
-use std::alloc::Global;
 use std::fs::{Files, OpenFile};
-use std::io::{Eprint, Read};
+use std::io::Read;
 
 /// How a database begins.
 const HEAD: &[u8] = b"SQLite format 3\0";
@@ -48,45 +45,6 @@ fn first_of(one: Outcome, other: Outcome) -> Outcome
     }
 }
 
-/// What a start would be refused for, of what is refused of its numbers, its keys, its store, its starts, its addresses
-/// and its control socket: the first, in the order in which a start asks.
-fn checked(
-    place: Outcome,
-    keys: Outcome,
-    store: Outcome,
-    starts: Outcome,
-    addresses: Outcome,
-    control: Outcome,
-) -> Outcome
-    ensures { result ≡ checked place keys store starts addresses control }
-{
-    let sockets = first_of(addresses, control);
-    let files = first_of(store, first_of(starts, sockets));
-    first_of(place, first_of(keys, files))
-}
-
-/// What is refused of a store that is open; nothing is changed.
-#[tactic(auto, using(crate::proofs::Stores::by_fault, crate::proofs::Stores::sound))]
-fn judged<RT: Eprint, S: Alter>(
-    rt: &RT,
-    arguments: NodeArguments<'_, '_, '_>,
-    m: Membership,
-    conn: &mut Connection<S>,
-) -> Outcome
-    ensures store { (file new : Bool) → IsStoreless file new result }
-    ensures beyond { is_beyond false false result ≡ false }
-    ensures sound { HasCleanDisk (state S.Store conn.new) → result ≡ Sound → (f : Format) →
-        Began f (state S.Store conn.old) → reopen_refusal f (identity_at m) (state S.Store conn.old).now.trees ≡ None }
-    ensures known { result ≡ Sound → (f : Format) × Began f (state S.Store conn.old) }
-    ensures stop { HasCleanDisk (state S.Store conn.new) →
-        LeavesOld (state S.Store conn.old) (state S.Store conn.new) }
-{
-    match examine(conn, identity_of(m)) {
-        Ok(()) => Outcome::Sound,
-        Err(fault) => untaken(rt, arguments.store, m, fault, conn),
-    }
-}
-
 /// Whether a file begins as a database does, or has no byte, as a store has whose writes are all beside it.
 fn is_database<F: Files>(files: &F, path: &str) -> bool {
     let Ok(mut file) = open_regular(files, path) else {
@@ -98,142 +56,142 @@ fn is_database<F: Files>(files: &F, path: &str) -> bool {
     })
 }
 
-/// What is refused of a store that is there; nothing of one that a node has open, nor of one without its log of
-/// writes, which an opening makes.
-#[tactic(auto, using(crate::proofs::Stores::by_read, crate::proofs::Stores::by_memory, crate::proofs::Stores::refused_70, crate::proofs::Stores::sound))]
-fn looked_at<RT: Files + Eprint, I: Inspection>(
-    rt: &RT,
-    inspection: &mut I,
-    alloc: Global,
-    arguments: NodeArguments<'_, '_, '_>,
-    m: Membership,
-) -> Outcome
-    ensures store { (file new : Bool) → IsStoreless file new result }
-    ensures beyond { is_beyond false false result ≡ false }
-    ensures sound { result ≡ Sound → I.is_unseen inspection.old arguments.entry.store.now
-        ⊎ IsSoundAt ⟦<FileStore<File> as Store>⟧ (I.holds inspection.old arguments.entry.store.now) (identity_at m) }
-    ensures over { I.is_over inspection.old → I.is_over inspection.new }
-{
-    if !is_database(rt, arguments.store) {
-        log_closed(rt, arguments.store, &"it isn't a database");
-        return Outcome::Refused(STORE_FAILED);
-    }
-    let Ok(lacks_log) = inspection.lacks_log(alloc, arguments.store) else {
-        return Outcome::Memory;
-    };
-    if lacks_log {
-        let _logged = eprintln!(rt;
-            "pfx: info: store {}: its write-ahead log (-wal) is missing, so its contents aren't checked",
-            Shown(arguments.store)
-        );
-        return Outcome::Sound;
-    }
-    match inspection.inspect(arguments.store) {
-        Ok(mut conn) => {
-            let outcome = judged(rt, arguments, m, &mut conn);
-            inspection.leave(conn);
-            outcome
+impl<F, D> NodeStart<'_, F, D> {
+    /// What is refused of a store that is open; nothing is changed.
+    #[tactic(auto, using(crate::proofs::Stores::by_fault, crate::proofs::Stores::sound))]
+    fn judged<S: Alter>(&self, m: Membership, conn: &mut Connection<S>) -> Outcome
+        ensures store { (file new : Bool) → IsStoreless file new result }
+        ensures beyond { is_beyond false false result ≡ false }
+        ensures sound { HasCleanDisk (state S.Store conn.new) → result ≡ Sound → (f : Format) →
+            Began f (state S.Store conn.old) →
+            reopen_refusal f (identity_at m) (state S.Store conn.old).now.trees ≡ None }
+        ensures known { result ≡ Sound → (f : Format) × Began f (state S.Store conn.old) }
+        ensures stop { HasCleanDisk (state S.Store conn.new) →
+            LeavesOld (state S.Store conn.old) (state S.Store conn.new) }
+    {
+        match examine(conn, identity_of(m)) {
+            Ok(()) => Outcome::Sound,
+            Err(fault) => untaken(self.rt, self.arguments.store, m, fault, conn),
         }
-        Err(Error::SqliteFailure(ErrorCode::DatabaseBusy)) => {
+    }
+
+    /// What is refused of a store that is there; nothing of one that a node has open, nor of one without its log of
+    /// writes, which an opening makes.
+    #[tactic(auto, using(crate::proofs::Stores::by_read, crate::proofs::Stores::by_memory, crate::proofs::Stores::refused_70, crate::proofs::Stores::sound))]
+    fn looked_at<I: Inspection>(&self, inspection: &mut I, m: Membership) -> Outcome
+        ensures store { (file new : Bool) → IsStoreless file new result }
+        ensures beyond { is_beyond false false result ≡ false }
+        ensures sound { result ≡ Sound → I.is_unseen inspection.old self.now.arguments.store.now
+            ⊎ IsSoundAt ⟦<FileStore<File> as Store>⟧ (I.holds inspection.old self.now.arguments.store.now)
+            (identity_at m) }
+        ensures over { I.is_over inspection.old → I.is_over inspection.new }
+    {
+        let rt = self.rt;
+        let store = self.arguments.store;
+        if !is_database(rt, store) {
+            log_closed(rt, store, &"it isn't a database");
+            return Outcome::Refused(STORE_FAILED);
+        }
+        let Ok(lacks_log) = inspection.lacks_log(rt.alloc(), store) else {
+            return Outcome::Memory;
+        };
+        if lacks_log {
             let _logged = eprintln!(rt;
-                "pfx: info: store {}: a node has it open, so it isn't checked",
-                Shown(arguments.store)
+                "pfx: info: store {}: its write-ahead log (-wal) is missing, so its contents aren't checked",
+                Shown(store)
             );
-            Outcome::Sound
+            return Outcome::Sound;
         }
-        Err(error) => failed_outcome(rt, arguments.store, error),
+        match inspection.inspect(store) {
+            Ok(mut conn) => {
+                let outcome = self.judged(m, &mut conn);
+                inspection.leave(conn);
+                outcome
+            }
+            Err(Error::SqliteFailure(ErrorCode::DatabaseBusy)) => {
+                let _logged = eprintln!(rt;
+                    "pfx: info: store {}: a node has it open, so it isn't checked",
+                    Shown(store)
+                );
+                Outcome::Sound
+            }
+            Err(error) => failed_outcome(rt, store, error),
+        }
+    }
+
+    /// What is refused of what is found where the arguments name a store.
+    #[tactic(auto, using(crate::proofs::Stores::by_opening, crate::proofs::Stores::sound))]
+    fn of_found<I: Inspection>(
+        &self,
+        inspection: &mut I,
+        m: Option<Membership>,
+        found: Found,
+    ) -> Outcome
+        ensures store { IsStoreless self.now.arguments.is_from_file self.now.arguments.is_new result }
+        ensures beyond { is_beyond false false result ≡ false }
+        ensures sound { result ≡ Sound → (owner : Membership) → m ≡ Some owner →
+            IsFit ⟦<FileStore<File> as Store>⟧ (I.is_unseen inspection.old self.now.arguments.store.now)
+            (I.holds inspection.old self.now.arguments.store.now) self.now.arguments.is_from_file
+            self.now.arguments.is_new found (identity_at owner) }
+        ensures over { I.is_over inspection.old → I.is_over inspection.new }
+    {
+        match opening_of(self.arguments.is_from_file, self.arguments.is_new, found) {
+            Opening::Makes => Outcome::Sound,
+            Opening::Opens => match m {
+                Some(m) => self.looked_at(inspection, m),
+                None => Outcome::Sound,
+            },
+            Opening::Refuses(code) => {
+                log_storeless(self.rt, self.arguments.store, code);
+                Outcome::Refused(code)
+            }
+        }
+    }
+
+    /// What is refused of the store that the arguments name, where this was found; none when out of memory.
+    #[tactic(auto, using(crate::proofs::Stores::by_memory))]
+    fn of_store<I: Inspection>(
+        &self,
+        inspection: &mut I,
+        m: Option<Membership>,
+        found: Option<Found>,
+    ) -> Outcome
+        ensures store { IsStoreless self.now.arguments.is_from_file self.now.arguments.is_new result }
+        ensures beyond { is_beyond false false result ≡ false }
+        ensures sound { result ≡ Sound → (owner : Membership) → m ≡ Some owner → (f : Found) × ((found ≡ Some f) ×
+            IsFit ⟦<FileStore<File> as Store>⟧ (I.is_unseen inspection.old self.now.arguments.store.now)
+            (I.holds inspection.old self.now.arguments.store.now) self.now.arguments.is_from_file
+            self.now.arguments.is_new f (identity_at owner)) }
+        ensures over { I.is_over inspection.old → I.is_over inspection.new }
+    {
+        match found {
+            Some(found) => self.of_found(inspection, m, found),
+            None => Outcome::Memory,
+        }
     }
 }
 
-/// What is refused of what is found where the arguments name a store.
-#[tactic(auto, using(crate::proofs::Stores::by_opening, crate::proofs::Stores::sound))]
-fn of_found<RT: Files + Eprint, I: Inspection>(
-    rt: &RT,
-    inspection: &mut I,
-    alloc: Global,
-    arguments: NodeArguments<'_, '_, '_>,
-    m: Option<Membership>,
-    found: Found,
-) -> Outcome
-    ensures store { IsStoreless arguments.entry.is_from_file arguments.entry.is_new result }
-    ensures beyond { is_beyond false false result ≡ false }
-    ensures sound { result ≡ Sound → (owner : Membership) → m ≡ Some owner →
-        IsFit ⟦<FileStore<File> as Store>⟧ (I.is_unseen inspection.old arguments.entry.store.now)
-        (I.holds inspection.old arguments.entry.store.now) arguments.entry.is_from_file arguments.entry.is_new found
-        (identity_at owner) }
-    ensures over { I.is_over inspection.old → I.is_over inspection.new }
-{
-    match opening_of(arguments.is_from_file, arguments.is_new, found) {
-        Opening::Makes => Outcome::Sound,
-        Opening::Opens => match m {
-            Some(m) => looked_at(rt, inspection, alloc, arguments, m),
-            None => Outcome::Sound,
-        },
-        Opening::Refuses(code) => {
-            log_storeless(rt, arguments.store, code);
-            Outcome::Refused(code)
+impl<F: NodeFiles, D> NodeStart<'_, F, D> {
+    /// What is refused of one key's file, if there is one.
+    fn of_key(&self, path: Option<&str>) -> Outcome
+        ensures why { (result ≡ Sound) ⊎ ((result ≡ Memory) ⊎ (result ≡ Refused 83)) }
+        ensures beyond { is_beyond (is_some path.entry) false result ≡ false }
+        ensures sound { result ≡ Sound → (key : Option (List ℕ)) × IsNamed
+            (F.makes self.now.files.now self.now.arguments.cluster (map (λ t. t.now) self.now.arguments.members.now))
+            (option_map (λ t. t.now) path.entry) key }
+    {
+        let Some(path) = path else {
+            return Outcome::Sound;
+        };
+        match self.key_in(path) {
+            Ok(_key) => Outcome::Sound,
+            Err(outcome) => outcome,
         }
-    }
-}
-
-/// What is refused of the store that the arguments name, where this was found; none when out of memory.
-#[tactic(auto, using(crate::proofs::Stores::by_memory))]
-fn of_store<RT: Files + Eprint, I: Inspection>(
-    rt: &RT,
-    inspection: &mut I,
-    alloc: Global,
-    arguments: NodeArguments<'_, '_, '_>,
-    m: Option<Membership>,
-    found: Option<Found>,
-) -> Outcome
-    ensures store { IsStoreless arguments.entry.is_from_file arguments.entry.is_new result }
-    ensures beyond { is_beyond false false result ≡ false }
-    ensures sound { result ≡ Sound → (owner : Membership) → m ≡ Some owner → (f : Found) × ((found ≡ Some f) ×
-        IsFit ⟦<FileStore<File> as Store>⟧ (I.is_unseen inspection.old arguments.entry.store.now)
-        (I.holds inspection.old arguments.entry.store.now) arguments.entry.is_from_file arguments.entry.is_new f
-        (identity_at owner)) }
-    ensures over { I.is_over inspection.old → I.is_over inspection.new }
-{
-    match found {
-        Some(found) => of_found(rt, inspection, alloc, arguments, m, found),
-        None => Outcome::Memory,
-    }
-}
-
-/// What is found of the store that the arguments name; none when out of memory.
-fn found_of<D: Databases>(dbs: &D, alloc: Global, path: &str) -> Option<Found>
-    ensures { IfSome result (IsFoundAt (D.is_seen dbs.now) path.now) }
-{
-    found_at(dbs, alloc, path).ok()
-}
-
-/// What is refused of the file of starts beside a store, where this was found; where none is, a start makes both or is
-/// refused for the store.
-fn starts_of(
-    rt: &HostRuntime,
-    alloc: Global,
-    arguments: NodeArguments<'_, '_, '_>,
-    m: Option<Membership>,
-    found: Option<Found>,
-) -> Outcome
-    ensures why { (result ≡ Sound) ⊎ ((result ≡ Memory) ⊎ (result ≡ Refused 95)) }
-    ensures beyond { is_beyond (is_some arguments.entry.key) false result ≡ false }
-{
-    match found {
-        Some(found) => {
-            let is_absent = matches!(found, Found::Nothing | Found::Empty);
-            of_starts(rt, alloc, arguments, m, is_absent)
-        }
-        None => Outcome::Memory,
     }
 }
 
 /// What is refused of the numbers that the arguments name.
-fn of_place(
-    rt: &HostRuntime,
-    arguments: NodeArguments<'_, '_, '_>,
-    m: Option<Membership>,
-) -> Outcome
+fn of_place(rt: &HostRuntime, arguments: NodeArguments<'_>, m: Option<Membership>) -> Outcome
     ensures none { m ≡ None → result ≡ Refused 40 }
     ensures some { (result ≡ Sound) ⊎ (result ≡ Refused 40) }
 {
@@ -246,31 +204,8 @@ fn of_place(
     }
 }
 
-/// What is refused of one key's file, if there is one.
-fn of_key<F: NodeFiles>(
-    rt: &HostRuntime,
-    files: &F,
-    alloc: Global,
-    arguments: NodeArguments<'_, '_, '_>,
-    path: Option<&str>,
-) -> Outcome
-    ensures why { (result ≡ Sound) ⊎ ((result ≡ Memory) ⊎ (result ≡ Refused 83)) }
-    ensures beyond { is_beyond (is_some path.entry) false result ≡ false }
-    ensures sound { result ≡ Sound → (key : Option (List ℕ)) × IsNamed
-        (F.makes files.now arguments.entry.cluster (map (λ t. t.now) arguments.entry.members.now))
-        (option_map (λ t. t.now) path.entry) key }
-{
-    let Some(path) = path else {
-        return Outcome::Sound;
-    };
-    match key_in(rt, files, alloc, arguments, path) {
-        Ok(_key) => Outcome::Sound,
-        Err(outcome) => outcome,
-    }
-}
-
 /// What is refused of the addresses that the arguments name.
-fn of_addresses(rt: &HostRuntime, arguments: NodeArguments<'_, '_, '_>) -> Outcome
+fn of_addresses(rt: &HostRuntime, arguments: NodeArguments<'_>) -> Outcome
     ensures { (result ≡ Sound) ⊎ (result ≡ Refused 82) }
 {
     if !log_unknown(rt, arguments) {
@@ -293,8 +228,7 @@ pub fn check_node<F: NodeFiles, D: Databases, I: Inspection>(
     files: &F,
     dbs: &D,
     inspection: &mut I,
-    alloc: Global,
-    arguments: NodeArguments<'_, '_, '_>,
+    arguments: NodeArguments<'_>,
 ) -> Outcome
     ensures place { has_place arguments.entry.me (length arguments.entry.members.now) ≡ false → result ≡ Refused 40 }
     ensures store { IsStoreless arguments.entry.is_from_file arguments.entry.is_new result }
@@ -314,21 +248,22 @@ pub fn check_node<F: NodeFiles, D: Databases, I: Inspection>(
         (identity_at m)))))) }
     ensures over { I.is_over inspection.old → I.is_over inspection.new }
 {
+    let start = NodeStart {
+        rt,
+        files,
+        dbs,
+        arguments,
+    };
     let m = membership(arguments);
     let place = of_place(rt, arguments, m);
-    let key = of_key(rt, files, alloc, arguments, arguments.key);
-    let other = of_key(rt, files, alloc, arguments, arguments.other_key);
-    let found = found_of(dbs, alloc, arguments.store);
-    let store = of_store(rt, inspection, alloc, arguments, m, found);
-    let starts = starts_of(rt, alloc, arguments, m, found);
+    let key = start.of_key(arguments.key);
+    let other = start.of_key(arguments.other_key);
+    let found = start.found_store();
+    let store = start.of_store(inspection, m, found);
+    let starts = start.of_starts(m, found);
     let addresses = of_addresses(rt, arguments);
-    let control = of_control(rt, alloc, arguments);
-    checked(
-        place,
-        first_of(key, other),
-        store,
-        starts,
-        addresses,
-        control,
-    )
+    let control = of_control(rt, arguments);
+    let sockets = first_of(addresses, control);
+    let beside = first_of(store, first_of(starts, sockets));
+    first_of(place, first_of(first_of(key, other), beside))
 }

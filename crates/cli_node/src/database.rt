@@ -158,11 +158,11 @@ fn files_at(rt: &HostRuntime, path: &str) -> Result<Files<File>, Error>
     }
 }
 
+/// A database in its file.
+pub(crate) type Opened = Connection<FileStore<File>>;
+
 /// Opens the database in a file as [`Connection::open`] does, or makes one there, of pages of 1,024 bytes.
-pub(crate) fn open_database(
-    rt: &HostRuntime,
-    path: &str,
-) -> Result<Connection<FileStore<File>>, Error>
+pub(crate) fn open_database(rt: &HostRuntime, path: &str) -> Result<Opened, Error>
     ensures memory { path.now ≡ codes ":memory:" → result ≡ Err (Error.SqliteFailure ErrorCode.CannotOpen) }
     ensures named { IfErr result (λ e. IsTrue (is_open_error e)) }
     ensures opened { IfOk result (λ c. HasCleanDisk (file_state c) → IsOpened c) }

@@ -4,10 +4,9 @@ use crate::faults::log_why;
 use crate::node::NodeArguments;
 use crate::outcome::Outcome;
 use cli_io::Shown;
-use std::alloc::Global;
 
 /// Logs that a node begins, and with what.
-pub(crate) fn log_start(rt: &HostRuntime, arguments: NodeArguments<'_, '_, '_>) {
+pub(crate) fn log_start(rt: &HostRuntime, arguments: NodeArguments<'_>) {
     if arguments.is_quiet {
         return;
     }
@@ -21,15 +20,10 @@ pub(crate) fn log_start(rt: &HostRuntime, arguments: NodeArguments<'_, '_, '_>) 
 }
 
 /// Logs how a node ends: a refusal as an error, else how far it came.
-pub(crate) fn log_end(
-    rt: &HostRuntime,
-    alloc: Global,
-    arguments: NodeArguments<'_, '_, '_>,
-    outcome: Outcome,
-) {
+pub(crate) fn log_end(rt: &HostRuntime, arguments: NodeArguments<'_>, outcome: Outcome) {
     match outcome {
         Outcome::Refused(code) => {
-            log_why(rt, alloc, arguments, code);
+            log_why(rt, arguments, code);
             let _logged = eprintln!(rt;
                 "pfx: error: node {} ends, refused {code} (pfx explain {code})",
                 arguments.me

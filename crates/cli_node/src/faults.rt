@@ -17,7 +17,6 @@ use cli_io::{
 use node_loop::Membership;
 use px_store::{AdoptFault, owner_in};
 use sqlite::{Alter, Connection};
-use std::alloc::Global;
 use std::fmt::Display;
 use std::fs::{self, Files, OpenOptions};
 use std::io::{self, Eprint, Error, ErrorKind};
@@ -120,7 +119,7 @@ pub(crate) fn log_judged<RT: Eprint, S: Alter>(
 }
 
 /// Logs which number isn't a member's.
-pub(crate) fn log_place(rt: &HostRuntime, arguments: NodeArguments<'_, '_, '_>) {
+pub(crate) fn log_place(rt: &HostRuntime, arguments: NodeArguments<'_>) {
     let _logged = eprintln!(rt;
         "pfx: error: node {} of {} members: a cluster has 1 to 15, numbered from 0",
         arguments.me,
@@ -129,7 +128,7 @@ pub(crate) fn log_place(rt: &HostRuntime, arguments: NodeArguments<'_, '_, '_>) 
 }
 
 /// Logs which of the members' addresses the system doesn't know, and which have no port. Whether none is such.
-pub(crate) fn log_unknown(rt: &HostRuntime, arguments: NodeArguments<'_, '_, '_>) -> bool {
+pub(crate) fn log_unknown(rt: &HostRuntime, arguments: NodeArguments<'_>) -> bool {
     let mut are_known = true;
     for member in arguments.members {
         match (*member).to_socket_addrs(rt) {
@@ -154,7 +153,7 @@ pub(crate) fn log_metrics(rt: &HostRuntime, figures: &str) {
 }
 
 /// Logs why there is no socket: of the members, or, if theirs can be opened, of metrics.
-fn log_unbound(rt: &HostRuntime, arguments: NodeArguments<'_, '_, '_>) {
+fn log_unbound(rt: &HostRuntime, arguments: NodeArguments<'_>) {
     let Some(own) = arguments.members.get(usize::from(arguments.me)) else {
         return;
     };
@@ -173,17 +172,17 @@ fn log_unbound(rt: &HostRuntime, arguments: NodeArguments<'_, '_, '_>) {
 }
 
 /// Logs why no control socket is created at a path.
-pub(crate) fn log_uncontrolled(rt: &HostRuntime, alloc: Global, path: &str) {
-    let tried = try_control(rt, alloc, path);
+fn log_uncontrolled(rt: &HostRuntime, path: &str) {
+    let tried = try_control(rt, path);
     log_cause(rt, "control socket", path, tried, &"the system refused it");
 }
 
 /// Why a file of starts can't be read, or written beside its place, as the system reports it; none where it can.
-fn why_unusable(rt: &HostRuntime, alloc: Global, path: &str, fault: RaiseFault) -> io::Result<()> {
+fn why_unusable(rt: &HostRuntime, path: &str, fault: RaiseFault) -> io::Result<()> {
     match fault {
         RaiseFault::Unread => open_regular(rt, path).map(drop),
         RaiseFault::Unwritten => {
-            let beside = format!(in alloc; "{path}-new")?;
+            let beside = format!(in rt.alloc(); "{path}-new")?;
             let _gone = fs::remove_file(rt, beside.as_str());
             let _made = make_private(rt, beside.as_str())?;
             fs::remove_file(rt, beside.as_str())
@@ -193,8 +192,8 @@ fn why_unusable(rt: &HostRuntime, alloc: Global, path: &str, fault: RaiseFault) 
 }
 
 /// Logs why a file of starts can't be used.
-pub(crate) fn log_unusable(rt: &HostRuntime, alloc: Global, path: &str, fault: RaiseFault) {
-    match why_unusable(rt, alloc, path, fault) {
+pub(crate) fn log_unusable(rt: &HostRuntime, path: &str, fault: RaiseFault) {
+    match why_unusable(rt, path, fault) {
         Ok(()) => log_error(rt, "starts", path, &fault),
         Err(error) => {
             let _logged = eprintln!(rt; "pfx: error: starts {}: {fault}: {error}", Shown(path));
@@ -203,24 +202,16 @@ pub(crate) fn log_unusable(rt: &HostRuntime, alloc: Global, path: &str, fault: R
 }
 
 /// Logs of which file or address a refusal is that ends a run.
-pub(crate) fn log_why(
-    rt: &HostRuntime,
-    alloc: Global,
-    arguments: NodeArguments<'_, '_, '_>,
-    code: u8,
-) {
+pub(crate) fn log_why(rt: &HostRuntime, arguments: NodeArguments<'_>, code: u8) {
+    let store = arguments.store;
     match code {
-        STORE_FAILED => log_closed(
-            rt,
-            arguments.store,
-            &"a change couldn't be written, or read",
-        ),
-        BAD_ROW => log_error(rt, "store", arguments.store, &"a bad row"),
+        STORE_FAILED => log_closed(rt, store, &"a change couldn't be written, or read"),
+        BAD_ROW => log_error(rt, "store", store, &"a bad row"),
         BAD_ADDRESS => if log_unknown(rt, arguments) {
             log_unbound(rt, arguments);
         },
         BAD_CONTROL_SOCKET => if let Some(control) = arguments.control {
-            log_uncontrolled(rt, alloc, control);
+            log_uncontrolled(rt, control);
         },
         _ => {}
     }

@@ -7,10 +7,7 @@ ghost use Rattle.cli_files.specs.Clusters.{IsClusterKey, IsKeyOfFile};
 use cli_files::{KeyFault, RaiseFault, raise_start, read_cluster_key};
 use node_loop::Membership;
 use px_packet::Start;
-use std::alloc::Global;
-use std::fs::Files;
-use std::random::RandomSource;
-use std::time::Clock;
+use std::io::Read;
 
 /// Where the files are of a node beside its store.
 pub trait NodeFiles {
@@ -22,52 +19,33 @@ pub trait NodeFiles {
     ghost raises: { Self → (path : List ℕ) → (n me : ℕ) → (may_be_made : Bool) → declared.Start → Type 0 };
 
     /// Reads the key of a cluster, by [`read_cluster_key`].
-    fn cluster_key(
-        &self,
-        alloc: Global,
-        path: &str,
-        cluster: u32,
-        members: &[&str],
-    ) -> Result<[u8; 32], KeyFault>
+    fn cluster_key(&self, path: &str, cluster: u32, members: &[&str]) -> Result<[u8; 32], KeyFault>
         ensures { IfOk result (makes self.now cluster (map (λ t. t.now) members.now) path.now) };
 
     /// Raises the start of the member, by [`raise_start`].
-    fn raise(
-        &self,
-        alloc: Global,
-        path: &str,
-        m: Membership,
-        may_be_made: bool,
-    ) -> Result<Start, RaiseFault>
+    fn raise(&self, path: &str, m: Membership, may_be_made: bool) -> Result<Start, RaiseFault>
         requires here { m.me < m.members }
         ensures { IfOk result (raises self.now path.now m.members m.me may_be_made) };
 }
 
-impl<R: Files + Clock + RandomSource> NodeFiles for R {
+impl NodeFiles for HostRuntime {
     // some file's secret makes it; no contract ties a file to its path
     ghost makes = { λ _ cluster members _ key. ((text : List ℕ) × IsClusterKey text cluster members key)
-        × IsKeyOfFile R.File.remaining cluster members key };
+        × IsKeyOfFile ⟦<std::fs::File as Read>⟧.remaining cluster members key };
 
     // the number of a start is from 1 on; no contract states what the system's files, clock and random source give
     ghost raises = { λ _ _ _ _ _ start. 0 < start.number };
 
     fn cluster_key(
         &self,
-        alloc: Global,
         path: &str,
         cluster: u32,
         members: &[&str],
     ) -> Result<[u8; 32], KeyFault> {
-        read_cluster_key(self, alloc, path, cluster, members)
+        read_cluster_key(self, self.alloc(), path, cluster, members)
     }
 
-    fn raise(
-        &self,
-        alloc: Global,
-        path: &str,
-        m: Membership,
-        may_be_made: bool,
-    ) -> Result<Start, RaiseFault> {
-        raise_start(self, alloc, path, m.members(), m.me(), may_be_made)
+    fn raise(&self, path: &str, m: Membership, may_be_made: bool) -> Result<Start, RaiseFault> {
+        raise_start(self, self.alloc(), path, m.members(), m.me(), may_be_made)
     }
 }

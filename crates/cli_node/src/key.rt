@@ -14,7 +14,7 @@ ghost use Rattle.cli_node.specs.Secrets.{IsNamed, AreNamed};
 
 use crate::faults::{log_cause, log_error};
 use crate::files::NodeFiles;
-use crate::node::NodeArguments;
+use crate::node::{NodeArguments, NodeStart};
 use crate::outcome::Outcome;
 use cli_files::{KeyFault, RandomBytes, key_text, new_key};
 use cli_io::{BAD_KEY, FILE_EXISTS, Shown, make_private, open_regular};
@@ -42,64 +42,50 @@ fn key_refused(rt: &HostRuntime, path: &str, fault: KeyFault) -> Outcome
     Outcome::Refused(BAD_KEY)
 }
 
-/// The key of the cluster's tags that the secret in a file makes.
-pub(crate) fn key_in<F: NodeFiles>(
-    rt: &HostRuntime,
-    files: &F,
-    alloc: Global,
-    arguments: NodeArguments<'_, '_, '_>,
-    path: &str,
-) -> Result<[u8; 32], Outcome>
-    ensures refused { OnErr result ((result ≡ Err Memory) ⊎ (result ≡ Err (Refused 83))) }
-    ensures made { IfOk result (F.makes files.now arguments.entry.cluster (map (λ t. t.now) arguments.entry.members.now)
-        path.now) }
-{
-    files
-        .cluster_key(alloc, path, arguments.cluster, arguments.members)
-        .map_err(|fault| key_refused(rt, path, fault))
-}
+impl<F: NodeFiles, D> NodeStart<'_, F, D> {
+    /// The key of the cluster's tags that the secret in a file makes.
+    pub(crate) fn key_in(&self, path: &str) -> Result<[u8; 32], Outcome>
+        ensures refused { OnErr result ((result ≡ Err Memory) ⊎ (result ≡ Err (Refused 83))) }
+        ensures made { IfOk result (F.makes self.now.files.now self.now.arguments.cluster
+            (map (λ t. t.now) self.now.arguments.members.now) path.now) }
+    {
+        let arguments = self.arguments;
+        self.files
+            .cluster_key(path, arguments.cluster, arguments.members)
+            .map_err(|fault| key_refused(self.rt, path, fault))
+    }
 
-/// The keys with this one, and another that the arguments name, if they do.
-fn keys_with<F: NodeFiles>(
-    rt: &HostRuntime,
-    files: &F,
-    alloc: Global,
-    arguments: NodeArguments<'_, '_, '_>,
-    key: [u8; 32],
-) -> Result<Keys, Outcome>
-    ensures refused { OnErr result ((result ≡ Err Memory) ⊎ (result ≡ Err (Refused 83))) }
-    ensures key { IfOk result (λ k. k.key ≡ key) }
-    ensures other { IfOk result (λ k. IsNamed
-        (F.makes files.now arguments.entry.cluster (map (λ t. t.now) arguments.entry.members.now))
-        (option_map (λ t. t.now) arguments.entry.other_key) k.other) }
-{
-    let Some(path) = arguments.other_key else {
-        return Ok(Keys { key, other: None });
-    };
-    let other = Some(key_in(rt, files, alloc, arguments, path)?);
-    Ok(Keys { key, other })
-}
+    /// The keys with this one, and another that the arguments name, if they do.
+    fn keys_with(&self, key: [u8; 32]) -> Result<Keys, Outcome>
+        ensures refused { OnErr result ((result ≡ Err Memory) ⊎ (result ≡ Err (Refused 83))) }
+        ensures key { IfOk result (λ k. k.key ≡ key) }
+        ensures other { IfOk result (λ k. IsNamed (F.makes self.now.files.now self.now.arguments.cluster
+            (map (λ t. t.now) self.now.arguments.members.now))
+            (option_map (λ t. t.now) self.now.arguments.other_key) k.other) }
+    {
+        let Some(path) = self.arguments.other_key else {
+            return Ok(Keys { key, other: None });
+        };
+        let other = Some(self.key_in(path)?);
+        Ok(Keys { key, other })
+    }
 
-/// The keys that the arguments name, if they do: 83 where a file can't be read or has none, or where others may read
-/// it.
-pub(crate) fn keys_for<F: NodeFiles>(
-    rt: &HostRuntime,
-    files: &F,
-    alloc: Global,
-    arguments: NodeArguments<'_, '_, '_>,
-) -> Result<Option<Keys>, Outcome>
-    ensures refused { OnErr result ((result ≡ Err Memory) ⊎ (result ≡ Err (Refused 83))) }
-    ensures beyond { IfErr result (λ o. is_beyond (is_some arguments.entry.key) false o ≡ false) }
-    ensures keyed { IfOk result (λ ks. is_some ks ≡ is_some arguments.entry.key) }
-    ensures named { IfOk result (AreNamed
-        (F.makes files.now arguments.entry.cluster (map (λ t. t.now) arguments.entry.members.now))
-        (option_map (λ t. t.now) arguments.entry.key) (option_map (λ t. t.now) arguments.entry.other_key)) }
-{
-    let Some(path) = arguments.key else {
-        return Ok(None);
-    };
-    let key = key_in(rt, files, alloc, arguments, path)?;
-    Ok(Some(keys_with(rt, files, alloc, arguments, key)?))
+    /// The keys that the arguments name, if they do: 83 where a file can't be read or has none, or where others may
+    /// read it.
+    pub(crate) fn named_keys(&self) -> Result<Option<Keys>, Outcome>
+        ensures refused { OnErr result ((result ≡ Err Memory) ⊎ (result ≡ Err (Refused 83))) }
+        ensures beyond { IfErr result (λ o. is_beyond (is_some self.now.arguments.key) false o ≡ false) }
+        ensures keyed { IfOk result (λ ks. is_some ks ≡ is_some self.now.arguments.key) }
+        ensures named { IfOk result (AreNamed (F.makes self.now.files.now self.now.arguments.cluster
+            (map (λ t. t.now) self.now.arguments.members.now))
+            (option_map (λ t. t.now) self.now.arguments.key) (option_map (λ t. t.now) self.now.arguments.other_key)) }
+    {
+        let Some(path) = self.arguments.key else {
+            return Ok(None);
+        };
+        let key = self.key_in(path)?;
+        Ok(Some(self.keys_with(key)?))
+    }
 }
 
 /// Whether an address is one at which this machine alone is heard.
@@ -120,7 +106,7 @@ fn is_loopback(text: &str) -> bool
 }
 
 /// Logs on standard error that the datagrams of a node carry no tag, where others than this machine may send it some.
-pub(crate) fn warn_unsealed(rt: &HostRuntime, arguments: NodeArguments<'_, '_, '_>) {
+pub(crate) fn warn_unsealed(rt: &HostRuntime, arguments: NodeArguments<'_>) {
     let Some(own) = arguments.members.get(usize::from(arguments.me)) else {
         return;
     };

@@ -26,10 +26,10 @@ use crate::database::Databases;
 use crate::events::{log_end, log_start};
 use crate::faults::log_place;
 use crate::files::NodeFiles;
-use crate::key::{Keys, keys_for, warn_unsealed};
+use crate::key::{Keys, warn_unsealed};
 use crate::outcome::{Outcome, ended_outcome, ending_of};
-use crate::sealing::{Sealing, sealing_for};
-use crate::store::{Found, found_at, is_made, record_at};
+use crate::sealing::Sealing;
+use crate::store::{Found, Kept, is_made};
 use clap::ArgMatches;
 use cli_files::NodeFile;
 use cli_io::{BAD_ADDRESS, INVALID_ARGUMENTS, has_flag, number_in, value_in};
@@ -51,7 +51,7 @@ const WAIT_MS: u32 = 100;
 
 /// What the arguments of `node` say.
 #[derive(Clone, Copy)]
-pub struct NodeArguments<'m, 'w, 'a> {
+pub struct NodeArguments<'a> {
     /// This node's number.
     pub(crate) me: u8,
     pub(crate) cluster: u32,
@@ -76,7 +76,7 @@ pub struct NodeArguments<'m, 'w, 'a> {
     /// Whether only warnings and errors are said.
     pub(crate) is_quiet: bool,
     /// Where the members listen, in order.
-    pub(crate) members: &'m [&'w str],
+    pub(crate) members: &'a [&'a str],
 }
 
 /// The text of an option, that of the file where it isn't given.
@@ -110,14 +110,14 @@ fn is_set(matches: &ArgMatches<'_>, file: &NodeFile, name: &str) -> bool
     has_flag(matches, name) || file.flag(name)
 }
 
-impl<'m, 'w, 'a> NodeArguments<'m, 'w, 'a> {
+impl<'a> NodeArguments<'a> {
     /// What the matches and a file of settings give, with these members; none where one of them is missing.
     /// `clap` has refused numbers out of range.
     pub(crate) fn of<'g: 'a>(
         matches: &ArgMatches<'g>,
         file: &'a NodeFile,
-        members: &'m [&'w str],
-    ) -> Option<NodeArguments<'m, 'w, 'a>>
+        members: &'a [&'a str],
+    ) -> Option<NodeArguments<'a>>
         ensures some { IfSome result (AreArguments (rows_of (found_of matches.now)) file.now
             (map (λ t. t.now) members.now)) }
         ensures none { result ≡ None → is_complete (rows_of (found_of matches.now)) file.now ≡ false }
@@ -170,7 +170,7 @@ fn count(members: &[&str]) -> Option<u8>
 }
 
 /// The cluster, how many members it has, and which one this is; none where the number is none of theirs.
-pub(crate) fn membership(arguments: NodeArguments<'_, '_, '_>) -> Option<Membership>
+pub(crate) fn membership(arguments: NodeArguments<'_>) -> Option<Membership>
     ensures some { IfSome result (λ m. (m.cluster ≡ arguments.entry.cluster) × (m.me ≡ arguments.entry.me) ×
         (m.members ≡ length arguments.entry.members.now)) }
     ensures here { IfSome result (λ m. m.me < m.members) }
@@ -184,19 +184,21 @@ pub(crate) fn membership(arguments: NodeArguments<'_, '_, '_>) -> Option<Members
     Membership::new(arguments.cluster, members, arguments.me)
 }
 
+/// The wire of a member: its socket.
+type MemberWire = UdpWire<UdpSocket, HostRuntime>;
+
+/// The same whose packets are sealed.
+type SealedWire = PacketWire<UdpWire<UdpSocket, HostRuntime>, HostRuntime>;
+
 /// The member's wire. Where asks aren't heard, none comes from elsewhere than a member's address.
-pub(crate) fn bind(
-    rt: &HostRuntime,
-    alloc: Global,
-    arguments: NodeArguments<'_, '_, '_>,
-) -> Result<UdpWire<UdpSocket, HostRuntime>, Outcome>
+pub(crate) fn bind(rt: &HostRuntime, arguments: NodeArguments<'_>) -> Result<MemberWire, Outcome>
     ensures refused { OnErr result ((result ≡ Err Memory) ⊎ (result ≡ Err (Refused 82))) }
     ensures new { IfOk result (λ w. ⟦<UdpWire<UdpSocket, HostRuntime> as Wire>⟧.traffic w []) }
     ensures me { IfOk result (λ w. me_of w ≡ arguments.entry.me) }
     ensures peers { IfOk result (λ w. AreAddresses (map (λ t. t.now) arguments.entry.members.now) (peers_of w)) }
     ensures hears { IfOk result (λ w. hears_of w ≡ hears_asks arguments.entry.key arguments.entry.control) }
 {
-    match UdpWire::bind(rt, alloc, arguments.members, arguments.me, WAIT_MS) {
+    match UdpWire::bind(rt, rt.alloc(), arguments.members, arguments.me, WAIT_MS) {
         Ok(mut wire) => {
             if !arguments.hears_asks() {
                 wire.hear_members();
@@ -208,130 +210,9 @@ pub(crate) fn bind(
     }
 }
 
-/// The wire whose packets are sealed with a key.
-fn sealed(
-    rt: &HostRuntime,
-    alloc: Global,
-    m: Membership,
-    wire: UdpWire<UdpSocket, HostRuntime>,
-    sealing: Sealing,
-) -> Result<PacketWire<UdpWire<UdpSocket, HostRuntime>, HostRuntime>, AllocError>
-    requires new { ⟦<UdpWire<UdpSocket, HostRuntime> as Wire>⟧.traffic wire [] }
-    ensures new { IfOk result (λ w.
-        ⟦<PacketWire<UdpWire<UdpSocket, HostRuntime>, HostRuntime> as Wire>⟧.traffic w []) }
-    ensures sealer { IfOk result (λ w. sealer_of w ≡ sealer_with m sealing) }
-    ensures keys { IfOk result (λ w. keys_of w ≡ keys_with sealing) }
-    ensures inner { IfOk result (λ w. inner_of w ≡ wire) }
-{
-    let keys = sealing.keys;
-    let packets = PacketKeys::new(&keys.key, keys.other.as_ref());
-    PacketWire::new(
-        alloc,
-        wire,
-        *rt,
-        packets,
-        m.cluster(),
-        m.members(),
-        m.me(),
-        sealing.start,
-    )
-}
-
-/// The record of a member that has no wire, for this reason, is opened alone.
-fn open_alone<R: Records>(
-    alloc: Global,
-    m: Membership,
-    records: R,
-    outcome: Outcome,
-) -> (Outcome, R)
-    requires members { R.members records ≡ m.members }
-    requires here { m.me < m.members }
-    requires wireless { IsWireless outcome }
-    ensures hosted { ComesOpen R.Records m records result.0 result.1 }
-    ensures turns { ComesTo R.Records m records result.0 result.1 }
-    ensures alone { IsAlone R.Records m records result.0 result.1 }
-{
-    let (ended, records) = open_member(alloc, m, records);
-    (ended_outcome(ended, outcome), records)
-}
-
-/// The run of a member at its socket, with packets that are sealed if there are keys, and with a control socket at the
-/// place if there is one; without a wire its record is opened alone.
-fn run_at<R: Records, T: Timer>(
-    rt: &HostRuntime,
-    alloc: Global,
-    arguments: NodeArguments<'_, '_, '_>,
-    m: Membership,
-    records: R,
-    wire: Result<UdpWire<UdpSocket, HostRuntime>, Outcome>,
-    sealing: Option<Sealing>,
-    timer: &mut T,
-    place: Option<ControlPlace<'_>>,
-) -> (Outcome, R)
-    requires placed { IsPlaced (λ p. p.path.now) (λ p. p.figures) (λ p. p.members.now)
-        (option_map (λ t. t.now) arguments.control) (AreFigures (option_map (λ t. t.now) arguments.metrics))
-        (λ text. IfOk wire (λ w. text ≡ spaced (map shown_address (peers_of w)))) place }
-    requires members { R.members records ≡ m.members }
-    requires here { m.me < m.members }
-    requires is { m.me ≡ arguments.me }
-    requires failed { R.failed records ≡ 0 }
-    requires refused { OnErr wire ((wire ≡ Err Memory) ⊎ (wire ≡ Err (Refused 82))) }
-    requires peers { IfOk wire (λ w. AreAddresses (map (λ t. t.now) arguments.members.now) (peers_of w)) }
-    requires own { IfOk wire (λ w. me_of w ≡ arguments.me) }
-    requires new { IfOk wire (λ w. ⟦<UdpWire<UdpSocket, HostRuntime> as Wire>⟧.traffic w []) }
-    ensures hosted { ComesOpen R.Records m records result.0 result.1 }
-    ensures turns { place.entry ≡ None → ComesTo R.Records m records result.0 result.1 }
-    ensures ran { IsAlone R.Records m records result.0 result.1 ⊎
-        RunsHere R.Records m sealing (hears_asks arguments.entry.key arguments.entry.control)
-        (map (λ t. t.now) arguments.entry.members.now) records result.0 result.1
-        (MadeTurns arguments.entry.turns (T.timer_events timer.old) (T.timer_events timer.new)) }
-{
-    let wire = match wire {
-        Ok(wire) => wire,
-        Err(outcome) => return open_alone(alloc, m, records, outcome),
-    };
-    let Ok(mut observer) = Observer::new(alloc, m, sealing.is_some(), arguments.is_quiet) else {
-        return open_alone(alloc, m, records, Outcome::Memory);
-    };
-    let hears = arguments.hears_asks();
-    let Some(sealing) = sealing else {
-        let (ended, records, _wire) = run_at_socket(
-            rt,
-            alloc,
-            m,
-            records,
-            wire,
-            timer,
-            &mut observer,
-            hears,
-            place,
-            arguments.turns,
-        );
-        return (ended_outcome(ended, Outcome::Memory), records);
-    };
-    let Ok(wire) = sealed(rt, alloc, m, wire, sealing) else {
-        return open_alone(alloc, m, records, Outcome::Memory);
-    };
-    let (ended, records, _wire) = run_sealed_at_socket(
-        rt,
-        alloc,
-        m,
-        records,
-        wire,
-        timer,
-        &mut observer,
-        hears,
-        place,
-        arguments.turns,
-    );
-    (ended_outcome(ended, Outcome::Memory), records)
-}
-
 /// Where figures are served over TCP, if they are: 82 for what is no address at which this machine alone is heard, with
 /// a port.
-pub(crate) fn figures_at(
-    arguments: NodeArguments<'_, '_, '_>,
-) -> Result<Option<SocketAddr>, Outcome>
+pub(crate) fn figures_at(arguments: NodeArguments<'_>) -> Result<Option<SocketAddr>, Outcome>
     ensures refused { OnErr result (result ≡ Err (Refused 82)) }
     ensures served { IfOk result (AreFigures (option_map (λ t. t.now) arguments.entry.metrics)) }
 {
@@ -358,195 +239,279 @@ fn addresses_text(alloc: Global, addresses: &[Address]) -> Result<String, AllocE
     Ok(text)
 }
 
-/// The run of a member with a control socket at the path. What is asked by datagrams isn't heard.
-fn run_with_control<R: Records, T: Timer>(
-    rt: &HostRuntime,
-    alloc: Global,
-    arguments: NodeArguments<'_, '_, '_>,
-    path: &str,
-    m: Membership,
-    records: R,
-    sealing: Option<Sealing>,
-    timer: &mut T,
-) -> (Outcome, R)
-    requires members { R.members records ≡ m.members }
-    requires here { m.me < m.members }
-    requires is { m.me ≡ arguments.me }
-    requires failed { R.failed records ≡ 0 }
-    requires control { option_map (λ t. t.now) arguments.control ≡ Some path.now }
-    ensures hosted { ComesOpenOr R.Records m records result.0 result.1 }
-    ensures ran { IsUnrun R.Records m records result.0 result.1 ⊎
-        RunsHere R.Records m sealing (hears_asks arguments.entry.key arguments.entry.control)
-        (map (λ t. t.now) arguments.entry.members.now) records result.0 result.1
-        (MadeTurns arguments.entry.turns (T.timer_events timer.old) (T.timer_events timer.new)) }
-{
-    let wire = match bind(rt, alloc, arguments) {
-        Ok(wire) => wire,
-        Err(outcome) => return (outcome, records),
-    };
-    let figures = match figures_at(arguments) {
-        Ok(figures) => figures,
-        Err(outcome) => return (outcome, records),
-    };
-    let Ok(members) = addresses_text(alloc, wire.peers()) else {
-        return (Outcome::Memory, records);
-    };
-    let place = Some(ControlPlace {
-        path,
-        figures,
-        members: members.as_str(),
-        fd: wire.raw_fd(),
-    });
-    run_at(
-        rt,
-        alloc,
-        arguments,
-        m,
-        records,
-        Ok(wire),
-        sealing,
-        timer,
-        place,
-    )
+/// A start of a node, or a check of whether one could be started: what its arguments say, over the system, the node's
+/// files and its databases.
+#[derive(Drop)]
+pub(crate) struct NodeStart<'a, F, D> {
+    pub(crate) rt: &'a HostRuntime,
+    pub(crate) files: &'a F,
+    pub(crate) dbs: &'a D,
+    pub(crate) arguments: NodeArguments<'a>,
 }
 
-/// The run of a member over its record and a socket.
-fn run_member_in<R: Records, T: Timer>(
-    rt: &HostRuntime,
-    alloc: Global,
-    arguments: NodeArguments<'_, '_, '_>,
-    m: Membership,
-    records: R,
-    sealing: Option<Sealing>,
-    timer: &mut T,
-) -> (Outcome, R)
-    requires members { R.members records ≡ m.members }
-    requires here { m.me < m.members }
-    requires is { m.me ≡ arguments.me }
-    requires failed { R.failed records ≡ 0 }
-    requires keyed { is_some sealing ≡ is_some arguments.key }
-    ensures hosted { ComesOpenOr R.Records m records result.0 result.1 }
-    ensures turns { arguments.entry.control ≡ None → ComesTo R.Records m records result.0 result.1 }
-    ensures ran { IsUnrun R.Records m records result.0 result.1 ⊎
-        RunsHere R.Records m sealing (hears_asks arguments.entry.key arguments.entry.control)
-        (map (λ t. t.now) arguments.entry.members.now) records result.0 result.1
-        (MadeTurns arguments.entry.turns (T.timer_events timer.old) (T.timer_events timer.new)) }
-{
-    match arguments.control {
-        Some(path) => run_with_control(rt, alloc, arguments, path, m, records, sealing, timer),
-        None => {
-            let wire = bind(rt, alloc, arguments);
-            run_at(rt, alloc, arguments, m, records, wire, sealing, timer, None)
+/// A start of a node that is a member, and what was found of its store.
+#[derive(Drop)]
+pub(crate) struct MemberStart<'a, F, D> {
+    pub(crate) start: NodeStart<'a, F, D>,
+    pub(crate) m: Membership,
+    pub(crate) found: Found,
+}
+
+impl<F: NodeFiles, D: Databases> MemberStart<'_, F, D> {
+    /// The record of a member that has no wire, for this reason, is opened alone.
+    fn open_alone<R: Records>(&self, records: R, outcome: Outcome) -> (Outcome, R)
+        requires members { R.members records ≡ self.now.m.members }
+        requires here { self.now.m.me < self.now.m.members }
+        requires wireless { IsWireless outcome }
+        ensures hosted { ComesOpen R.Records self.now.m records result.0 result.1 }
+        ensures turns { ComesTo R.Records self.now.m records result.0 result.1 }
+        ensures alone { IsAlone R.Records self.now.m records result.0 result.1 }
+    {
+        let (ended, records) = open_member(self.start.rt.alloc(), self.m, records);
+        (ended_outcome(ended, outcome), records)
+    }
+
+    /// The wire whose packets are sealed with a key.
+    fn sealed(&self, wire: MemberWire, sealing: Sealing) -> Result<SealedWire, AllocError>
+        requires new { ⟦<UdpWire<UdpSocket, HostRuntime> as Wire>⟧.traffic wire [] }
+        ensures new { IfOk result (λ w.
+            ⟦<PacketWire<UdpWire<UdpSocket, HostRuntime>, HostRuntime> as Wire>⟧.traffic w []) }
+        ensures sealer { IfOk result (λ w. sealer_of w ≡ sealer_with self.now.m sealing) }
+        ensures keys { IfOk result (λ w. keys_of w ≡ keys_with sealing) }
+        ensures inner { IfOk result (λ w. inner_of w ≡ wire) }
+    {
+        let keys = sealing.keys;
+        let packets = PacketKeys::new(&keys.key, keys.other.as_ref());
+        PacketWire::new(
+            self.start.rt.alloc(),
+            wire,
+            *self.start.rt,
+            packets,
+            self.m.cluster(),
+            self.m.members(),
+            self.m.me(),
+            sealing.start,
+        )
+    }
+
+    /// The run of a member at its socket, with packets that are sealed if there are keys, and with a control socket at
+    /// the place if there is one; without a wire its record is opened alone.
+    fn run_at<R: Records, T: Timer>(
+        &self,
+        records: R,
+        wire: Result<MemberWire, Outcome>,
+        sealing: Option<Sealing>,
+        timer: &mut T,
+        place: Option<ControlPlace<'_>>,
+    ) -> (Outcome, R)
+        requires placed { IsPlaced (λ p. p.path.now) (λ p. p.figures) (λ p. p.members.now)
+            (option_map (λ t. t.now) self.now.start.arguments.control)
+            (AreFigures (option_map (λ t. t.now) self.now.start.arguments.metrics))
+            (λ text. IfOk wire (λ w. text ≡ spaced (map shown_address (peers_of w)))) place }
+        requires members { R.members records ≡ self.now.m.members }
+        requires here { self.now.m.me < self.now.m.members }
+        requires is { self.now.m.me ≡ self.now.start.arguments.me }
+        requires failed { R.failed records ≡ 0 }
+        requires refused { OnErr wire ((wire ≡ Err Memory) ⊎ (wire ≡ Err (Refused 82))) }
+        requires peers { IfOk wire (λ w.
+            AreAddresses (map (λ t. t.now) self.now.start.arguments.members.now) (peers_of w)) }
+        requires own { IfOk wire (λ w. me_of w ≡ self.now.start.arguments.me) }
+        requires new { IfOk wire (λ w. ⟦<UdpWire<UdpSocket, HostRuntime> as Wire>⟧.traffic w []) }
+        ensures hosted { ComesOpen R.Records self.now.m records result.0 result.1 }
+        ensures turns { place.entry ≡ None → ComesTo R.Records self.now.m records result.0 result.1 }
+        ensures ran { IsAlone R.Records self.now.m records result.0 result.1 ⊎
+            RunsHere R.Records self.now.m sealing
+            (hears_asks self.now.start.arguments.key self.now.start.arguments.control)
+            (map (λ t. t.now) self.now.start.arguments.members.now) records result.0 result.1
+            (MadeTurns self.now.start.arguments.turns (T.timer_events timer.old) (T.timer_events timer.new)) }
+    {
+        let rt = self.start.rt;
+        let arguments = self.start.arguments;
+        let m = self.m;
+        let alloc = rt.alloc();
+        let wire = match wire {
+            Ok(wire) => wire,
+            Err(outcome) => return self.open_alone(records, outcome),
+        };
+        let Ok(mut observer) = Observer::new(alloc, m, sealing.is_some(), arguments.is_quiet) else {
+            return self.open_alone(records, Outcome::Memory);
+        };
+        let observer = &mut observer;
+        let hears = arguments.hears_asks();
+        let turns = arguments.turns;
+        let Some(sealing) = sealing else {
+            let (ended, records, _wire) = run_at_socket(
+                rt, alloc, m, records, wire, timer, observer, hears, place, turns,
+            );
+            return (ended_outcome(ended, Outcome::Memory), records);
+        };
+        let Ok(wire) = self.sealed(wire, sealing) else {
+            return self.open_alone(records, Outcome::Memory);
+        };
+        let (ended, records, _wire) = run_sealed_at_socket(
+            rt, alloc, m, records, wire, timer, observer, hears, place, turns,
+        );
+        (ended_outcome(ended, Outcome::Memory), records)
+    }
+
+    /// The run of a member with a control socket at the path. What is asked by datagrams isn't heard.
+    fn run_with_control<R: Records, T: Timer>(
+        &self,
+        path: &str,
+        records: R,
+        sealing: Option<Sealing>,
+        timer: &mut T,
+    ) -> (Outcome, R)
+        requires members { R.members records ≡ self.now.m.members }
+        requires here { self.now.m.me < self.now.m.members }
+        requires is { self.now.m.me ≡ self.now.start.arguments.me }
+        requires failed { R.failed records ≡ 0 }
+        requires control { option_map (λ t. t.now) self.now.start.arguments.control ≡ Some path.now }
+        ensures hosted { ComesOpenOr R.Records self.now.m records result.0 result.1 }
+        ensures ran { IsUnrun R.Records self.now.m records result.0 result.1 ⊎
+            RunsHere R.Records self.now.m sealing
+            (hears_asks self.now.start.arguments.key self.now.start.arguments.control)
+            (map (λ t. t.now) self.now.start.arguments.members.now) records result.0 result.1
+            (MadeTurns self.now.start.arguments.turns (T.timer_events timer.old) (T.timer_events timer.new)) }
+    {
+        let wire = match bind(self.start.rt, self.start.arguments) {
+            Ok(wire) => wire,
+            Err(outcome) => return (outcome, records),
+        };
+        let figures = match figures_at(self.start.arguments) {
+            Ok(figures) => figures,
+            Err(outcome) => return (outcome, records),
+        };
+        let Ok(members) = addresses_text(self.start.rt.alloc(), wire.peers()) else {
+            return (Outcome::Memory, records);
+        };
+        let place = Some(ControlPlace {
+            path,
+            figures,
+            members: members.as_str(),
+            fd: wire.raw_fd(),
+        });
+        self.run_at(records, Ok(wire), sealing, timer, place)
+    }
+
+    /// The run of a member over its record and a socket.
+    fn run_member_in<R: Records, T: Timer>(
+        &self,
+        records: R,
+        sealing: Option<Sealing>,
+        timer: &mut T,
+    ) -> (Outcome, R)
+        requires members { R.members records ≡ self.now.m.members }
+        requires here { self.now.m.me < self.now.m.members }
+        requires is { self.now.m.me ≡ self.now.start.arguments.me }
+        requires failed { R.failed records ≡ 0 }
+        requires keyed { is_some sealing ≡ is_some self.now.start.arguments.key }
+        ensures hosted { ComesOpenOr R.Records self.now.m records result.0 result.1 }
+        ensures turns { self.now.start.arguments.control ≡ None →
+            ComesTo R.Records self.now.m records result.0 result.1 }
+        ensures ran { IsUnrun R.Records self.now.m records result.0 result.1 ⊎
+            RunsHere R.Records self.now.m sealing
+            (hears_asks self.now.start.arguments.key self.now.start.arguments.control)
+            (map (λ t. t.now) self.now.start.arguments.members.now) records result.0 result.1
+            (MadeTurns self.now.start.arguments.turns (T.timer_events timer.old) (T.timer_events timer.new)) }
+    {
+        match self.start.arguments.control {
+            Some(path) => self.run_with_control(path, records, sealing, timer),
+            None => {
+                let wire = bind(self.start.rt, self.start.arguments);
+                self.run_at(records, wire, sealing, timer, None)
+            }
         }
     }
-}
 
-/// The run of a member over its record, which is closed, whatever came of it; what a node has committed is kept also
-/// where closing fails. A node whose store failed ends with that (70, 72), whichever client asked for the change.
-fn run_on<D: Databases, T: Timer>(
-    rt: &HostRuntime,
-    dbs: &D,
-    alloc: Global,
-    arguments: NodeArguments<'_, '_, '_>,
-    m: Membership,
-    records: SqlRecords<FileStore<File>>,
-    sealing: Option<Sealing>,
-    timer: &mut T,
-) -> Outcome
-    requires members { ⟦<SqlRecords<FileStore<File>> as Records>⟧.members records ≡ m.members }
-    requires here { m.me < m.members }
-    requires is { m.me ≡ arguments.me }
-    requires failed { ⟦<SqlRecords<FileStore<File>> as Records>⟧.failed records ≡ 0 }
-    requires keyed { is_some sealing ≡ is_some arguments.key }
-    ensures ran { EndsAs ⟦<SqlRecords<FileStore<File>> as Records>⟧ m sealing
-        (hears_asks arguments.entry.key arguments.entry.control) (map (λ t. t.now) arguments.entry.members.now) records
-        (IsClosedIn ⟦<FileStore<File> as Store>⟧ (D.closed dbs.now))
-        (MadeTurns arguments.entry.turns (T.timer_events timer.old) (T.timer_events timer.new)) result }
-    ensures why { result ≢ Refused 80 }
-    ensures beyond { is_beyond false (is_some arguments.entry.control) result ≡ false }
-    ensures store { (file new : Bool) → IsStoreless file new result }
-{
-    log_start(rt, arguments);
-    let (outcome, records) = run_member_in(rt, alloc, arguments, m, records, sealing, timer);
-    let outcome = ending_of(outcome, records.failures());
-    log_end(rt, alloc, arguments, outcome);
-    dbs.close(records.release());
-    outcome
-}
+    /// The run of a member over its record, which is closed, whatever came of it; what a node has committed is kept also
+    /// where closing fails. A node whose store failed ends with that (70, 72), whichever client asked for the change.
+    fn run_on<T: Timer>(&self, records: Kept, sealing: Option<Sealing>, timer: &mut T) -> Outcome
+        requires members { ⟦<SqlRecords<FileStore<File>> as Records>⟧.members records ≡ self.now.m.members }
+        requires here { self.now.m.me < self.now.m.members }
+        requires is { self.now.m.me ≡ self.now.start.arguments.me }
+        requires failed { ⟦<SqlRecords<FileStore<File>> as Records>⟧.failed records ≡ 0 }
+        requires keyed { is_some sealing ≡ is_some self.now.start.arguments.key }
+        ensures ran { EndsAs ⟦<SqlRecords<FileStore<File>> as Records>⟧ self.now.m sealing
+            (hears_asks self.now.start.arguments.key self.now.start.arguments.control)
+            (map (λ t. t.now) self.now.start.arguments.members.now) records
+            (IsClosedIn ⟦<FileStore<File> as Store>⟧ (D.closed self.now.start.dbs.now))
+            (MadeTurns self.now.start.arguments.turns (T.timer_events timer.old) (T.timer_events timer.new)) result }
+        ensures why { result ≢ Refused 80 }
+        ensures beyond { is_beyond false (is_some self.now.start.arguments.control) result ≡ false }
+        ensures store { (file new : Bool) → IsStoreless file new result }
+    {
+        log_start(self.start.rt, self.start.arguments);
+        let (outcome, records) = self.run_member_in(records, sealing, timer);
+        let outcome = ending_of(outcome, records.failures());
+        log_end(self.start.rt, self.start.arguments, outcome);
+        self.start.dbs.close(records.release());
+        outcome
+    }
 
-/// The run of a member over its record, where its packets can be sealed; else the record is closed: 95.
-fn run_sealed<F: NodeFiles, D: Databases, T: Timer>(
-    rt: &HostRuntime,
-    files: &F,
-    dbs: &D,
-    alloc: Global,
-    arguments: NodeArguments<'_, '_, '_>,
-    m: Membership,
-    found: Found,
-    records: SqlRecords<FileStore<File>>,
-    keys: Option<Keys>,
-    timer: &mut T,
-) -> Outcome
-    requires members { ⟦<SqlRecords<FileStore<File>> as Records>⟧.members records ≡ m.members }
-    requires here { m.me < m.members }
-    requires is { m.me ≡ arguments.me }
-    requires failed { ⟦<SqlRecords<FileStore<File>> as Records>⟧.failed records ≡ 0 }
-    requires keyed { is_some keys ≡ is_some arguments.key }
-    ensures ran { EndsWith ⟦<SqlRecords<FileStore<File>> as Records>⟧ m keys
-        (F.raises files.now (arguments.entry.store.now ++ codes "-starts") m.members m.me
-        (is_made arguments.entry.is_from_file arguments.entry.is_new found || arguments.entry.makes_starts))
-        (hears_asks arguments.entry.key arguments.entry.control) (map (λ t. t.now) arguments.entry.members.now) records
-        (IsClosedIn ⟦<FileStore<File> as Store>⟧ (D.closed dbs.now))
-        (MadeTurns arguments.entry.turns (T.timer_events timer.old) (T.timer_events timer.new)) result }
-    ensures ending { result ≢ Refused 80 }
-    ensures beyond { is_beyond (is_some arguments.entry.key) (is_some arguments.entry.control) result ≡ false }
-    ensures store { (file new : Bool) → IsStoreless file new result }
-{
-    match sealing_for(rt, files, alloc, arguments, m, keys, found) {
-        Ok(sealing) => run_on(rt, dbs, alloc, arguments, m, records, sealing, timer),
-        Err(outcome) => {
-            dbs.close(records.release());
-            outcome
+    /// The run of a member over its record, where its packets can be sealed; else the record is closed: 95.
+    fn run_sealed<T: Timer>(&self, records: Kept, keys: Option<Keys>, timer: &mut T) -> Outcome
+        requires members { ⟦<SqlRecords<FileStore<File>> as Records>⟧.members records ≡ self.now.m.members }
+        requires here { self.now.m.me < self.now.m.members }
+        requires is { self.now.m.me ≡ self.now.start.arguments.me }
+        requires failed { ⟦<SqlRecords<FileStore<File>> as Records>⟧.failed records ≡ 0 }
+        requires keyed { is_some keys ≡ is_some self.now.start.arguments.key }
+        ensures ran { EndsWith ⟦<SqlRecords<FileStore<File>> as Records>⟧ self.now.m keys
+            (F.raises self.now.start.files.now (self.now.start.arguments.store.now ++ codes "-starts")
+            self.now.m.members self.now.m.me
+            (is_made self.now.start.arguments.is_from_file self.now.start.arguments.is_new self.now.found
+            || self.now.start.arguments.makes_starts))
+            (hears_asks self.now.start.arguments.key self.now.start.arguments.control)
+            (map (λ t. t.now) self.now.start.arguments.members.now) records
+            (IsClosedIn ⟦<FileStore<File> as Store>⟧ (D.closed self.now.start.dbs.now))
+            (MadeTurns self.now.start.arguments.turns (T.timer_events timer.old) (T.timer_events timer.new)) result }
+        ensures ending { result ≢ Refused 80 }
+        ensures beyond { is_beyond (is_some self.now.start.arguments.key) (is_some self.now.start.arguments.control)
+            result ≡ false }
+        ensures store { (file new : Bool) → IsStoreless file new result }
+    {
+        match self.sealing_for(keys) {
+            Ok(sealing) => self.run_on(records, sealing, timer),
+            Err(outcome) => {
+                self.start.dbs.close(records.release());
+                outcome
+            }
         }
     }
-}
 
-/// What a node over a new store gives: its file of starts is made before its store, so that no store is without one,
-/// and no store is made where its sockets are refused. 95, the store's refusals, 82, 84, and the first refusal of a
-/// turn, in this order.
-fn run_new<F: NodeFiles, D: Databases, T: Timer>(
-    rt: &HostRuntime,
-    files: &F,
-    dbs: &D,
-    alloc: Global,
-    arguments: NodeArguments<'_, '_, '_>,
-    m: Membership,
-    found: Found,
-    keys: Option<Keys>,
-    timer: &mut T,
-) -> Outcome
-    requires here { m.me < m.members }
-    requires is { m.me ≡ arguments.me }
-    requires keyed { is_some keys ≡ is_some arguments.key }
-    ensures ran { EndsNew ⟦<SqlRecords<FileStore<File>> as Records>⟧ m keys
-        (F.raises files.now (arguments.entry.store.now ++ codes "-starts") m.members m.me
-        (is_made arguments.entry.is_from_file arguments.entry.is_new found || arguments.entry.makes_starts))
-        (hears_asks arguments.entry.key arguments.entry.control) (map (λ t. t.now) arguments.entry.members.now)
-        (IsKeptIn ⟦<FileStore<File> as Store>⟧ (D.holds dbs.now arguments.entry.store.now) found (identity_at m))
-        (IsClosedIn ⟦<FileStore<File> as Store>⟧ (D.closed dbs.now))
-        (MadeTurns arguments.entry.turns (T.timer_events timer.old) (T.timer_events timer.new)) result }
-    ensures ending { result ≢ Refused 80 }
-    ensures beyond { is_beyond (is_some arguments.entry.key) (is_some arguments.entry.control) result ≡ false }
-    ensures store { IsStoreless arguments.entry.is_from_file arguments.entry.is_new result }
-    ensures none { result ≡ Refused NO_STORE → IsNone found }
-{
-    let sealing = match sealing_for(rt, files, alloc, arguments, m, keys, found) {
-        Ok(sealing) => sealing,
-        Err(outcome) => return outcome,
-    };
-    match record_at(rt, dbs, alloc, arguments, m, found) {
-        Ok(records) => run_on(rt, dbs, alloc, arguments, m, records, sealing, timer),
-        Err(outcome) => outcome,
+    /// What a node over a new store gives: its file of starts is made before its store, so that no store is without
+    /// one, and no store is made where its sockets are refused. 95, the store's refusals, 82, 84, and the first refusal
+    /// of a turn, in this order.
+    fn run_new<T: Timer>(&self, keys: Option<Keys>, timer: &mut T) -> Outcome
+        requires here { self.now.m.me < self.now.m.members }
+        requires is { self.now.m.me ≡ self.now.start.arguments.me }
+        requires keyed { is_some keys ≡ is_some self.now.start.arguments.key }
+        ensures ran { EndsNew ⟦<SqlRecords<FileStore<File>> as Records>⟧ self.now.m keys
+            (F.raises self.now.start.files.now (self.now.start.arguments.store.now ++ codes "-starts")
+            self.now.m.members self.now.m.me
+            (is_made self.now.start.arguments.is_from_file self.now.start.arguments.is_new self.now.found
+            || self.now.start.arguments.makes_starts))
+            (hears_asks self.now.start.arguments.key self.now.start.arguments.control)
+            (map (λ t. t.now) self.now.start.arguments.members.now)
+            (IsKeptIn ⟦<FileStore<File> as Store>⟧
+            (D.holds self.now.start.dbs.now self.now.start.arguments.store.now) self.now.found
+            (identity_at self.now.m))
+            (IsClosedIn ⟦<FileStore<File> as Store>⟧ (D.closed self.now.start.dbs.now))
+            (MadeTurns self.now.start.arguments.turns (T.timer_events timer.old) (T.timer_events timer.new)) result }
+        ensures ending { result ≢ Refused 80 }
+        ensures beyond { is_beyond (is_some self.now.start.arguments.key) (is_some self.now.start.arguments.control)
+            result ≡ false }
+        ensures store { IsStoreless self.now.start.arguments.is_from_file self.now.start.arguments.is_new result }
+        ensures none { result ≡ Refused NO_STORE → IsNone self.now.found }
+    {
+        let sealing = match self.sealing_for(keys) {
+            Ok(sealing) => sealing,
+            Err(outcome) => return outcome,
+        };
+        match self.opened_record() {
+            Ok(records) => self.run_on(records, sealing, timer),
+            Err(outcome) => outcome,
+        }
     }
 }
 
@@ -557,8 +522,7 @@ pub fn run_node<F: NodeFiles, D: Databases, T: Timer>(
     rt: &HostRuntime,
     files: &F,
     dbs: &D,
-    alloc: Global,
-    arguments: NodeArguments<'_, '_, '_>,
+    arguments: NodeArguments<'_>,
     timer: &mut T,
 ) -> Outcome
     ensures place { has_place arguments.entry.me (length arguments.entry.members.now) ≡ false → result ≡ Refused 40 }
@@ -584,21 +548,26 @@ pub fn run_node<F: NodeFiles, D: Databases, T: Timer>(
         log_place(rt, arguments);
         return Outcome::Refused(INVALID_ARGUMENTS);
     };
-    let keys = match keys_for(rt, files, alloc, arguments) {
+    let start = NodeStart {
+        rt,
+        files,
+        dbs,
+        arguments,
+    };
+    let keys = match start.named_keys() {
         Ok(keys) => keys,
         Err(outcome) => return outcome,
     };
     warn_unsealed(rt, arguments);
-    let Ok(found) = found_at(dbs, alloc, arguments.store) else {
+    let Some(found) = start.found_store() else {
         return Outcome::Memory;
     };
+    let start = MemberStart { start, m, found };
     if is_made(arguments.is_from_file, arguments.is_new, found) {
-        return run_new(rt, files, dbs, alloc, arguments, m, found, keys, timer);
+        return start.run_new(keys, timer);
     }
-    match record_at(rt, dbs, alloc, arguments, m, found) {
-        Ok(records) => run_sealed(
-            rt, files, dbs, alloc, arguments, m, found, records, keys, timer,
-        ),
+    match start.opened_record() {
+        Ok(records) => start.run_sealed(records, keys, timer),
         Err(outcome) => outcome,
     }
 }

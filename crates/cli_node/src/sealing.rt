@@ -9,13 +9,12 @@ ghost use Rattle.cli_node.specs.Stores.{is_made};
 use crate::faults::log_unusable;
 use crate::files::NodeFiles;
 use crate::key::Keys;
-use crate::node::NodeArguments;
+use crate::node::{MemberStart, NodeStart};
 use crate::outcome::Outcome;
 use crate::store::{Found, is_made};
 use cli_files::{RaiseFault, starts_in, starts_path};
 use node_loop::Membership;
 use px_packet::Start;
-use std::alloc::Global;
 
 /// A file of starts that is missing or damaged, or can't be written.
 const BAD_STARTS: u8 = 95;
@@ -29,100 +28,94 @@ pub(crate) struct Sealing {
 }
 
 /// The outcome of a file of starts that can't be used; why is logged.
-fn starts_refused(rt: &HostRuntime, alloc: Global, path: &str, fault: RaiseFault) -> Outcome
+fn starts_refused(rt: &HostRuntime, path: &str, fault: RaiseFault) -> Outcome
     ensures { (result ≡ Memory) ⊎ (result ≡ Refused 95) }
 {
     if fault == RaiseFault::Memory {
         return Outcome::Memory;
     }
-    log_unusable(rt, alloc, path, fault);
+    log_unusable(rt, path, fault);
     Outcome::Refused(BAD_STARTS)
 }
 
-/// Whether a missing file of starts is made: with a store that is made, and where that is asked for.
-fn may_make_starts(arguments: NodeArguments<'_, '_, '_>, found: Found) -> bool
-    ensures { result ≡
-        (is_made arguments.entry.is_from_file arguments.entry.is_new found || arguments.entry.makes_starts) }
-{
-    is_made(arguments.is_from_file, arguments.is_new, found) || arguments.makes_starts
-}
+impl<F: NodeFiles, D> MemberStart<'_, F, D> {
+    /// Whether a missing file of starts is made: with a store that is made, and where that is asked for.
+    fn may_make_starts(&self) -> bool
+        ensures { result ≡ (is_made self.now.start.arguments.is_from_file self.now.start.arguments.is_new self.now.found
+            || self.now.start.arguments.makes_starts) }
+    {
+        let arguments = self.start.arguments;
+        is_made(arguments.is_from_file, arguments.is_new, self.found) || arguments.makes_starts
+    }
 
-/// How a node's packets are sealed with these keys in this start of it, written into the file beside its store first,
-/// where this was found.
-fn sealing_with<F: NodeFiles>(
-    rt: &HostRuntime,
-    files: &F,
-    alloc: Global,
-    arguments: NodeArguments<'_, '_, '_>,
-    m: Membership,
-    keys: Keys,
-    found: Found,
-) -> Result<Option<Sealing>, Outcome>
-    requires here { m.me < m.members }
-    ensures refused { OnErr result ((result ≡ Err Memory) ⊎ (result ≡ Err (Refused 95))) }
-    ensures keys { IfOk result (λ s. option_map (λ x. x.keys) s ≡ Some keys) }
-    ensures start { IfOk result (λ s. IfSome s (λ x. F.raises files.now
-        (arguments.entry.store.now ++ codes "-starts") m.members m.me
-        (is_made arguments.entry.is_from_file arguments.entry.is_new found || arguments.entry.makes_starts) x.start)) }
-    ensures keyed { IfOk result (λ s. is_some s ≡ true) }
-{
-    let path = starts_path(alloc, arguments.store).map_err(|_| Outcome::Memory)?;
-    let may_be_made = may_make_starts(arguments, found);
-    let start = files
-        .raise(alloc, path.as_str(), m, may_be_made)
-        .map_err(|fault| starts_refused(rt, alloc, path.as_str(), fault))?;
-    Ok(Some(Sealing { keys, start }))
-}
+    /// How a node's packets are sealed with these keys in this start of it, written into the file beside its store
+    /// first, where this was found.
+    fn sealing_with(&self, keys: Keys) -> Result<Option<Sealing>, Outcome>
+        requires here { self.now.m.me < self.now.m.members }
+        ensures refused { OnErr result ((result ≡ Err Memory) ⊎ (result ≡ Err (Refused 95))) }
+        ensures keys { IfOk result (λ s. option_map (λ x. x.keys) s ≡ Some keys) }
+        ensures start { IfOk result (λ s. IfSome s (λ x. F.raises self.now.start.files.now
+            (self.now.start.arguments.store.now ++ codes "-starts") self.now.m.members self.now.m.me
+            (is_made self.now.start.arguments.is_from_file self.now.start.arguments.is_new self.now.found
+            || self.now.start.arguments.makes_starts) x.start)) }
+        ensures keyed { IfOk result (λ s. is_some s ≡ true) }
+    {
+        let rt = self.start.rt;
+        let files = self.start.files;
+        let store = self.start.arguments.store;
+        let path = starts_path(rt.alloc(), store).map_err(|_| Outcome::Memory)?;
+        let may_be_made = self.may_make_starts();
+        let start = files
+            .raise(path.as_str(), self.m, may_be_made)
+            .map_err(|fault| starts_refused(rt, path.as_str(), fault))?;
+        Ok(Some(Sealing { keys, start }))
+    }
 
-/// How the node's packets are sealed, where it has keys, and this was found where its store is: 95 where its file of
-/// starts can't be used.
-pub(crate) fn sealing_for<F: NodeFiles>(
-    rt: &HostRuntime,
-    files: &F,
-    alloc: Global,
-    arguments: NodeArguments<'_, '_, '_>,
-    m: Membership,
-    keys: Option<Keys>,
-    found: Found,
-) -> Result<Option<Sealing>, Outcome>
-    requires here { m.me < m.members }
-    ensures refused { OnErr result ((result ≡ Err Memory) ⊎ (result ≡ Err (Refused 95))) }
-    ensures beyond { IfErr result (λ o. is_beyond (is_some keys) false o ≡ false) }
-    ensures keys { IfOk result (λ s. option_map (λ x. x.keys) s ≡ keys) }
-    ensures start { IfOk result (λ s. IfSome s (λ x. F.raises files.now
-        (arguments.entry.store.now ++ codes "-starts") m.members m.me
-        (is_made arguments.entry.is_from_file arguments.entry.is_new found || arguments.entry.makes_starts) x.start)) }
-    ensures keyed { IfOk result (λ s. is_some s ≡ is_some keys) }
-{
-    match keys {
-        Some(keys) => sealing_with(rt, files, alloc, arguments, m, keys, found),
-        None => Ok(None),
+    /// How the node's packets are sealed, where it has keys, and this was found where its store is: 95 where its file
+    /// of starts can't be used.
+    pub(crate) fn sealing_for(&self, keys: Option<Keys>) -> Result<Option<Sealing>, Outcome>
+        requires here { self.now.m.me < self.now.m.members }
+        ensures refused { OnErr result ((result ≡ Err Memory) ⊎ (result ≡ Err (Refused 95))) }
+        ensures beyond { IfErr result (λ o. is_beyond (is_some keys) false o ≡ false) }
+        ensures keys { IfOk result (λ s. option_map (λ x. x.keys) s ≡ keys) }
+        ensures start { IfOk result (λ s. IfSome s (λ x. F.raises self.now.start.files.now
+            (self.now.start.arguments.store.now ++ codes "-starts") self.now.m.members self.now.m.me
+            (is_made self.now.start.arguments.is_from_file self.now.start.arguments.is_new self.now.found
+            || self.now.start.arguments.makes_starts) x.start)) }
+        ensures keyed { IfOk result (λ s. is_some s ≡ is_some keys) }
+    {
+        match keys {
+            Some(keys) => self.sealing_with(keys),
+            None => Ok(None),
+        }
     }
 }
 
-/// What is refused of the file of starts beside a store, where one has to be there; it is read and not changed.
-pub(crate) fn of_starts(
-    rt: &HostRuntime,
-    alloc: Global,
-    arguments: NodeArguments<'_, '_, '_>,
-    m: Option<Membership>,
-    is_new: bool,
-) -> Outcome
-    ensures why { (result ≡ Sound) ⊎ ((result ≡ Memory) ⊎ (result ≡ Refused 95)) }
-    ensures beyond { is_beyond (is_some arguments.entry.key) false result ≡ false }
-{
-    let Some(m) = m else {
-        return Outcome::Sound;
-    };
-    if arguments.key.is_none() {
-        return Outcome::Sound;
-    }
-    let Ok(path) = starts_path(alloc, arguments.store) else {
-        return Outcome::Memory;
-    };
-    match starts_in(rt, alloc, path.as_str(), m.members()) {
-        Ok(_known) => Outcome::Sound,
-        Err(RaiseFault::Missing) if is_new || arguments.makes_starts => Outcome::Sound,
-        Err(fault) => starts_refused(rt, alloc, path.as_str(), fault),
+impl<F, D> NodeStart<'_, F, D> {
+    /// What is refused of the file of starts beside a store, where this was found; where no store is, a start makes
+    /// both or is refused for the store. The file is read and not changed.
+    pub(crate) fn of_starts(&self, m: Option<Membership>, found: Option<Found>) -> Outcome
+        ensures why { (result ≡ Sound) ⊎ ((result ≡ Memory) ⊎ (result ≡ Refused 95)) }
+        ensures beyond { is_beyond (is_some self.now.arguments.key) false result ≡ false }
+    {
+        let rt = self.rt;
+        let Some(found) = found else {
+            return Outcome::Memory;
+        };
+        let Some(m) = m else {
+            return Outcome::Sound;
+        };
+        if self.arguments.key.is_none() {
+            return Outcome::Sound;
+        }
+        let Ok(path) = starts_path(rt.alloc(), self.arguments.store) else {
+            return Outcome::Memory;
+        };
+        let is_absent = matches!(found, Found::Nothing | Found::Empty);
+        match starts_in(rt, rt.alloc(), path.as_str(), m.members()) {
+            Ok(_known) => Outcome::Sound,
+            Err(RaiseFault::Missing) if is_absent || self.arguments.makes_starts => Outcome::Sound,
+            Err(fault) => starts_refused(rt, path.as_str(), fault),
+        }
     }
 }

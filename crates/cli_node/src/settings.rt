@@ -148,11 +148,11 @@ pub trait Nodes {
     ghost did: { Self → List NodeEvent → Type 0 };
 
     /// Runs a node.
-    fn run(&mut self, alloc: Global, arguments: NodeArguments<'_, '_, '_>) -> Outcome
+    fn run(&mut self, arguments: NodeArguments<'_>) -> Outcome
         ensures { Adds (did self.old) (did self.new) (Ran arguments.entry result ∷ []) };
 
     /// Checks whether a node could be started.
-    fn check(&mut self, alloc: Global, arguments: NodeArguments<'_, '_, '_>) -> Outcome
+    fn check(&mut self, arguments: NodeArguments<'_>) -> Outcome
         ensures { Adds (did self.old) (did self.new) (Checked arguments.entry result ∷ []) };
 }
 
@@ -172,16 +172,16 @@ impl Nodes for HostRuntime {
         IsStoreless w.is_from_file w.is_new outcome ×
         (is_beyond (is_some w.key || is_some w.other_key) (is_some w.control) outcome ≡ false))) };
 
-    fn run(&mut self, alloc: Global, arguments: NodeArguments<'_, '_, '_>) -> Outcome {
+    fn run(&mut self, arguments: NodeArguments<'_>) -> Outcome {
         let mut timer = TickTimer::new(arguments.me);
         let rt = *self;
-        run_node(&rt, &rt, &rt, alloc, arguments, &mut timer)
+        run_node(&rt, &rt, &rt, arguments, &mut timer)
     }
 
-    fn check(&mut self, alloc: Global, arguments: NodeArguments<'_, '_, '_>) -> Outcome {
+    fn check(&mut self, arguments: NodeArguments<'_>) -> Outcome {
         let rt = *self;
         let mut inspection = rt;
-        check_node(&rt, &rt, &rt, &mut inspection, alloc, arguments)
+        check_node(&rt, &rt, &rt, &mut inspection, arguments)
     }
 }
 
@@ -189,7 +189,6 @@ impl Nodes for HostRuntime {
 fn outcome_for<'g: 'f, 'f, RT: Eprint, N: Nodes>(
     rt: &RT,
     nodes: &mut N,
-    alloc: Global,
     matches: &ArgMatches<'g>,
     file: &'f NodeFile,
     members: &[&str],
@@ -204,9 +203,9 @@ fn outcome_for<'g: 'f, 'f, RT: Eprint, N: Nodes>(
         return halved(rt, matches);
     }
     if has_flag(matches, "check") {
-        nodes.check(alloc, arguments)
+        nodes.check(arguments)
     } else {
-        nodes.run(alloc, arguments)
+        nodes.run(arguments)
     }
 }
 
@@ -222,9 +221,9 @@ fn outcome_with<'g: 'f, 'f, RT: Eprint, N: Nodes>(
         (members_for (rows_of (found_of matches.now)) file.now) result }
 {
     match matches.get_strs("member") {
-        Some(members) => outcome_for(rt, nodes, alloc, matches, file, members),
+        Some(members) => outcome_for(rt, nodes, matches, file, members),
         None => match file.texts(alloc, "members") {
-            Ok(listed) => outcome_for(rt, nodes, alloc, matches, file, listed.as_slice()),
+            Ok(listed) => outcome_for(rt, nodes, matches, file, listed.as_slice()),
             Err(_) => Outcome::Memory,
         },
     }

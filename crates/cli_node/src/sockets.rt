@@ -8,7 +8,6 @@ use crate::faults::{log_error, log_why};
 use crate::node::{NodeArguments, bind, figures_at};
 use crate::outcome::Outcome;
 use cli_io::{BAD_ADDRESS, BAD_CONTROL_SOCKET, Shown, knock};
-use std::alloc::Global;
 use std::fmt::Display;
 use std::fs;
 use std::io::{self, Error, ErrorKind};
@@ -18,7 +17,7 @@ use std::os::unix::net::UnixListener;
 
 /// Whether a control socket could be made at a path: none answers there, nothing else is there, and one can be made
 /// beside it, under a name as long as that of the folder in which a node makes it.
-pub(crate) fn try_control(rt: &HostRuntime, alloc: Global, path: &str) -> io::Result<()> {
+pub(crate) fn try_control(rt: &HostRuntime, path: &str) -> io::Result<()> {
     if knock(rt, path).is_ok() {
         return Err(Error::new(ErrorKind::AddrInUse, "a node answers there"));
     }
@@ -29,20 +28,16 @@ pub(crate) fn try_control(rt: &HostRuntime, alloc: Global, path: &str) -> io::Re
         Err(error) if error.kind() != ErrorKind::NotFound => return Err(error),
         _ => {}
     }
-    let beside = format!(in alloc; "{path}.try")?;
+    let beside = format!(in rt.alloc(); "{path}.try")?;
     let _bound = UnixListener::bind(rt, beside.as_str())?;
     fs::remove_file(rt, beside.as_str())
 }
 
 /// Tries the socket of the members' datagrams, and the port of figures, if there is one.
-fn try_ports(
-    rt: &HostRuntime,
-    alloc: Global,
-    arguments: NodeArguments<'_, '_, '_>,
-) -> Result<(), Outcome>
+fn try_ports(rt: &HostRuntime, arguments: NodeArguments<'_>) -> Result<(), Outcome>
     ensures { IfErr result (λ o. (o ≡ Memory) ⊎ (o ≡ Refused 82)) }
 {
-    drop(bind(rt, alloc, arguments)?);
+    drop(bind(rt, arguments)?);
     if let Some(figures) = figures_at(arguments)? {
         let _bound = TcpListener::bind(rt, figures).map_err(|_| Outcome::Refused(BAD_ADDRESS))?;
     }
@@ -50,19 +45,15 @@ fn try_ports(
 }
 
 /// Tries them, and the control socket, if there is one.
-fn try_all(
-    rt: &HostRuntime,
-    alloc: Global,
-    arguments: NodeArguments<'_, '_, '_>,
-) -> Result<(), Outcome>
+fn try_all(rt: &HostRuntime, arguments: NodeArguments<'_>) -> Result<(), Outcome>
     ensures refused { IfErr result (λ o. (o ≡ Memory) ⊎ ((o ≡ Refused 82) ⊎ (o ≡ Refused 84))) }
     ensures beyond { IfErr result (λ o. is_beyond false (is_some arguments.entry.control) o ≡ false) }
 {
-    try_ports(rt, alloc, arguments)?;
+    try_ports(rt, arguments)?;
     let Some(path) = arguments.control else {
         return Ok(());
     };
-    match try_control(rt, alloc, path) {
+    match try_control(rt, path) {
         Ok(()) => Ok(()),
         Err(error) if error.kind() == ErrorKind::OutOfMemory => Err(Outcome::Memory),
         Err(_) => Err(Outcome::Refused(BAD_CONTROL_SOCKET)),
@@ -70,17 +61,13 @@ fn try_all(
 }
 
 /// Tries the sockets that a node opens: 82, 84, in this order; why is logged on standard error.
-pub(crate) fn try_sockets(
-    rt: &HostRuntime,
-    alloc: Global,
-    arguments: NodeArguments<'_, '_, '_>,
-) -> Result<(), Outcome>
+pub(crate) fn try_sockets(rt: &HostRuntime, arguments: NodeArguments<'_>) -> Result<(), Outcome>
     ensures refused { IfErr result (λ o. (o ≡ Memory) ⊎ ((o ≡ Refused 82) ⊎ (o ≡ Refused 84))) }
     ensures beyond { IfErr result (λ o. is_beyond false (is_some arguments.entry.control) o ≡ false) }
 {
-    let tried = try_all(rt, alloc, arguments);
+    let tried = try_all(rt, arguments);
     if let Err(Outcome::Refused(code)) = tried {
-        log_why(rt, alloc, arguments, code);
+        log_why(rt, arguments, code);
     }
     tried
 }
@@ -92,7 +79,7 @@ fn log_unsure<E: Display>(rt: &HostRuntime, what: &str, name: &str, why: &E) {
 }
 
 /// What is refused of the node's own address; nothing where it is in use, as by this node where it runs.
-pub(crate) fn of_own_address(rt: &HostRuntime, arguments: NodeArguments<'_, '_, '_>) -> Outcome
+pub(crate) fn of_own_address(rt: &HostRuntime, arguments: NodeArguments<'_>) -> Outcome
     ensures { (result ≡ Sound) ⊎ (result ≡ Refused 82) }
 {
     let Some(own) = arguments.members.get(usize::from(arguments.me)) else {
@@ -113,18 +100,14 @@ pub(crate) fn of_own_address(rt: &HostRuntime, arguments: NodeArguments<'_, '_, 
 
 /// What is refused of the control socket, if there is one; nothing where a node answers there, as this one where it
 /// runs, or where its folder is missing.
-pub(crate) fn of_control(
-    rt: &HostRuntime,
-    alloc: Global,
-    arguments: NodeArguments<'_, '_, '_>,
-) -> Outcome
+pub(crate) fn of_control(rt: &HostRuntime, arguments: NodeArguments<'_>) -> Outcome
     ensures why { (result ≡ Sound) ⊎ ((result ≡ Memory) ⊎ (result ≡ Refused 84)) }
     ensures beyond { is_beyond false (is_some arguments.entry.control) result ≡ false }
 {
     let Some(path) = arguments.control else {
         return Outcome::Sound;
     };
-    let Err(error) = try_control(rt, alloc, path) else {
+    let Err(error) = try_control(rt, path) else {
         return Outcome::Sound;
     };
     match error.kind() {

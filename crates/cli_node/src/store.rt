@@ -1,6 +1,6 @@
 //! A node's store: opened where it is, and made where it may be.
 
-ghost use Rattle.std.specs.Prelude.{◌≡◌, ◌≢◌, ◌⊎◌, None, Err, IfOk, IfErr, OnErr, is_some, true, false};
+ghost use Rattle.std.specs.Prelude.{◌≡◌, ◌≢◌, ◌⊎◌, None, Err, IfOk, IfSome, IfErr, OnErr, is_some, true, false};
 ghost use Rattle.sqlite.specs.Held.{state};
 ghost use Rattle.sqlite.specs.State.{HasCleanDisk};
 ghost use Rattle.px_store.specs.Tables.{no_schema};
@@ -14,9 +14,9 @@ ghost use Rattle.cli_node.specs.Stores.{identity_at, IsKeptIn, IsOpening, IsRefu
 ghost use Rattle.cli_node.specs.Stores.{MayRun, is_made, refusal_at};
 ghost use Rattle.cli_node.specs.Stores.{IsFoundAt, IsNone, found_by, has_no_byte};
 
-use crate::database::{Databases, Seen};
+use crate::database::{Databases, Opened, Seen};
 use crate::faults::{log_closed, log_judged, log_storeless, why_closed};
-use crate::node::NodeArguments;
+use crate::node::{MemberStart, NodeStart};
 use crate::outcome::{Outcome, numbered};
 use crate::sockets::try_sockets;
 use cli_io::{FILE_EXISTS, NO_STORE, STORE_FAILED, make_private};
@@ -25,7 +25,7 @@ use px_records::Records;
 use px_store::{AdoptFault, Format, Identity, SqlRecords};
 use sqlite::{Alter, Connection, Error, ErrorCode, File, FileStore};
 use sqlite_trees::store::Store;
-use std::alloc::{AllocError, Global};
+use std::alloc::Global;
 use std::fs::Files;
 use std::io::Eprint;
 
@@ -90,17 +90,16 @@ fn found_by(file: Seen, log: Seen) -> Found
     }
 }
 
-/// What is found of the store at a path.
-pub(crate) fn found_at<D: Databases>(
-    dbs: &D,
-    alloc: Global,
-    path: &str,
-) -> Result<Found, AllocError>
-    ensures { IfOk result (IsFoundAt (D.is_seen dbs.now) path.now) }
-{
-    let log = format!(in alloc; "{path}-wal")?;
-    let file = dbs.see(path);
-    Ok(found_by(file, dbs.see(log.as_str())))
+impl<F, D: Databases> NodeStart<'_, F, D> {
+    /// What is found where the arguments name a store; none when out of memory.
+    pub(crate) fn found_store(&self) -> Option<Found>
+        ensures { IfSome result (IsFoundAt (D.is_seen self.now.dbs.now) self.now.arguments.store.now) }
+    {
+        let store = self.arguments.store;
+        let log = format!(in self.rt.alloc(); "{store}-wal").ok()?;
+        let file = self.dbs.see(store);
+        Some(found_by(file, self.dbs.see(log.as_str())))
+    }
 }
 
 /// What a store that isn't accepted gives; why is logged on standard error.
@@ -144,21 +143,6 @@ pub(crate) fn failed_outcome<RT: Files + Eprint>(rt: &RT, path: &str, error: Err
     }
 }
 
-/// The database in a file.
-fn open_file<D: Databases>(
-    rt: &HostRuntime,
-    dbs: &D,
-    path: &str,
-) -> Result<Connection<FileStore<File>>, Outcome>
-    ensures refused { OnErr result ((result ≡ Err Memory) ⊎ (result ≡ Err (Refused 70))) }
-    ensures held { IfOk result (λ c.
-        D.holds dbs.now path.now (state ⟦<FileStore<File> as Store>⟧ c).now
-        (state ⟦<FileStore<File> as Store>⟧ c).in_transaction) }
-{
-    dbs.open(path)
-        .map_err(|error| failed_outcome(rt, path, error))
-}
-
 /// The file of a store that is made: an empty one that its owner alone may read, where nothing is; else the one that is
 /// there, which can be read and written.
 fn make_file(rt: &HostRuntime, path: &str, found: Found) -> Result<(), Outcome>
@@ -174,26 +158,6 @@ fn make_file(rt: &HostRuntime, path: &str, found: Found) -> Result<(), Outcome>
     })
 }
 
-/// The database of a store that is made. Its file is made first (70), and then its node's sockets are tried (82, 84): a
-/// refusal leaves a file without a byte, which is no store.
-fn make_store<D: Databases>(
-    rt: &HostRuntime,
-    dbs: &D,
-    alloc: Global,
-    arguments: NodeArguments<'_, '_, '_>,
-    found: Found,
-) -> Result<Connection<FileStore<File>>, Outcome>
-    ensures refused { IfErr result IsUnmade }
-    ensures beyond { IfErr result (λ o. is_beyond false (is_some arguments.entry.control) o ≡ false) }
-    ensures held { IfOk result (λ c.
-        D.holds dbs.now arguments.entry.store.now (state ⟦<FileStore<File> as Store>⟧ c).now
-        (state ⟦<FileStore<File> as Store>⟧ c).in_transaction) }
-{
-    make_file(rt, arguments.store, found)?;
-    try_sockets(rt, alloc, arguments)?;
-    open_file(rt, dbs, arguments.store)
-}
-
 /// Whether a start makes a store there, of nothing or of a file without a byte.
 pub(crate) fn is_made(is_from_file: bool, is_new: bool, found: Found) -> bool
     ensures { result ≡ is_made is_from_file is_new found }
@@ -201,38 +165,6 @@ pub(crate) fn is_made(is_from_file: bool, is_new: bool, found: Found) -> bool
     match found {
         Found::Nothing | Found::Empty => is_new || !is_from_file,
         Found::Store | Found::Other => false,
-    }
-}
-
-/// The database where a store is named, by what becomes of what is there.
-#[tactic(auto, using(crate::proofs::Stores::by_opening, crate::proofs::Stores::by_file, crate::proofs::Stores::by_making, crate::proofs::Stores::none_opened, crate::proofs::Stores::none_made, crate::proofs::Stores::none_at, crate::proofs::Stores::may_open, crate::proofs::Stores::may_make))]
-fn open_store<D: Databases>(
-    rt: &HostRuntime,
-    dbs: &D,
-    alloc: Global,
-    arguments: NodeArguments<'_, '_, '_>,
-    found: Found,
-) -> Result<Connection<FileStore<File>>, Outcome>
-    ensures refused { IfErr result (IsStoreless arguments.entry.is_from_file arguments.entry.is_new) }
-    ensures kind { IfErr result IsRefusal }
-    ensures at { IfOk result (λ c.
-        D.holds dbs.now arguments.entry.store.now (state ⟦<FileStore<File> as Store>⟧ c).now
-        (state ⟦<FileStore<File> as Store>⟧ c).in_transaction) }
-    ensures lost { arguments.entry.is_from_file ≡ true → arguments.entry.is_new ≡ false →
-        (found ≡ Found.Nothing) ⊎ (found ≡ Found.Empty) → result ≡ Err (Refused NO_STORE) }
-    ensures may { IfOk result (λ c. MayRun arguments.entry.is_from_file arguments.entry.is_new found) }
-    ensures held { arguments.entry.is_new ≡ true → found ≡ Found.Store → result ≡ Err (Refused FILE_EXISTS) }
-    ensures none { result ≡ Err (Refused NO_STORE) → IsNone found }
-    ensures unfailed { OnErr result (result ≢ Err (Refused 80)) }
-    ensures beyond { IfErr result (λ o. is_beyond false (is_some arguments.entry.control) o ≡ false) }
-{
-    match opening_of(arguments.is_from_file, arguments.is_new, found) {
-        Opening::Opens => open_file(rt, dbs, arguments.store),
-        Opening::Makes => make_store(rt, dbs, alloc, arguments, found),
-        Opening::Refuses(code) => {
-            log_storeless(rt, arguments.store, code);
-            Err(Outcome::Refused(code))
-        }
     }
 }
 
@@ -266,30 +198,90 @@ fn record_in<S: Alter>(
     }
 }
 
-/// The record of a member in the store that its arguments name, where that was found: 93, 94, 70, 73, 72 and 71, in
-/// this order; where it is made 70, 82 and 84.
-pub(crate) fn record_at<D: Databases>(
-    rt: &HostRuntime,
-    dbs: &D,
-    alloc: Global,
-    arguments: NodeArguments<'_, '_, '_>,
-    m: Membership,
-    found: Found,
-) -> Result<SqlRecords<FileStore<File>>, Outcome>
-    ensures members { IfOk result (λ r. ⟦<SqlRecords<FileStore<File>> as Records>⟧.members r ≡ m.members) }
-    ensures begins { IfOk result (λ r. ⟦<SqlRecords<FileStore<File>> as Records>⟧.failed r ≡ 0) }
-    ensures rows { IfOk result (IsKeptIn ⟦<FileStore<File> as Store>⟧ (D.holds dbs.now arguments.entry.store.now)
-        found (identity_at m)) }
-    ensures may { IfOk result (λ r. MayRun arguments.entry.is_from_file arguments.entry.is_new found) }
-    ensures refused { IfErr result (IsStoreless arguments.entry.is_from_file arguments.entry.is_new) }
-    ensures kind { IfErr result IsRefusal }
-    ensures none { result ≡ Err (Refused NO_STORE) → IsNone found }
-    ensures unfailed { OnErr result (result ≢ Err (Refused 80)) }
-    ensures beyond { IfErr result (λ o. is_beyond false (is_some arguments.entry.control) o ≡ false) }
-{
-    let conn = open_store(rt, dbs, alloc, arguments, found)?;
-    match record_in(alloc, conn, identity_of(m), found) {
-        Ok(records) => Ok(records),
-        Err((fault, mut conn)) => Err(untaken(rt, arguments.store, m, fault, &mut conn)),
+/// The record of a member in its file.
+pub(crate) type Kept = SqlRecords<FileStore<File>>;
+
+impl<F, D: Databases> MemberStart<'_, F, D> {
+    /// The database in the store's file.
+    fn open_file(&self) -> Result<Opened, Outcome>
+        ensures refused { OnErr result ((result ≡ Err Memory) ⊎ (result ≡ Err (Refused 70))) }
+        ensures held { IfOk result (λ c.
+            D.holds self.now.start.dbs.now self.now.start.arguments.store.now
+            (state ⟦<FileStore<File> as Store>⟧ c).now (state ⟦<FileStore<File> as Store>⟧ c).in_transaction) }
+    {
+        let store = self.start.arguments.store;
+        let opened = self.start.dbs.open(store);
+        opened.map_err(|error| failed_outcome(self.start.rt, store, error))
+    }
+
+    /// The database of a store that is made. Its file is made first (70), and then its node's sockets are tried (82,
+    /// 84): a refusal leaves a file without a byte, which is no store.
+    fn make_store(&self) -> Result<Opened, Outcome>
+        ensures refused { IfErr result IsUnmade }
+        ensures beyond { IfErr result (λ o. is_beyond false (is_some self.now.start.arguments.control) o ≡ false) }
+        ensures held { IfOk result (λ c.
+            D.holds self.now.start.dbs.now self.now.start.arguments.store.now
+            (state ⟦<FileStore<File> as Store>⟧ c).now (state ⟦<FileStore<File> as Store>⟧ c).in_transaction) }
+    {
+        make_file(self.start.rt, self.start.arguments.store, self.found)?;
+        try_sockets(self.start.rt, self.start.arguments)?;
+        self.open_file()
+    }
+
+    /// The database where a store is named, by what becomes of what is there.
+    #[tactic(auto, using(crate::proofs::Stores::by_opening, crate::proofs::Stores::by_file, crate::proofs::Stores::by_making, crate::proofs::Stores::none_opened, crate::proofs::Stores::none_made, crate::proofs::Stores::none_at, crate::proofs::Stores::may_open, crate::proofs::Stores::may_make))]
+    fn open_store(&self) -> Result<Opened, Outcome>
+        ensures refused { IfErr result
+            (IsStoreless self.now.start.arguments.is_from_file self.now.start.arguments.is_new) }
+        ensures kind { IfErr result IsRefusal }
+        ensures at { IfOk result (λ c.
+            D.holds self.now.start.dbs.now self.now.start.arguments.store.now
+            (state ⟦<FileStore<File> as Store>⟧ c).now (state ⟦<FileStore<File> as Store>⟧ c).in_transaction) }
+        ensures lost { self.now.start.arguments.is_from_file ≡ true → self.now.start.arguments.is_new ≡ false →
+            (self.now.found ≡ Found.Nothing) ⊎ (self.now.found ≡ Found.Empty) → result ≡ Err (Refused NO_STORE) }
+        ensures may { IfOk result (λ c.
+            MayRun self.now.start.arguments.is_from_file self.now.start.arguments.is_new self.now.found) }
+        ensures held { self.now.start.arguments.is_new ≡ true → self.now.found ≡ Found.Store →
+            result ≡ Err (Refused FILE_EXISTS) }
+        ensures none { result ≡ Err (Refused NO_STORE) → IsNone self.now.found }
+        ensures unfailed { OnErr result (result ≢ Err (Refused 80)) }
+        ensures beyond { IfErr result (λ o. is_beyond false (is_some self.now.start.arguments.control) o ≡ false) }
+    {
+        let arguments = self.start.arguments;
+        match opening_of(arguments.is_from_file, arguments.is_new, self.found) {
+            Opening::Opens => self.open_file(),
+            Opening::Makes => self.make_store(),
+            Opening::Refuses(code) => {
+                log_storeless(self.start.rt, arguments.store, code);
+                Err(Outcome::Refused(code))
+            }
+        }
+    }
+
+    /// The record of a member in the store that its arguments name, where that was found: 93, 94, 70, 73, 72 and 71, in
+    /// this order; where it is made 70, 82 and 84.
+    pub(crate) fn opened_record(&self) -> Result<Kept, Outcome>
+        ensures members { IfOk result (λ r.
+            ⟦<SqlRecords<FileStore<File>> as Records>⟧.members r ≡ self.now.m.members) }
+        ensures begins { IfOk result (λ r. ⟦<SqlRecords<FileStore<File>> as Records>⟧.failed r ≡ 0) }
+        ensures rows { IfOk result (IsKeptIn ⟦<FileStore<File> as Store>⟧
+            (D.holds self.now.start.dbs.now self.now.start.arguments.store.now) self.now.found
+            (identity_at self.now.m)) }
+        ensures may { IfOk result (λ r.
+            MayRun self.now.start.arguments.is_from_file self.now.start.arguments.is_new self.now.found) }
+        ensures refused { IfErr result
+            (IsStoreless self.now.start.arguments.is_from_file self.now.start.arguments.is_new) }
+        ensures kind { IfErr result IsRefusal }
+        ensures none { result ≡ Err (Refused NO_STORE) → IsNone self.now.found }
+        ensures unfailed { OnErr result (result ≢ Err (Refused 80)) }
+        ensures beyond { IfErr result (λ o. is_beyond false (is_some self.now.start.arguments.control) o ≡ false) }
+    {
+        let rt = self.start.rt;
+        let store = self.start.arguments.store;
+        let conn = self.open_store()?;
+        match record_in(rt.alloc(), conn, identity_of(self.m), self.found) {
+            Ok(records) => Ok(records),
+            Err((fault, mut conn)) => Err(untaken(rt, store, self.m, fault, &mut conn)),
+        }
     }
 }

@@ -1,6 +1,6 @@
 -- what is looked at is left as it was found
 use Rattle.std.proofs.Common.{inr}
-use Rattle.cli_node.proofs.check.looked_at.Goals as goal
+use Rattle.cli_node.proofs.node.NodeStart.looked_at.Goals as goal
 
 pub returns-in-Ok-inspect-clause-over : goal.returns-in-Ok-inspect-clause-over
 returns-in-Ok-inspect-clause-over g c = λ over.

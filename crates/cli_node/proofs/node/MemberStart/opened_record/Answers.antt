@@ -6,7 +6,7 @@ use Rattle.cli_node.specs.Endings.{adopt_outcome}
 use Rattle.cli_node.specs.Stores.{IsRefusal, IsStoreless}
 use Rattle.cli_node.proofs.Kept.{kept_in}
 use Rattle.cli_node.proofs.Stores.{by_fault, err_is, kind_of_fault, not_lost, unfailed_fault}
-use Rattle.cli_node.proofs.store.record_at.Goals as goal
+use Rattle.cli_node.proofs.node.MemberStart.opened_record.Goals as goal
 
 pub returns-in-Ok-clause-rows : goal.returns-in-Ok-clause-rows
 returns-in-Ok-clause-rows g c =
@@ -16,8 +16,8 @@ returns-in-Ok-clause-rows g c =
 
 pub returns-in-Err-clause-refused : goal.returns-in-Err-clause-refused
 returns-in-Err-clause-refused g c =
-    subst (λ (o : Outcome). IsStoreless c.args.arguments.is_from_file c.args.arguments.is_new o) (sym c.untaken.ensures.is)
-    (by_fault c.args.arguments.is_from_file c.args.arguments.is_new c.in-Err.fault)
+    subst (λ (o : Outcome). IsStoreless c.args.self.now.start.arguments.is_from_file c.args.self.now.start.arguments.is_new o) (sym c.untaken.ensures.is)
+    (by_fault c.args.self.now.start.arguments.is_from_file c.args.self.now.start.arguments.is_new c.in-Err.fault)
 
 pub returns-in-Err-clause-kind : goal.returns-in-Err-clause-kind
 returns-in-Err-clause-kind g c =

@@ -1,7 +1,7 @@
 -- the record is opened alone
 use Rattle.std.proofs.Common.{[]}
 use Rattle.node_loop.proofs.Hosted.{runs}
-use Rattle.cli_node.proofs.node.open_alone.Goals as goal
+use Rattle.cli_node.proofs.node.MemberStart.open_alone.Goals as goal
 
 pub returns-clause-hosted : goal.returns-clause-hosted
 returns-clause-hosted g c =
