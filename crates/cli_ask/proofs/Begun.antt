@@ -28,3 +28,17 @@ exchanged is_refused is_new contents remaining r reply (Err fault.Memory) a p n 
 exchanged is_refused is_new contents remaining r reply (Err fault.NoAnswer) a p n = absurd (n refl)
 exchanged {D} is_refused is_new contents remaining r reply (Err fault.BadAnswer) a p n =
     answer_begun is_new contents remaining ((now : D) × is_refused now) r (reply_value reply) a
+
+-- one that has no answer
+pub unanswered : {D S : Type 0} (is_refused : D → Type 0) (is_new : S → Type 0) (contents remaining : S → Option (List ℕ)) (r : Request) (now : D) (f : AskFault) →
+    IsUnanswered is_new contents (is_refused now) r f → HasExchange is_refused is_new contents remaining r (Err f)
+unanswered is_refused is_new contents remaining r now fault.Memory h = tt
+unanswered is_refused is_new contents remaining r now fault.NoAnswer h = (now, h)
+unanswered is_refused is_new contents remaining r now fault.BadAnswer h = h
+
+-- one whose answer can't be read
+pub unread : {S : Type 0} (is_new : S → Type 0) (contents : S → Option (List ℕ)) (is_refused : Type 0) (r : Request) (f : AskFault) → (f ≡ fault.NoAnswer → ⊥) →
+    IsUnanswered is_new contents is_refused r fault.BadAnswer → IsUnanswered is_new contents is_refused r f
+unread is_new contents is_refused r fault.Memory other h = tt
+unread is_new contents is_refused r fault.NoAnswer other h = absurd (other refl)
+unread is_new contents is_refused r fault.BadAnswer other h = h

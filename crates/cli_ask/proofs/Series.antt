@@ -1,13 +1,13 @@
 -- Requests one after the other.
 use Rattle.std.proofs.Common.{◌≡◌, ◌∙◌, ℕ, ◌+◌, Bool, true, false, List, [], ◌∷◌, ◌++◌, length, not, Option, Some, None, Result, Ok, Err, refl, sym, ap, subst, append_assoc, append-nil, inl, inr}
-use Rattle.std.specs.Prelude.{is_ok}
+use Rattle.std.specs.Prelude.{◌&&◌, if◌then◌else◌, is_ok}
 use Rattle.std.specs.List.{list_all, flat_map}
 use Rattle.std.proofs.lemmas.Bool.{and_from, and_parts, or_parts}
 use Rattle.std.proofs.lemmas.List.{length_push}
 use Rattle.cli_ask.specs.Calls.{Request}
 use Rattle.cli_ask.specs.Replies.{Answer}
 use Rattle.cli_ask.specs.Asking.{Answered, Event, Asked, Looked, Adds, asked_again, answer_value, is_open, is_last, ends_answered, in_time, OrMemory, SeriesEnds, IsSeries, IsAsked, IsFollowedBy}
-use Rattle.cli_ask.specs.Asking.{IsAskedAs, AskedOn, FollowedUp, AskedVerdicts, outcome_call, outcome_of}
+use Rattle.cli_ask.specs.Asking.{IsAskedAs, AskedOn, FollowedUp, AskedVerdicts, accepted, is_command, number_after, outcome_call, outcome_of}
 use Rattle.cli_ask.specs.declared.call.Kind.{Kind}
 use Rattle.cli_ask.specs.declared.call.Kind.TheVariants as kind
 use Rattle.cli_ask.specs.declared.exchange.AskFault.{AskFault}
@@ -196,3 +196,12 @@ at_last x y z r once limit first answer other (es, (adds, series)) (fs, (more, f
     }),
   ),
 )
+
+-- only where more than one request is made it is asked what became of it
+none_once : (b : Bool) (o : Option (List ℕ)) → (if b && false then o else None) ≡ None
+none_once true o = refl
+none_once false o = refl
+
+pub number_once : (k : Kind) (once : Bool) (body number : List ℕ) → number_after k once body ≡ Some number → once ≡ false
+number_once k false body number e = refl
+number_once k true body number e = let none : None ≡ Some number = sym (none_once (is_command k) (accepted body)) ∙ e in absurd cc

@@ -1,7 +1,7 @@
 //! The node's answers: whether what was asked for was done.
 
 ghost use Rattle.std.specs.Prelude.{◌≡◌, ◌≤◌, length};
-ghost use Rattle.cli_ask.specs.Answers.{all_match, behind_first, behind_line, is_done, is_made, line_len};
+ghost use Rattle.cli_ask.specs.Answers.{all_match, behind_line, is_done, line_len};
 ghost use Rattle.cli_ask.specs.Answers.{outcome_behind, word_len};
 
 use crate::call::Kind;
@@ -24,16 +24,6 @@ fn word_len(text: &[u8]) -> usize
     text.iter().take_while(|b| **b != b' ').count()
 }
 
-/// What is behind the first byte.
-fn behind_first(text: &[u8]) -> &[u8]
-    ensures { result.now ≡ behind_first text.now }
-{
-    match text {
-        [_, rest @ ..] => rest,
-        [] => &[],
-    }
-}
-
 /// What is behind the first line, if that begins so; else all of it.
 pub(crate) fn behind_line<'a>(body: &'a [u8], front: &[u8]) -> &'a [u8]
     ensures { result.now ≡ behind_line front.now body.now }
@@ -41,8 +31,10 @@ pub(crate) fn behind_line<'a>(body: &'a [u8], front: &[u8]) -> &'a [u8]
     if !body.starts_with(front) {
         return body;
     }
-    let (_, rest) = body.split_at(line_len(body));
-    behind_first(rest)
+    match body.split_at(line_len(body)) {
+        (_, [_, rest @ ..]) => rest,
+        (_, []) => &[],
+    }
 }
 
 /// What became of a command: what is behind the line `asked N.NUMBER`, if that comes first.
@@ -68,24 +60,15 @@ fn all_match(body: &[u8]) -> bool
     rest.starts_with(b" ")
 }
 
-/// Whether a change was made, or accepted where nothing more was asked: an outcome that isn't known any more is
-/// neither.
-fn is_made(code: u16, body: &[u8]) -> bool
-    ensures { result ≡ is_made code body.now }
-{
-    code == 202 || code < 300 && outcome_behind(body).starts_with(b"ok")
-}
-
-/// Whether an answer, by HTTP's status and its body, is that what was asked for was done.
+/// Whether an answer, by HTTP's status and its body, is that what was asked for was done. A change was made, or accepted
+/// where nothing more was asked: an outcome that isn't known any more is neither.
 pub(crate) fn is_done(kind: Kind, code: u16, body: &[u8]) -> bool
     ensures { result ≡ is_done kind code body.now }
 {
     match kind {
-        Kind::Read => code < 300,
-        Kind::List => code < 300,
-        Kind::Test => code < 300,
+        Kind::Read | Kind::List | Kind::Test => code < 300,
         Kind::TableTest => code < 300 && all_match(body),
         Kind::Sync => code < 300 && !outcome_behind(body).starts_with(b"refused"),
-        Kind::Change => is_made(code, body),
+        Kind::Change => code == 202 || code < 300 && outcome_behind(body).starts_with(b"ok"),
     }
 }

@@ -2,16 +2,12 @@
 
 ghost use Rattle.std.specs.Prelude.{◌≡◌, ◌≤◌};
 ghost use Rattle.cli_ask.specs.Calls.{call_value};
-ghost use Rattle.cli_ask.specs.Replies.{reply_value};
-ghost use Rattle.cli_ask.specs.Asking.{answer_value, is_open, is_last, in_time, OrMemory, AskedOn, FollowedUp};
-ghost use Rattle.cli_ask.specs.Asking.{limit_of};
-ghost use Rattle.cli_ask.specs.Asking.{AskedAt};
+ghost use Rattle.cli_ask.specs.Asking.{answer_value, is_last, is_open, in_time, limit_of, OrMemory, AskedOn, AskedAt};
 
 use crate::call::{Call, Kind};
 use crate::commands::{is_waiting, number_after, outcome_call, outcome_of, waiting};
 use crate::control::Control;
-use crate::exchange::{AskFault, Deadline, PATIENCE, Reply};
-use crate::verdicts::verdicts;
+use crate::exchange::{Answered, AskFault, Deadline, PATIENCE};
 use std::alloc::Global;
 use std::io::Read;
 use std::net::Net;
@@ -37,12 +33,9 @@ impl<RT: Net> Pauses for RT {
     /// It waits for what never comes over a stream of its own.
     fn pause(&self, milliseconds: u64) {
         if let Ok((mut near, _far)) = UnixStream::pair(self) {
-            if near
-                .set_read_timeout(Some(Duration::from_millis(milliseconds)))
-                .is_ok()
-            {
-                let mut room = [0u8; 1];
-                let _nothing = near.read(&mut room);
+            let timeout = Some(Duration::from_millis(milliseconds));
+            if near.set_read_timeout(timeout).is_ok() {
+                let _nothing = near.read(&mut [0u8; 1]);
             }
         }
     }
@@ -50,7 +43,7 @@ impl<RT: Net> Pauses for RT {
 
 /// Whether it is to be asked again: the node answers that the request is waiting; or there is no answer to a request
 /// that makes no change, as while the node is restarted.
-fn is_open(call: &Call, found: &Result<Reply, AskFault>) -> bool
+fn is_open(call: &Call, found: &Answered) -> bool
     ensures { result ≡ is_open (call_value call.now) (answer_value found.now) }
 {
     match found {
@@ -61,76 +54,54 @@ fn is_open(call: &Call, found: &Result<Reply, AskFault>) -> bool
 }
 
 /// Whether it isn't asked again.
-fn is_last(call: &Call, found: &Result<Reply, AskFault>, is_once: bool) -> bool
+fn is_last(call: &Call, found: &Answered, is_once: bool) -> bool
     ensures { result ≡ is_last (call_value call.now) is_once (answer_value found.now) }
 {
     is_once || !is_open(call, found)
 }
 
 /// What is answered once the time is over: the answer, or where there is none the one before.
-fn in_time(
-    alloc: Global,
-    is_waiting: bool,
-    found: Result<Reply, AskFault>,
-) -> Result<Reply, AskFault>
+fn in_time(alloc: Global, is_waiting: bool, found: Answered) -> Answered
     ensures { OrMemory (in_time is_waiting (answer_value found)) (answer_value result) }
 {
     match found {
         Err(_) if is_waiting => Ok(waiting(alloc)?),
-        Ok(reply) => Ok(reply),
-        Err(fault) => Err(fault),
+        found => found,
     }
 }
 
-/// Asks again while that is to be done and time is left, if it may be asked again at all. Where the time is over behind
-/// an answer, that is the answer; in the midst of an ask that may be made again, the one before.
-pub(crate) fn ask_on<RT: Pauses, C: Control>(
-    rt: &RT,
-    alloc: Global,
-    control: &mut C,
-    call: &Call,
+/// How requests are made: with what it is waited between two, until when, and whether each is made once alone.
+#[derive(Clone, Copy)]
+pub(crate) struct Asking<'a, RT> {
+    rt: &'a RT,
+    pub(crate) alloc: Global,
     deadline: Deadline,
     is_once: bool,
-) -> Result<Reply, AskFault>
-    ensures { AskedOn (C.exchanged control.old) (C.exchanged control.new) (call_value call.now) is_once
-        deadline.seconds (answer_value result) }
-{
-    let mut is_waiting = false;
-    for ask in 0..u64::MAX {
-        let found = control.ask(alloc, call, deadline);
-        if is_last(call, &found, is_once) {
-            return found;
-        }
-        if ask >= AT_ONCE {
-            rt.pause(PAUSE);
-        }
-        if control.is_over(deadline) {
-            return in_time(alloc, is_waiting, found);
-        }
-        is_waiting = found.is_ok();
-    }
-    control.ask(alloc, call, deadline)
 }
 
-/// Behind a command that was accepted, asks what became of it.
-fn follow_up<RT: Pauses, C: Control>(
-    rt: &RT,
-    alloc: Global,
-    control: &mut C,
-    kind: Kind,
-    deadline: Deadline,
-    is_once: bool,
-    first: Reply,
-) -> Result<Reply, AskFault>
-    ensures { FollowedUp (C.exchanged control.old) (C.exchanged control.new) kind is_once deadline.seconds
-        (reply_value first) (answer_value result) }
-{
-    let Some(number) = number_after(kind, is_once, first.body.as_slice()) else {
-        return Ok(first);
-    };
-    let call = outcome_call(alloc, number)?;
-    let second = ask_on(rt, alloc, control, &call, deadline, false);
-    outcome_of(alloc, kind, first, second)
+impl<RT: Pauses> Asking<'_, RT> {
+    /// Asks again while that is to be done and time is left, if it may be asked again at all. Where the time is over
+    /// behind an answer, that is the answer; in the midst of an ask that may be made again, the one before.
+    pub(crate) fn ask_on<C: Control>(&self, control: &mut C, call: &Call) -> Answered
+        ensures { AskedOn (C.exchanged control.old) (C.exchanged control.new) (call_value call.now) self.now.is_once
+            self.now.deadline.seconds (answer_value result) }
+    {
+        let mut is_waiting = false;
+        for ask in 0..u64::MAX {
+            let found = control.ask(self.alloc, call, self.deadline);
+            if is_last(call, &found, self.is_once) {
+                return found;
+            }
+            if ask >= AT_ONCE {
+                self.rt.pause(PAUSE);
+            }
+            if control.is_over(self.deadline) {
+                return in_time(self.alloc, is_waiting, found);
+            }
+            is_waiting = found.is_ok();
+        }
+        control.ask(self.alloc, call, self.deadline)
+    }
 }
 
 /// For how many seconds it is waited in all.
@@ -151,17 +122,25 @@ pub(crate) fn ask_at<RT: Pauses + Clock, C: Control>(
     control: &mut C,
     call: &Call,
     seconds: u32,
-) -> Result<Reply, AskFault>
+) -> Answered
     ensures { AskedAt (C.exchanged control.old) (C.exchanged control.new) (call_value call.now) seconds
         (answer_value result) }
 {
     let is_once = seconds == 0;
     let deadline = Deadline::new(rt, limit_of(seconds));
-    match call.kind {
-        Kind::Test => verdicts(rt, alloc, control, call, deadline, is_once),
-        kind => match ask_on(rt, alloc, control, call, deadline, is_once) {
-            Ok(first) => follow_up(rt, alloc, control, kind, deadline, is_once, first),
-            Err(fault) => Err(fault),
-        },
+    let asking = Asking {
+        rt,
+        alloc,
+        deadline,
+        is_once,
+    };
+    if let Kind::Test = call.kind {
+        return asking.verdicts(control, call);
     }
+    let first = asking.ask_on(control, call)?;
+    let Some(number) = number_after(call.kind, is_once, first.body.as_slice()) else {
+        return Ok(first);
+    };
+    let second = asking.ask_on(control, &outcome_call(alloc, number)?);
+    outcome_of(alloc, call.kind, first, second)
 }

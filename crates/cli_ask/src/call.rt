@@ -44,29 +44,21 @@ impl Call {
     {
         Call {
             method: "GET",
-            target,
-            body: Vec::new(alloc),
-            kind,
-            is_repeatable: false,
+            ..Call::post(target, Vec::new(alloc), kind)
         }
     }
 
     /// A request with a body.
-    pub(crate) fn post(
-        alloc: Global,
-        target: &str,
-        body: Vec<u8>,
-        kind: Kind,
-    ) -> Result<Call, AllocError>
-        ensures { IfOk result (λ c. call_value c ≡ post target.now body.items kind) }
+    pub(crate) fn post(target: String, body: Vec<u8>, kind: Kind) -> Call
+        ensures { call_value result ≡ post (string_bytes target) body.items kind }
     {
-        Ok(Call {
+        Call {
             method: "POST",
-            target: String::from_str(alloc, target)?,
+            target,
             body,
             kind,
             is_repeatable: false,
-        })
+        }
     }
 
     /// The same with another body.
@@ -74,11 +66,9 @@ impl Call {
         ensures { IfOk result (λ c. call_value c ≡ record (call_value self.now) { body = body.now }) }
     {
         Ok(Call {
-            method: self.method,
             target: String::from_str(alloc, self.target.as_str())?,
             body: Vec::from_slice(alloc, body)?,
-            kind: self.kind,
-            is_repeatable: self.is_repeatable,
+            ..*self
         })
     }
 
@@ -89,6 +79,6 @@ impl Call {
         ensures long { IsErrOf result TooLong → is_too_long (command_value command.now) ≡ true }
     {
         let bytes = encode_asked(alloc, 0, 0, command)?;
-        Ok(Call::post(alloc, "/v1/entry", bytes, kind)?)
+        Ok(Call::post(String::from_str(alloc, "/v1/entry")?, bytes, kind))
     }
 }

@@ -1,16 +1,16 @@
 //! What a node answers of a command, step by step.
 
-ghost use Rattle.std.specs.Prelude.{◌≡◌, ◌+◌, ◌++◌, IfOk, codes, decimal, min, option_map};
+ghost use Rattle.std.specs.Prelude.{◌≡◌, IfOk, option_map};
 ghost use Rattle.cli_ask.specs.Calls.{call_value};
 ghost use Rattle.cli_ask.specs.Replies.{reply_value};
-ghost use Rattle.cli_ask.specs.Asking.{is_waiting, waiting, only_line, accepted, is_command, number_after};
+ghost use Rattle.cli_ask.specs.Asking.{is_waiting, waiting, is_command, number_after};
 ghost use Rattle.cli_ask.specs.Asking.{outcome_call};
-ghost use Rattle.cli_ask.specs.Asking.{code_of, joined, position_in, synced, outcome_in};
+ghost use Rattle.cli_ask.specs.Asking.{code_of, joined, position_in, synced};
 ghost use Rattle.cli_ask.specs.Asking.{outcome_of, answer_value, OrMemory};
 
 use crate::answers::{behind_line, line_len};
 use crate::call::{Call, Kind};
-use crate::exchange::{AskFault, Reply};
+use crate::exchange::{Answered, AskFault, Reply};
 use crate::reply::{number, text_in};
 use std::alloc::{AllocError, Global};
 
@@ -42,25 +42,6 @@ pub(crate) fn waiting(alloc: Global) -> Result<Reply, AllocError>
     })
 }
 
-/// The first line, where it is the whole body; none where it isn't UTF-8.
-fn only_line(body: &[u8]) -> Option<&str>
-    ensures { option_map (λ n. n.now) result ≡ only_line body.now }
-{
-    let (line, end) = body.split_at(line_len(body));
-    if end == b"\n".as_slice() {
-        text_in(line)
-    } else {
-        None
-    }
-}
-
-/// The number of a request that a node accepted, by its answer.
-fn accepted(body: &[u8]) -> Option<&str>
-    ensures { option_map (λ n. n.now) result ≡ accepted body.now }
-{
-    only_line(body.strip_prefix(ASKED)?)
-}
-
 /// Whether a request is a command.
 pub(crate) fn is_command(kind: Kind) -> bool
     ensures { result ≡ is_command kind }
@@ -71,15 +52,20 @@ pub(crate) fn is_command(kind: Kind) -> bool
     }
 }
 
-/// The number of a command whose outcome is waited for.
+/// The number of a command whose outcome is waited for, by the answer that it was accepted: the first line, where it is
+/// the whole body; none where it isn't UTF-8.
 pub(crate) fn number_after(kind: Kind, is_once: bool, body: &[u8]) -> Option<&str>
     ensures { option_map (λ n. n.now) result ≡ number_after kind is_once body.now }
 {
-    if is_command(kind) && !is_once {
-        accepted(body)
-    } else {
-        None
+    if !is_command(kind) || is_once {
+        return None;
     }
+    let rest = body.strip_prefix(ASKED)?;
+    let (line, end) = rest.split_at(line_len(rest));
+    if end != b"\n".as_slice() {
+        return None;
+    }
+    text_in(line)
 }
 
 /// What asks for the outcome of a request.
@@ -112,8 +98,7 @@ fn joined(first: Reply, second: Reply) -> Result<Reply, AllocError>
     Ok(Reply {
         code: code_of(&second),
         body,
-        front: second.front,
-        applied: second.applied,
+        ..second
     })
 }
 
@@ -126,50 +111,22 @@ fn position_in(body: &[u8]) -> Option<u32>
     number(digits)
 }
 
-/// The line that has a number of positions.
-fn line_at(alloc: Global, position: u32) -> Result<Vec<u8>, AllocError>
-    ensures { IfOk result (λ v. v.items ≡ codes "at " ++ decimal (min (position + 1) 4294967295) ++ codes "\n") }
-{
-    Ok(format!(in alloc; "at {}\n", position.saturating_add(1))?.into_bytes())
-}
-
 /// How many positions a node has applied that applied this command.
-fn synced(alloc: Global, reply: Reply) -> Result<Reply, AllocError>
+fn synced(alloc: Global, mut reply: Reply) -> Result<Reply, AllocError>
     ensures { IfOk result (λ r. reply_value r ≡ synced (reply_value reply)) }
 {
     match position_in(reply.body.as_slice()) {
-        Some(position) => Ok(Reply {
-            code: reply.code,
-            body: line_at(alloc, position)?,
-            front: reply.front,
-            applied: reply.applied,
-        }),
-        None => Ok(Reply {
-            code: code_of(&reply),
-            front: reply.front,
-            applied: reply.applied,
-            body: reply.body,
-        }),
+        Some(position) => {
+            let line = format!(in alloc; "at {}\n", position.saturating_add(1))?;
+            reply.body = line.into_bytes();
+        }
+        None => reply.code = code_of(&reply),
     }
+    Ok(reply)
 }
 
-/// What is answered of a command that was accepted, by what became of it.
-fn outcome_in(alloc: Global, kind: Kind, first: Reply, second: Reply) -> Result<Reply, AllocError>
-    ensures { IfOk result (λ r. reply_value r ≡ outcome_in kind (reply_value first) (reply_value second)) }
-{
-    match kind {
-        Kind::Sync => synced(alloc, second),
-        _ => joined(first, second),
-    }
-}
-
-/// The same of an answer that may be missing.
-pub(crate) fn outcome_of(
-    alloc: Global,
-    kind: Kind,
-    first: Reply,
-    second: Result<Reply, AskFault>,
-) -> Result<Reply, AskFault>
+/// What is answered of a command that was accepted, by what became of it, where that isn't missing.
+pub(crate) fn outcome_of(alloc: Global, kind: Kind, first: Reply, second: Answered) -> Answered
     ensures { OrMemory (outcome_of kind (reply_value first) (answer_value second)) (answer_value result) }
 {
     let second = match second {
@@ -177,5 +134,8 @@ pub(crate) fn outcome_of(
         Err(AskFault::Memory) => return Err(AskFault::Memory),
         Err(AskFault::NoAnswer | AskFault::BadAnswer) => waiting(alloc)?,
     };
-    Ok(outcome_in(alloc, kind, first, second)?)
+    match kind {
+        Kind::Sync => Ok(synced(alloc, second)?),
+        _ => Ok(joined(first, second)?),
+    }
 }

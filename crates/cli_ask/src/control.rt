@@ -1,16 +1,18 @@
 //! The peer at a control socket.
 
-ghost use Rattle.std.specs.Prelude.{◌≡◌, ◌⊎◌, ℕ, ◌+◌, List, [], ◌∷◌, Some, Err, IfOk, string_bytes};
+ghost use Rattle.std.specs.Prelude.{◌≡◌, ℕ, List, [], ◌∷◌, Some, None, Err, IfOk, string_bytes};
 ghost use Rattle.cli_ask.specs.Calls.{call_value};
 ghost use Rattle.cli_ask.specs.Replies.{reply_value};
 ghost use Rattle.cli_ask.specs.Asking.{Event, Asked, Looked, Directed, Adds, answer_value};
-ghost use Rattle.cli_ask.specs.Exchanges.{AreExchanged, HasExchange};
+ghost use Rattle.cli_ask.specs.Exchanges.{AreExchanged};
 ghost use Rattle.cli_ask.specs.Reading.{ReadAt};
 ghost use Rattle.cli_ask.specs.Showing.{printable};
 ghost use Rattle.cli_ask.specs.declared.exchange.AskFault.TheVariants as fault;
 
-use crate::call::Call;
-use crate::exchange::{AskFault, ControlSocket, Deadline, Dial, Reply, exchange, read_over};
+use crate::call::{Call, Kind};
+use crate::exchange::{
+    Answered, AskFault, ControlSocket, Deadline, Dial, PATIENCE, Reply, exchange,
+};
 use crate::showing::shown;
 use std::alloc::Global;
 use std::net::Net;
@@ -22,7 +24,7 @@ pub trait Control {
     ghost exchanged: { Self → List Event → Type 0 };
 
     /// Makes a request once, and waits for the answer until the deadline.
-    fn ask(&mut self, alloc: Global, call: &Call, deadline: Deadline) -> Result<Reply, AskFault>
+    fn ask(&mut self, alloc: Global, call: &Call, deadline: Deadline) -> Answered
         ensures { Adds (exchanged self.old) (exchanged self.new)
             (Asked deadline.seconds (call_value call.now) (answer_value result) ∷ []) };
 
@@ -43,34 +45,16 @@ pub trait Direct<'a>: Control {
 }
 
 /// An answer as it is printed.
-fn printable(alloc: Global, reply: Reply) -> Result<Reply, AskFault>
+fn printable(alloc: Global, reply: Reply) -> Answered
     ensures value { IfOk result (λ r. printable (reply_value reply) ≡ Some (reply_value r)) }
     ensures none { result ≡ Err fault.BadAnswer → printable (reply_value reply) ≡ None }
     ensures some { result ≡ Err fault.NoAnswer → ⊥ }
 {
-    match shown(alloc, reply.body.as_slice())? {
-        Some(text) => Ok(Reply {
-            code: reply.code,
-            body: Vec::from_slice(alloc, text.as_bytes())?,
-            front: reply.front,
-            applied: reply.applied,
-        }),
-        None => Err(AskFault::BadAnswer),
-    }
-}
-
-/// Asks once, over one connection: the answer as it is printed.
-fn ask_over<D: Dial>(
-    alloc: Global,
-    dial: &mut D,
-    call: &Call,
-    deadline: Deadline,
-) -> Result<Reply, AskFault>
-    ensures dialed { (n : ℕ) → D.dialed dial.old n → D.dialed dial.new n ⊎ D.dialed dial.new (n + 1) }
-    ensures exchanged { HasExchange D.is_refused D.is_new D.Stream.contents D.Stream.remaining (call_value call.now)
-        (answer_value result) }
-{
-    printable(alloc, exchange(alloc, dial, call, deadline)?)
+    let text = shown(alloc, reply.body.as_slice())?.ok_or(AskFault::BadAnswer)?;
+    Ok(Reply {
+        body: text.into_bytes(),
+        ..reply
+    })
 }
 
 /// A peer that is reached over connections, by a clock.
@@ -86,8 +70,8 @@ impl<D: Dial, RT: Clock> Control for Reached<'_, D, RT> {
     ghost exchanged = { λ r es. AreExchanged D.dialed D.is_refused D.is_new D.Stream.contents D.Stream.remaining
         r.dial es };
 
-    fn ask(&mut self, alloc: Global, call: &Call, deadline: Deadline) -> Result<Reply, AskFault> {
-        ask_over(alloc, &mut self.dial, call, deadline)
+    fn ask(&mut self, alloc: Global, call: &Call, deadline: Deadline) -> Answered {
+        printable(alloc, exchange(alloc, &mut self.dial, call, deadline)?)
     }
 
     fn is_over(&mut self, deadline: Deadline) -> bool {
@@ -152,5 +136,11 @@ pub fn read_at<'a, RT: Clock, C: ControlSockets<'a>>(
         (answer_value result) }
 {
     let mut socket = sockets.socket_at(path);
-    read_over(rt, alloc, &mut socket, target)
+    let deadline = Deadline::new(rt, PATIENCE);
+    let call = Call::get(alloc, target, Kind::Read);
+    let reply = exchange(alloc, &mut socket, &call, deadline)?;
+    if reply.code != 200 {
+        return Err(AskFault::BadAnswer);
+    }
+    Ok(reply)
 }

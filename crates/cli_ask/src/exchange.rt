@@ -1,13 +1,11 @@
 //! One request and its answer over a Unix socket.
 
-ghost use Rattle.std.specs.Prelude.{◌≡◌, ◌⊎◌, ℕ, ◌+◌, ⊤, IfOk, IfErr, string_bytes};
+ghost use Rattle.std.specs.Prelude.{◌≡◌, ◌⊎◌, ℕ, ◌+◌, ⊤, IfOk, IfErr};
 ghost use Rattle.cli_ask.specs.Calls.{call_value};
 ghost use Rattle.cli_ask.specs.Codes.{ask_fault_code};
-ghost use Rattle.cli_ask.specs.Asking.{answer_value};
 ghost use Rattle.cli_ask.specs.Replies.{IsAnswerTo, IsUnanswered, reply_value};
-ghost use Rattle.cli_ask.specs.Reading.{IsRead};
 
-use crate::call::{Call, Kind};
+use crate::call::Call;
 use crate::reply::{reply_in, request_bytes};
 use cli_io::{BROKEN_ANSWER, InputFault, NOBODY_ANSWERS, read_all, write_bytes};
 use std::alloc::{AllocError, Global};
@@ -63,6 +61,9 @@ pub struct Reply {
     pub applied: Option<u32>,
 }
 
+/// An answer, or why there is none.
+pub(crate) type Answered = Result<Reply, AskFault>;
+
 /// Until when answers are waited for, however they come.
 #[derive(Clone, Copy)]
 pub struct Deadline {
@@ -88,10 +89,9 @@ impl Deadline {
         let limit = Duration::from_secs(u64::from(self.seconds));
         let left = limit.saturating_sub(Instant::now(rt)?.duration_since(start));
         if left.is_zero() {
-            Err(io::Error::from(ErrorKind::TimedOut))
-        } else {
-            Ok(left)
+            return Err(io::Error::from(ErrorKind::TimedOut));
         }
+        Ok(left)
     }
 }
 
@@ -175,7 +175,7 @@ pub(crate) fn exchange<D: Dial>(
     control: &mut D,
     call: &Call,
     deadline: Deadline,
-) -> Result<Reply, AskFault>
+) -> Answered
     ensures dialed { (n : ℕ) → D.dialed control.old n → D.dialed control.new n ⊎ D.dialed control.new (n + 1) }
     ensures answer { IfOk result (λ r. IsAnswerTo D.is_new D.Stream.contents D.Stream.remaining (call_value call.now)
         (reply_value r)) }
@@ -183,42 +183,17 @@ pub(crate) fn exchange<D: Dial>(
         (call_value call.now)) }
 {
     let bytes = request_bytes(alloc, call)?;
-    let Ok(mut stream) = control.dial(deadline) else {
-        return Err(AskFault::NoAnswer);
-    };
+    let mut stream = control.dial(deadline).ok().ok_or(AskFault::NoAnswer)?;
     // a refusal may come before all is sent
     let sent = write_bytes(&mut stream, bytes.as_slice());
-    match read_all(alloc, &mut stream) {
-        Ok(answer) => match reply_in(alloc, answer.as_slice()) {
-            Ok(reply) => if sent.is_ok() || reply.code >= 300 {
-                Ok(reply)
-            } else {
-                Err(AskFault::BadAnswer)
-            },
-            Err(fault) => Err(fault),
-        },
-        Err(InputFault::Memory) => Err(AskFault::Memory),
-        Err(InputFault::Failed | InputFault::TooLong) => Err(AskFault::BadAnswer),
-    }
-}
-
-/// What is read under a target, in one request over a connection: an answer whose status is 200, within 10 seconds.
-pub(crate) fn read_over<RT: Clock, D: Dial>(
-    rt: &RT,
-    alloc: Global,
-    control: &mut D,
-    target: String,
-) -> Result<Reply, AskFault>
-    ensures dialed { (n : ℕ) → D.dialed control.old n → D.dialed control.new n ⊎ D.dialed control.new (n + 1) }
-    ensures read { IsRead D.is_new D.Stream.contents D.Stream.remaining (D.is_refused control.new)
-        (string_bytes target) (answer_value result) }
-{
-    let deadline = Deadline::new(rt, PATIENCE);
-    let call = Call::get(alloc, target, Kind::Read);
-    let reply = exchange(alloc, control, &call, deadline)?;
-    if reply.code == 200 {
-        Ok(reply)
-    } else {
-        Err(AskFault::BadAnswer)
+    let answer = match read_all(alloc, &mut stream) {
+        Ok(answer) => answer,
+        Err(InputFault::Memory) => return Err(AskFault::Memory),
+        Err(InputFault::Failed | InputFault::TooLong) => return Err(AskFault::BadAnswer),
+    };
+    match reply_in(alloc, answer.as_slice()) {
+        Ok(reply) if sent.is_ok() || reply.code >= 300 => Ok(reply),
+        Ok(_) => Err(AskFault::BadAnswer),
+        Err(fault) => Err(fault),
     }
 }

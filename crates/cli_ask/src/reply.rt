@@ -4,13 +4,12 @@ ghost use Rattle.std.specs.Prelude.{◌≡◌, Err, IfOk, All, length, map, opti
 ghost use Rattle.std.specs.Str.{str_eq_ignore_ascii_case};
 ghost use Rattle.httparse.specs.Spans.{IsHeaderWithin, header_bytes};
 ghost use Rattle.cli_ask.specs.Calls.{call_value};
-ghost use Rattle.cli_io.specs.Numbers.{number_of};
 ghost use Rattle.cli_ask.specs.Replies.{request_head, request_bytes, number, text_of, field_in, number_in};
 ghost use Rattle.cli_ask.specs.Replies.{is_number, has_length};
 ghost use Rattle.cli_ask.specs.Replies.{answer_of, reply_value, IsAnswer, IsNoAnswer};
 
 use crate::call::Call;
-use crate::exchange::{AskFault, Reply};
+use crate::exchange::{Answered, AskFault, Reply};
 use httparse::Status;
 use httparse::spans::{EMPTY_HEADER_SPAN, HeaderSpan, parse_response};
 use std::alloc::{AllocError, Global};
@@ -37,7 +36,7 @@ pub(crate) fn request_bytes(alloc: Global, call: &Call) -> Result<Vec<u8>, Alloc
     ensures { IfOk result (λ v. v.items ≡ request_bytes (call_value call.now)) }
 {
     let head = request_head(alloc, call.method, call.target.as_str(), call.body.len())?;
-    let mut bytes = Vec::from_slice(alloc, head.as_bytes())?;
+    let mut bytes = head.into_bytes();
     bytes.extend_from_slice(call.body.as_slice())?;
     Ok(bytes)
 }
@@ -50,21 +49,12 @@ pub(crate) fn text_in(bytes: &[u8]) -> Option<&str>
     std::str::from_utf8(bytes).ok()
 }
 
-/// The number that digits write, perhaps behind a plus, none from 2^32 on.
-fn number_of(text: &str) -> Option<u32>
-    ensures { result ≡ number_of text.now }
-{
-    match text.parse::<u32>() {
-        Ok(number) => Some(number),
-        Err(_) => None,
-    }
-}
-
-/// The same of bytes, none where they aren't UTF-8.
+/// The number that digits write, perhaps behind a plus, none from 2^32 on, and where they aren't UTF-8.
+#[tactic(auto, using(cli_io::proofs::Digits::number_read, cli_io::proofs::Digits::no_number))]
 pub(crate) fn number(bytes: &[u8]) -> Option<u32>
     ensures { result ≡ number bytes.now }
 {
-    number_of(text_in(bytes)?)
+    text_in(bytes)?.parse().ok()
 }
 
 /// Whether two names of fields are the same, whatever the case of their letters.
@@ -133,7 +123,7 @@ fn answer_of(
 }
 
 /// The answer that the bytes are. `BadAnswer` where they are none.
-pub(crate) fn reply_in(alloc: Global, bytes: &[u8]) -> Result<Reply, AskFault>
+pub(crate) fn reply_in(alloc: Global, bytes: &[u8]) -> Answered
     ensures answer { IfOk result (λ r. IsAnswer bytes.now (reply_value r)) }
     ensures none { result ≡ Err AskFault.BadAnswer → IsNoAnswer bytes.now }
     ensures some { result ≡ Err AskFault.NoAnswer → ⊥ }

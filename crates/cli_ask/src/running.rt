@@ -1,28 +1,29 @@
 //! A run of `ask` with `--control`.
 
-ghost use Rattle.std.specs.Prelude.{◌≡◌, IfOk, IfErr, map, option_map};
+ghost use Rattle.std.specs.Prelude.{◌≡◌, IfOk, IfErr, codes, map, option_map, unwrap_or};
 ghost use Rattle.clap.specs.Words.{found_of, rows_of};
 ghost use Rattle.cli_ask.specs.Arguments.{given_of};
 ghost use Rattle.cli_ask.specs.Asking.{answer_value};
+ghost use Rattle.cli_io.specs.Numbers.{number_at};
 ghost use Rattle.cli_io.specs.Sources.{IsText, IsNamed};
 ghost use Rattle.cli_ask.specs.Outcomes.{IsUnread, HasNoText};
-ghost use Rattle.cli_ask.specs.Outcomes.{Replied, AsksWith, Asks};
-ghost use Rattle.cli_ask.specs.Outcomes.{are_there, has_others, seconds_by, refusal_in, IsScript, IsNoScript};
-ghost use Rattle.cli_ask.specs.Outcomes.{RunsScript, Runs};
+ghost use Rattle.cli_ask.specs.Outcomes.{Replied, AsksWith, Asks, Runs};
+ghost use Rattle.cli_ask.specs.Outcomes.{has_others, seconds_by, refusal_in, IsScript, IsNoScript};
 ghost use Rattle.cli_ask.specs.Running.{Ran};
 
-use crate::arguments::{call_in, has_option};
+use crate::arguments::has_option;
 use crate::asking::{Pauses, ask_at};
 use crate::call::Kind;
 use crate::checking::Refused;
 use crate::commands::is_command;
 use crate::control::{Control, Direct};
-use crate::exchange::{AskFault, Reply};
+use crate::exchange::Answered;
 use crate::options::command;
 use crate::outcome::{Outcome, refused, write_outcome};
 use crate::reporting::report_left;
 use crate::script::refused_script;
-use crate::scripting::{ScriptRequest, ask_script};
+use crate::scripting::ScriptRequest;
+use crate::target::Given;
 use clap::ArgMatches;
 use cli_io::{
     InputFault, Sources, Status, UNREADABLE, given_in, has_flag, misused, number_in, out_of_memory,
@@ -40,33 +41,13 @@ fn unread(name: &str, fault: InputFault) -> Outcome
 {
     match fault {
         InputFault::Memory => Outcome::Memory,
-        InputFault::Failed | InputFault::TooLong => if name == "-" {
-            Outcome::Unread
-        } else {
-            refused(UNREADABLE)
-        },
+        InputFault::Failed | InputFault::TooLong if name == "-" => Outcome::Unread,
+        InputFault::Failed | InputFault::TooLong => refused(UNREADABLE),
     }
 }
 
-/// The text that an option names; none without it.
-fn text_for<T: Sources, R: Read>(
-    sources: &T,
-    alloc: Global,
-    named: Option<&str>,
-    reader: &mut R,
-) -> Result<Vec<u8>, Outcome>
-    ensures text { IfOk result (λ text. IsNamed (option_map (λ n. n.now) named.entry)
-        (IsText (T.has sources.now) (R.remaining reader.old)) text.items) }
-    ensures none { IfErr result (λ outcome. HasNoText (option_map (λ n. n.now) named.entry) outcome) }
-{
-    let Some(name) = named else {
-        return Ok(Vec::new(alloc));
-    };
-    source_named(sources, alloc, name, reader).map_err(|fault| unread(name, fault))
-}
-
 /// The outcome of an answer. For a command the number of positions left is written, once the log nears its end.
-fn replied<E: Write>(kind: Kind, answer: Result<Reply, AskFault>, errors: &mut E) -> Outcome
+fn replied<E: Write>(kind: Kind, answer: Answered, errors: &mut E) -> Outcome
     ensures { Replied kind (answer_value answer) result }
 {
     match answer {
@@ -80,62 +61,12 @@ fn replied<E: Write>(kind: Kind, answer: Result<Reply, AskFault>, errors: &mut E
     }
 }
 
-/// Makes the request that the arguments ask for with this text.
-fn ask_with<RT: Pauses + Clock, C: Control, E: Write>(
-    rt: &RT,
-    alloc: Global,
-    matches: &ArgMatches<'_>,
-    control: &mut C,
-    text: &[u8],
-    errors: &mut E,
-) -> Outcome
-    ensures { AsksWith (C.exchanged control.old) (C.exchanged control.new) (rows_of (found_of matches.now)) text.now
-        result }
-{
-    let at = number_in(matches, "at").unwrap_or(0);
-    let call = match call_in(alloc, matches, text, at) {
-        Ok(call) => call,
-        Err(outcome) => return outcome,
-    };
-    let seconds = number_in(matches, "wait").unwrap_or(0);
-    let answer = ask_at(rt, alloc, control, &call, seconds);
-    replied(call.kind, answer, errors)
-}
-
-/// What the arguments give at a control socket.
-fn outcome_of<RT: Pauses + Clock + Sources, C: Control, R: Read, E: Write>(
-    rt: &RT,
-    alloc: Global,
-    matches: &ArgMatches<'_>,
-    control: &mut C,
-    reader: &mut R,
-    errors: &mut E,
-) -> Outcome
-    ensures { Asks (C.exchanged control.old) (C.exchanged control.new) (rows_of (found_of matches.now))
-        (IsText (RT.has rt.now) (R.remaining reader.old)) result }
-{
-    if number_in(matches, "from").is_some() {
-        return refused(USAGE);
-    }
-    match text_for(rt, alloc, value_in(matches, "file"), reader) {
-        Ok(text) => ask_with(rt, alloc, matches, control, text.as_slice(), errors),
-        Err(outcome) => outcome,
-    }
-}
-
-/// Whether there are arguments.
-fn are_there(args: &[&str]) -> bool
-    ensures { result ≡ are_there (map (λ a. a.now) args.now) }
-{
-    matches!(args, [_, ..])
-}
-
 /// Whether arguments are there beside a script that are none of it.
 fn has_others(matches: &ArgMatches<'_>) -> bool
     ensures { result ≡ has_others (rows_of (found_of matches.now)) }
 {
     has_option(matches)
-        || are_there(values_in(matches, "address"))
+        || !values_in(matches, "address").is_empty()
         || number_in(matches, "at").is_some()
 }
 
@@ -146,106 +77,131 @@ fn seconds_by(wait: Option<u32>) -> u32
     wait.map_or(60, |seconds| seconds.max(1))
 }
 
-/// What a script is refused for before a node is asked, unless `--unchecked` is given.
-fn refusal_in(
+/// A run over what is lent to it.
+#[derive(Clone, Copy)]
+struct Run<'r, 'm, 'a, RT> {
+    rt: &'r RT,
     alloc: Global,
-    matches: &ArgMatches<'_>,
-    script: &[u8],
-) -> Result<Option<Refused>, AllocError>
-    ensures { IfOk result (λ r. r ≡ refusal_in (rows_of (found_of matches.now)) script.now) }
-{
-    if has_flag(matches, "unchecked") {
-        return Ok(None);
-    }
-    refused_script(
-        alloc,
-        script,
-        u64::from(number_in(matches, "from").unwrap_or(1)),
-    )
-}
-
-/// The script that is asked, or why none is.
-fn script_in<T: Sources, R: Read>(
-    sources: &T,
-    alloc: Global,
-    matches: &ArgMatches<'_>,
-    file: &str,
-    reader: &mut R,
-) -> Result<Vec<u8>, Outcome>
-    ensures script { IfOk result (λ script. IsScript (rows_of (found_of matches.now)) file.now
-        (IsText (T.has sources.now) (R.remaining reader.old)) script.items) }
-    ensures none { IfErr result (λ outcome. IsNoScript (rows_of (found_of matches.now)) file.now
-        (IsText (T.has sources.now) (R.remaining reader.old)) outcome) }
-{
-    if has_others(matches) {
-        return Err(refused(USAGE));
-    }
-    let script = text_for(sources, alloc, Some(file), reader)?;
-    match refusal_in(alloc, matches, script.as_slice())? {
-        None => Ok(script),
-        Some(refused) => Err(Outcome::Refused(refused)),
-    }
-}
-
-/// Asks the changes of a script.
-fn run_script<RT: Pauses + Clock + Sources, C: Control, R: Read, W: Write, E: Write>(
-    rt: &RT,
-    alloc: Global,
-    matches: &ArgMatches<'_>,
-    file: &str,
-    control: &mut C,
-    reader: &mut R,
-    writer: &mut W,
-    errors: &mut E,
+    matches: &'m ArgMatches<'a>,
     is_terminal: bool,
-) -> Status
-    ensures { RunsScript (C.exchanged control.old) (C.exchanged control.new) (rows_of (found_of matches.now)) file.now
-        (IsText (RT.has rt.now) (R.remaining reader.old)) result (W.contents writer.old) (W.contents writer.new) }
-{
-    match script_in(rt, alloc, matches, file, reader) {
-        Ok(script) => {
-            let request = ScriptRequest {
-                script: script.as_slice(),
-                from: u64::from(number_in(matches, "from").unwrap_or(1)),
-                seconds: seconds_by(number_in(matches, "wait")),
-                is_terminal,
-            };
-            ask_script(rt, alloc, control, &request, writer, errors)
-        }
-        Err(outcome) => write_outcome(alloc, outcome, writer),
-    }
 }
 
-/// Asks at a control socket what the arguments ask for, and writes what that gives.
-fn run_at<RT: Pauses + Clock + Sources, C: Control, R: Read, W: Write, E: Write>(
-    rt: &RT,
-    alloc: Global,
-    matches: &ArgMatches<'_>,
-    control: &mut C,
-    reader: &mut R,
-    writer: &mut W,
-    errors: &mut E,
-    is_terminal: bool,
-) -> Status
-    ensures { Runs (C.exchanged control.old) (C.exchanged control.new) (rows_of (found_of matches.now))
-        (IsText (RT.has rt.now) (R.remaining reader.old)) result (W.contents writer.old) (W.contents writer.new) }
-{
-    match value_in(matches, "script") {
-        Some(file) => run_script(
-            rt,
-            alloc,
-            matches,
-            file,
-            control,
-            reader,
-            writer,
-            errors,
-            is_terminal,
-        ),
-        None => {
-            let outcome = outcome_of(rt, alloc, matches, control, reader, errors);
-            write_outcome(alloc, outcome, writer)
+impl<RT: Pauses + Clock + Sources> Run<'_, '_, '_, RT> {
+    /// The text that an option names; none without it.
+    fn text_for<R: Read>(&self, named: Option<&str>, reader: &mut R) -> Result<Vec<u8>, Outcome>
+        ensures text { IfOk result (λ text. IsNamed (option_map (λ n. n.now) named.entry)
+            (IsText (RT.has self.now.rt.now) (R.remaining reader.old)) text.items) }
+        ensures none { IfErr result (λ outcome. HasNoText (option_map (λ n. n.now) named.entry) outcome) }
+    {
+        let Some(name) = named else {
+            return Ok(Vec::new(self.alloc));
+        };
+        source_named(self.rt, self.alloc, name, reader).map_err(|fault| unread(name, fault))
+    }
+
+    /// Makes the request that the arguments ask for with this text.
+    fn ask_with<C: Control, E: Write>(
+        &self,
+        control: &mut C,
+        text: &[u8],
+        errors: &mut E,
+    ) -> Outcome
+        ensures { AsksWith (C.exchanged control.old) (C.exchanged control.new)
+            (rows_of (found_of self.now.matches.now)) text.now result }
+    {
+        let (alloc, matches) = (self.alloc, self.matches);
+        let at = number_in(matches, "at").unwrap_or(0);
+        let call = match (Given { alloc, matches, at }).call(text) {
+            Ok(call) => call,
+            Err(outcome) => return outcome,
+        };
+        let seconds = number_in(matches, "wait").unwrap_or(0);
+        let answer = ask_at(self.rt, alloc, control, &call, seconds);
+        replied(call.kind, answer, errors)
+    }
+
+    /// What the arguments give at a control socket.
+    fn outcome_of<C: Control, R: Read, E: Write>(
+        &self,
+        control: &mut C,
+        reader: &mut R,
+        errors: &mut E,
+    ) -> Outcome
+        ensures { Asks (C.exchanged control.old) (C.exchanged control.new) (rows_of (found_of self.now.matches.now))
+            (IsText (RT.has self.now.rt.now) (R.remaining reader.old)) result }
+    {
+        if number_in(self.matches, "from").is_some() {
+            return refused(USAGE);
         }
+        match self.text_for(value_in(self.matches, "file"), reader) {
+            Ok(text) => self.ask_with(control, text.as_slice(), errors),
+            Err(outcome) => outcome,
+        }
+    }
+
+    /// The first line of a script that is asked.
+    fn from(&self) -> u64
+        ensures { result ≡ unwrap_or (number_at (rows_of (found_of self.now.matches.now)) (codes "from")) 1 }
+    {
+        u64::from(number_in(self.matches, "from").unwrap_or(1))
+    }
+
+    /// What a script is refused for before a node is asked, unless `--unchecked` is given.
+    fn refusal_in(&self, script: &[u8]) -> Result<Option<Refused>, AllocError>
+        ensures { IfOk result (λ r. r ≡ refusal_in (rows_of (found_of self.now.matches.now)) script.now) }
+    {
+        if has_flag(self.matches, "unchecked") {
+            return Ok(None);
+        }
+        refused_script(self.alloc, script, self.from())
+    }
+
+    /// The script that is asked, or why none is.
+    fn script_in<R: Read>(&self, file: &str, reader: &mut R) -> Result<Vec<u8>, Outcome>
+        ensures script { IfOk result (λ script. IsScript (rows_of (found_of self.now.matches.now)) file.now
+            (IsText (RT.has self.now.rt.now) (R.remaining reader.old)) script.items) }
+        ensures none { IfErr result (λ outcome. IsNoScript (rows_of (found_of self.now.matches.now)) file.now
+            (IsText (RT.has self.now.rt.now) (R.remaining reader.old)) outcome) }
+    {
+        if has_others(self.matches) {
+            return Err(refused(USAGE));
+        }
+        let script = self.text_for(Some(file), reader)?;
+        match self.refusal_in(script.as_slice())? {
+            None => Ok(script),
+            Some(refused) => Err(Outcome::Refused(refused)),
+        }
+    }
+
+    /// Asks at a control socket what the arguments ask for, or the changes of a script, and writes what that gives.
+    fn run<C: Control, R: Read, W: Write, E: Write>(
+        &self,
+        control: &mut C,
+        reader: &mut R,
+        writer: &mut W,
+        errors: &mut E,
+    ) -> Status
+        ensures { Runs (C.exchanged control.old) (C.exchanged control.new) (rows_of (found_of self.now.matches.now))
+            (IsText (RT.has self.now.rt.now) (R.remaining reader.old)) result
+            (W.contents writer.old) (W.contents writer.new) }
+    {
+        let Some(file) = value_in(self.matches, "script") else {
+            let outcome = self.outcome_of(control, reader, errors);
+            return write_outcome(self.alloc, outcome, writer);
+        };
+        let script = match self.script_in(file, reader) {
+            Ok(script) => script,
+            Err(outcome) => return write_outcome(self.alloc, outcome, writer),
+        };
+        let request = ScriptRequest {
+            rt: self.rt,
+            alloc: self.alloc,
+            script: script.as_slice(),
+            from: self.from(),
+            seconds: seconds_by(number_in(self.matches, "wait")),
+            is_terminal: self.is_terminal,
+        };
+        request.ask(control, writer, errors)
     }
 }
 
@@ -295,5 +251,11 @@ pub fn run_control_ask<
         return write_outcome(alloc, refused(USAGE), writer);
     };
     peer.direct(path);
-    run_at(rt, alloc, inner, peer, reader, writer, errors, is_terminal)
+    let run = Run {
+        rt,
+        alloc,
+        matches: inner,
+        is_terminal,
+    };
+    run.run(peer, reader, writer, errors)
 }

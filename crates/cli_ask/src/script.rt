@@ -133,20 +133,14 @@ impl Change<'_> {
     pub(crate) fn fault(&self, alloc: Global) -> Result<Option<Refused>, AllocError>
         ensures { IfOk result (λ r. r ≡ fault_of (change_value self.now)) }
     {
+        let line = self.line;
         match self.command(alloc) {
-            Ok(command) => match refused_command(alloc, &command) {
-                Ok(None) => Ok(None),
-                Ok(Some(found)) => Ok(Some(Refused {
-                    code: found.code,
-                    line: self.line.saturating_add(found.line),
-                })),
-                Err(AllocError) => Err(AllocError),
-            },
-            Err(ChangeFault::Memory) => Err(AllocError),
-            Err(ChangeFault::Refused(code)) => Ok(Some(Refused {
-                code,
-                line: self.line,
+            Ok(command) => Ok(refused_command(alloc, &command)?.map(|found| Refused {
+                line: line.saturating_add(found.line),
+                ..found
             })),
+            Err(ChangeFault::Memory) => Err(AllocError),
+            Err(ChangeFault::Refused(code)) => Ok(Some(Refused { code, line })),
         }
     }
 
@@ -155,13 +149,11 @@ impl Change<'_> {
         ensures { IsAskedAs result call_value (call_for (change_value self.now)) }
     {
         let command = self.command(alloc)?;
-        match Call::entry(alloc, &command, Kind::Change) {
-            Ok(call) => Ok(call),
-            Err(fault) => match fault.code() {
-                Some(code) => Err(ChangeFault::Refused(code)),
-                None => Err(ChangeFault::Memory),
-            },
-        }
+        Call::entry(alloc, &command, Kind::Change).map_err(|fault| {
+            fault
+                .code()
+                .map_or(ChangeFault::Memory, |code| ChangeFault::Refused(code))
+        })
     }
 }
 

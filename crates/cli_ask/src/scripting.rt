@@ -25,7 +25,9 @@ const MADE: &[u8] = b"ok";
 
 /// What is asked.
 #[derive(Clone, Copy)]
-pub(crate) struct ScriptRequest<'a> {
+pub(crate) struct ScriptRequest<'a, RT> {
+    pub(crate) rt: &'a RT,
+    pub(crate) alloc: Global,
     pub(crate) script: &'a [u8],
     /// The first line that is asked.
     pub(crate) from: u64,
@@ -64,28 +66,6 @@ fn unsent(alloc: Global, code: u8) -> Result<Went, AllocError>
     Ok(Went::Stopped(line.into_bytes()))
 }
 
-/// Asks one change, and waits for what comes of it. With `--unchecked` its arguments may be refused here.
-fn make<RT: Pauses + Clock, C: Control, E: Write>(
-    rt: &RT,
-    alloc: Global,
-    control: &mut C,
-    seconds: u32,
-    change: &Change<'_>,
-    errors: &mut E,
-) -> Result<Went, AskFault>
-    ensures { Makes (C.exchanged control.old) (C.exchanged control.new)
-        (call_for (change_value change.now)) seconds (went_value result) }
-{
-    let call = match change.call(alloc) {
-        Ok(call) => call,
-        Err(ChangeFault::Refused(code)) => return Ok(unsent(alloc, code)?),
-        Err(ChangeFault::Memory) => return Err(AskFault::Memory),
-    };
-    let reply = ask_at(rt, alloc, control, &call, seconds)?;
-    let _logged = report_left(reply.front, errors);
-    Ok(went_by(alloc, reply)?)
-}
-
 /// Writes what ends a script, and the line at which it ended.
 fn write_end<W: Write>(alloc: Global, said: &[u8], line: u64, writer: &mut W) -> Status
     ensures { Ended (end_text said.now line) result (W.contents writer.old) (W.contents writer.new) }
@@ -102,69 +82,82 @@ fn write_end<W: Write>(alloc: Global, said: &[u8], line: u64, writer: &mut W) ->
     }
 }
 
-/// Asks one change and writes what came of it; none where it was made, else how the script ends.
-fn ask_one<RT: Pauses + Clock, C: Control, W: Write, E: Write>(
-    rt: &RT,
-    alloc: Global,
-    control: &mut C,
-    seconds: u32,
-    change: &Change<'_>,
-    writer: &mut W,
-    errors: &mut E,
-) -> Option<Status>
-    ensures { AskedOne (C.exchanged control.old) (C.exchanged control.new) (change_value change.now) seconds result
-        (W.contents writer.old) (W.contents writer.new) }
-{
-    match make(rt, alloc, control, seconds, change, errors) {
-        Ok(Went::Made(said)) => match write_bytes(writer, said.as_slice()) {
-            Ok(()) => None,
-            Err(_) => Some(Status::Failed),
-        },
-        Ok(Went::Stopped(said)) => Some(write_end(alloc, said.as_slice(), change.line, writer)),
-        Err(AskFault::Memory) => Some(out_of_memory(writer)),
-        Err(AskFault::NoAnswer) => Some(write_end(alloc, b"refused 85\n", change.line, writer)),
-        Err(AskFault::BadAnswer) => Some(write_end(alloc, b"refused 86\n", change.line, writer)),
-    }
-}
-
-/// Asks the script's changes, each once what came of the one before it is known, and writes a line of each. It ends at
-/// the first that isn't made, or of which nobody knows, with the number of its line.
-pub(crate) fn ask_script<RT: Pauses + Clock, C: Control, W: Write, E: Write>(
-    rt: &RT,
-    alloc: Global,
-    control: &mut C,
-    request: &ScriptRequest<'_>,
-    writer: &mut W,
-    errors: &mut E,
-) -> Status
-    ensures { AskedAll (C.exchanged control.old) (C.exchanged control.new) request.now.from request.now.seconds
-        (items_in request.now.script.now) result (W.contents writer.old) (W.contents writer.new) }
-{
-    let mut left = Left {
-        bytes: request.script,
-        line: 1,
-    };
-    loop {
-        let change = match next_change(alloc, &mut left) {
-            Ok(Some(change)) => change,
-            Ok(None) => return Status::Done,
-            Err(ScriptFault::Line(line)) => return write_end(alloc, b"refused 40\n", line, writer),
-            Err(ScriptFault::Memory) => return out_of_memory(writer),
+impl<RT: Pauses + Clock> ScriptRequest<'_, RT> {
+    /// Asks one change, and waits for what comes of it. With `--unchecked` its arguments may be refused here.
+    fn make<C: Control, E: Write>(
+        &self,
+        control: &mut C,
+        change: &Change<'_>,
+        errors: &mut E,
+    ) -> Result<Went, AskFault>
+        ensures { Makes (C.exchanged control.old) (C.exchanged control.new)
+            (call_for (change_value change.now)) self.now.seconds (went_value result) }
+    {
+        let call = match change.call(self.alloc) {
+            Ok(call) => call,
+            Err(ChangeFault::Refused(code)) => return Ok(unsent(self.alloc, code)?),
+            Err(ChangeFault::Memory) => return Err(AskFault::Memory),
         };
-        if change.line >= request.from {
-            if request.is_terminal {
-                let _logged = report_line(change.line, errors);
-            }
-            if let Some(status) = ask_one(
-                rt,
-                alloc,
-                control,
-                request.seconds,
-                &change,
-                writer,
-                errors,
-            ) {
-                return status;
+        let reply = ask_at(self.rt, self.alloc, control, &call, self.seconds)?;
+        let _logged = report_left(reply.front, errors);
+        Ok(went_by(self.alloc, reply)?)
+    }
+
+    /// Asks one change and writes what came of it; none where it was made, else how the script ends.
+    fn ask_one<C: Control, W: Write, E: Write>(
+        &self,
+        control: &mut C,
+        change: &Change<'_>,
+        writer: &mut W,
+        errors: &mut E,
+    ) -> Option<Status>
+        ensures { AskedOne (C.exchanged control.old) (C.exchanged control.new) (change_value change.now)
+            self.now.seconds result (W.contents writer.old) (W.contents writer.new) }
+    {
+        let (alloc, line) = (self.alloc, change.line);
+        match self.make(control, change, errors) {
+            Ok(Went::Made(said)) => match write_bytes(writer, &said) {
+                Ok(()) => None,
+                Err(_) => Some(Status::Failed),
+            },
+            Ok(Went::Stopped(said)) => Some(write_end(alloc, &said, line, writer)),
+            Err(AskFault::Memory) => Some(out_of_memory(writer)),
+            Err(AskFault::NoAnswer) => Some(write_end(alloc, b"refused 85\n", line, writer)),
+            Err(AskFault::BadAnswer) => Some(write_end(alloc, b"refused 86\n", line, writer)),
+        }
+    }
+
+    /// Asks the script's changes, each once what came of the one before it is known, and writes a line of each. It ends
+    /// at the first that isn't made, or of which nobody knows, with the number of its line.
+    pub(crate) fn ask<C: Control, W: Write, E: Write>(
+        &self,
+        control: &mut C,
+        writer: &mut W,
+        errors: &mut E,
+    ) -> Status
+        ensures { AskedAll (C.exchanged control.old) (C.exchanged control.new) self.now.from self.now.seconds
+            (items_in self.now.script.now) result (W.contents writer.old) (W.contents writer.new) }
+    {
+        let mut left = Left {
+            bytes: self.script,
+            line: 1,
+        };
+        loop {
+            let change = match next_change(self.alloc, &mut left) {
+                Ok(Some(change)) => change,
+                Ok(None) => return Status::Done,
+                Err(ScriptFault::Line(line)) => {
+                    return write_end(self.alloc, b"refused 40\n", line, writer);
+                }
+                Err(ScriptFault::Memory) => return out_of_memory(writer),
+            };
+            if change.line >= self.from {
+                if self.is_terminal {
+                    let _logged = report_line(change.line, errors);
+                }
+                if let Some(status) = self.ask_one(control, &change, writer, errors) {
+                    return status;
+                }
             }
         }
     }

@@ -25,12 +25,9 @@ pub(crate) fn lines_of(alloc: Global, words: &[&str]) -> Result<Vec<u8>, AllocEr
     requires { list_any has_control (map (λ w. w.now) words.now) ≡ false }
     ensures { IfOk result (λ body. body.items ≡ lines_of (map (λ w. w.now) words.now)) }
 {
-    let mut body = Vec::new(alloc);
-    let mut left = words;
-    while let [first, rest @ ..] = left {
-        body.extend_from_slice(first.as_bytes())?;
-        body.push(b'\n')?;
-        left = rest;
+    let mut lines = String::new(alloc);
+    for word in words {
+        writeln!(lines, "{word}")?;
     }
-    Ok(body)
+    Ok(lines.into_bytes())
 }

@@ -14,21 +14,17 @@ use std::alloc::{AllocError, Global};
 const BUT_DOT: AsciiSet = ascii_set!(NON_ALPHANUMERIC.remove(b'.'));
 
 /// Whether a target has a parameter.
-fn has_query(target: &[u8]) -> bool
+fn has_query(target: &str) -> bool
     ensures { result ≡ list_any (λ b. b == 63) target.now }
 {
-    target.iter().any(|b| *b == b'?')
+    target.as_bytes().iter().any(|b| *b == b'?')
 }
 
 /// What is before a parameter: `&` behind another one.
 fn mark(target: &str) -> &'static str
     ensures { result.now ≡ mark target.now }
 {
-    if has_query(target.as_bytes()) {
-        "&"
-    } else {
-        "?"
-    }
+    if has_query(target) { "&" } else { "?" }
 }
 
 /// Adds a parameter of the query.
@@ -56,39 +52,39 @@ fn add_position(alloc: Global, target: &mut String, at: u32) -> Result<(), Alloc
     ensures { OnOk result (string_bytes target.new ≡ with_position at (string_bytes target.old)) }
 {
     if at > 0 {
-        let number = at.to_string(alloc)?;
-        return add_parameter(target, "at", number.as_str());
+        return add_parameter(target, "at", at.to_string(alloc)?.as_str());
     }
     Ok(())
 }
 
-/// A path with the anchor, the table and the position that the arguments name.
-pub(crate) fn target_in(
-    alloc: Global,
-    path: &str,
-    matches: &ArgMatches<'_>,
-    at: u32,
-) -> Result<String, AllocError>
-    ensures { IfOk result (λ t. string_bytes t ≡ target_in path.now (rows_of (found_of matches.now)) at) }
-{
-    let mut target = String::from_str(alloc, path)?;
-    add_given(&mut target, "a", value_in(matches, "path"))?;
-    add_given(&mut target, "t", value_in(matches, "table"))?;
-    add_position(alloc, &mut target, at)?;
-    Ok(target)
+/// The arguments of a request, and how many positions the node must have applied.
+#[derive(Clone, Copy)]
+pub(crate) struct Given<'m, 'a> {
+    pub(crate) alloc: Global,
+    pub(crate) matches: &'m ArgMatches<'a>,
+    pub(crate) at: u32,
 }
 
-/// A path that ends in an argument, with the position that the arguments name.
-pub(crate) fn path_with(
-    alloc: Global,
-    path: &str,
-    word: &str,
-    at: u32,
-) -> Result<String, AllocError>
-    ensures { IfOk result (λ t. string_bytes t ≡ path_with path.now word.now at) }
-{
-    let mut target = String::from_str(alloc, path)?;
-    utf8_percent_encode(word, BUT_DOT).append_to(&mut target)?;
-    add_position(alloc, &mut target, at)?;
-    Ok(target)
+impl Given<'_, '_> {
+    /// A path with the anchor and the table that the arguments name, and with a number of positions.
+    pub(crate) fn target(&self, path: &str, at: u32) -> Result<String, AllocError>
+        ensures { IfOk result (λ t. string_bytes t
+            ≡ target_in path.now (rows_of (found_of self.now.matches.now)) at) }
+    {
+        let mut target = String::from_str(self.alloc, path)?;
+        add_given(&mut target, "a", value_in(self.matches, "path"))?;
+        add_given(&mut target, "t", value_in(self.matches, "table"))?;
+        add_position(self.alloc, &mut target, at)?;
+        Ok(target)
+    }
+
+    /// A path that ends in an argument, with the positions.
+    pub(crate) fn path_with(&self, path: &str, word: &str) -> Result<String, AllocError>
+        ensures { IfOk result (λ t. string_bytes t ≡ path_with path.now word.now self.now.at) }
+    {
+        let mut target = String::from_str(self.alloc, path)?;
+        utf8_percent_encode(word, BUT_DOT).append_to(&mut target)?;
+        add_position(self.alloc, &mut target, self.at)?;
+        Ok(target)
+    }
 }

@@ -6,12 +6,12 @@ ghost use Rattle.cli_ask.specs.Replies.{reply_value};
 ghost use Rattle.cli_ask.specs.Asking.{line_count, behind_lines, left_by, is_whole, IsOfOne, with_more};
 ghost use Rattle.cli_ask.specs.Asking.{answer_value, parts_value, BegunParts, AskedVerdicts};
 
-use crate::asking::{Pauses, ask_on};
+use crate::asking::{Asking, Pauses};
 use crate::call::Call;
 use crate::control::Control;
-use crate::exchange::{AskFault, Deadline, Reply};
+use crate::exchange::{Answered, AskFault, Reply};
 use pf_scripts::cut_line;
-use std::alloc::{AllocError, Global};
+use std::alloc::AllocError;
 
 /// How many times verdicts are asked for that a node doesn't answer at once, until all are of one position.
 const BEGINNINGS: u32 = 3;
@@ -69,58 +69,38 @@ fn push_part(so_far: &mut Reply, part: &Reply) -> Result<(), AllocError>
     Ok(())
 }
 
-/// Asks for the verdicts behind those that an answer has, as many at a time as the node answers at once; none where it
-/// has applied another position meanwhile, so that they would be verdicts of several configurations.
-fn ask_verdicts<RT: Pauses, C: Control>(
-    rt: &RT,
-    alloc: Global,
-    control: &mut C,
-    call: &Call,
-    deadline: Deadline,
-    is_once: bool,
-) -> Result<Option<Reply>, AskFault>
-    ensures { BegunParts (C.exchanged control.old) (C.exchanged control.new) (call_value call.now) is_once
-        deadline.seconds (parts_value result) }
-{
-    let mut so_far = match ask_on(rt, alloc, control, call, deadline, is_once) {
-        Ok(reply) => reply,
-        Err(fault) => return Err(fault),
-    };
-    for _part in 0..call.body.len() {
-        if is_whole(&so_far, call) {
-            return Ok(Some(so_far));
+impl<RT: Pauses> Asking<'_, RT> {
+    /// Asks for the verdicts behind those that an answer has, as many at a time as the node answers at once; none where
+    /// it has applied another position meanwhile, so that they would be verdicts of several configurations.
+    fn parts<C: Control>(&self, control: &mut C, call: &Call) -> Result<Option<Reply>, AskFault>
+        ensures { BegunParts (C.exchanged control.old) (C.exchanged control.new) (call_value call.now) self.now.is_once
+            self.now.deadline.seconds (parts_value result) }
+    {
+        let mut so_far = self.ask_on(control, call)?;
+        for _part in 0..call.body.len() {
+            if is_whole(&so_far, call) {
+                return Ok(Some(so_far));
+            }
+            let others = call.with_body(self.alloc, left_by(&so_far, call))?;
+            let next = self.ask_on(control, &others)?;
+            if !is_of_one(&so_far, &next) {
+                return Ok(None);
+            }
+            push_part(&mut so_far, &next)?;
         }
-        let others = call.with_body(alloc, left_by(&so_far, call))?;
-        let next = match ask_on(rt, alloc, control, &others, deadline, is_once) {
-            Ok(part) => part,
-            Err(fault) => return Err(fault),
-        };
-        if !is_of_one(&so_far, &next) {
-            return Ok(None);
-        }
-        push_part(&mut so_far, &next)?;
+        Err(AskFault::BadAnswer)
     }
-    Err(AskFault::BadAnswer)
-}
 
-/// The verdicts of one position: they are asked for anew where the node has applied another one meanwhile.
-pub(crate) fn verdicts<RT: Pauses, C: Control>(
-    rt: &RT,
-    alloc: Global,
-    control: &mut C,
-    call: &Call,
-    deadline: Deadline,
-    is_once: bool,
-) -> Result<Reply, AskFault>
-    ensures { AskedVerdicts (C.exchanged control.old) (C.exchanged control.new) (call_value call.now) is_once
-        deadline.seconds (answer_value result) }
-{
-    for _beginning in 0..BEGINNINGS {
-        match ask_verdicts(rt, alloc, control, call, deadline, is_once) {
-            Ok(Some(reply)) => return Ok(reply),
-            Ok(None) => {}
-            Err(fault) => return Err(fault),
+    /// The verdicts of one position: they are asked for anew where the node has applied another one meanwhile.
+    pub(crate) fn verdicts<C: Control>(&self, control: &mut C, call: &Call) -> Answered
+        ensures { AskedVerdicts (C.exchanged control.old) (C.exchanged control.new) (call_value call.now)
+            self.now.is_once self.now.deadline.seconds (answer_value result) }
+    {
+        for _beginning in 0..BEGINNINGS {
+            if let Some(reply) = self.parts(control, call)? {
+                return Ok(reply);
+            }
         }
+        Err(AskFault::BadAnswer)
     }
-    Err(AskFault::BadAnswer)
 }

@@ -33,5 +33,5 @@ returns g c =
     let arguments = map g.S.AsStr.text c.args.arguments.now in
     let matches = c.in-Ok-try_get_matches_from in
     let e = given_parsed _ arguments matches.matches c.in-Ok.ensures matches.ensures.kinds matches.ensures.matches ∙ sym c.in-Some.ensures in
-    at_path g.C.Direct.answers_at g.C.Control.exchanged c.args.peer.now c.direct.new.self c.run_at.new.control _ (rows_of (found_of c.in-Some.inner.now)) c.in-Some-value_in.path.now _ _ _ _ e
-    (sym c.in-Some-value_in.ensures) c.direct.ensures.there c.direct.ensures.alone c.run_at.ensures
+    at_path g.C.Direct.answers_at g.C.Control.exchanged c.args.peer.now c.direct.new.self c.run.new.control _ (rows_of (found_of c.in-Some.inner.now)) c.in-Some-value_in.path.now _ _ _ _ e
+    (sym c.in-Some-value_in.ensures) c.direct.ensures.there c.direct.ensures.alone c.run.ensures

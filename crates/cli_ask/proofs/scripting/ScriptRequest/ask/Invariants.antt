@@ -1,12 +1,12 @@
 use Rattle.std.proofs.Common.{None, length}
 use Rattle.cli_ask.specs.Scripts.{items_left, items_in}
 use Rattle.cli_ask.proofs.Scripts.{AllSo}
-use Rattle.cli_ask.proofs.scripting.ask_script.Given as goal
+use Rattle.cli_ask.proofs.scripting.ScriptRequest.ask.Given as goal
 
 -- the changes so far are asked
 abbrev pub invariant-loop-change : goal.invariant-loop-change
 invariant-loop-change g l =
-    AllSo (g.C.Control.exchanged l.fn.control) (g.C.Control.exchanged l.control) l.request.from l.request.seconds (items_in l.request.script.now) (items_left l.left None)
+    AllSo (g.C.Control.exchanged l.fn.control) (g.C.Control.exchanged l.control) l.self.from l.self.seconds (items_in l.self.script.now) (items_left l.left None)
     (g.W.Write.contents l.fn.writer) (g.W.Write.contents l.writer)
 
 abbrev pub decreases-loop-change : goal.decreases-loop-change

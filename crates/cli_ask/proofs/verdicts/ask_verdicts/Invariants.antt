@@ -1,8 +1,0 @@
-use Rattle.cli_ask.specs.Calls.{call_value}
-use Rattle.cli_ask.specs.Replies.{reply_value}
-use Rattle.cli_ask.proofs.Parts.{PartsSo}
-use Rattle.cli_ask.proofs.verdicts.ask_verdicts.Given as goal
-
-abbrev pub invariant-loop-part : goal.invariant-loop-part
-invariant-loop-part g l =
-    PartsSo (g.C.Control.exchanged l.fn.control) (g.C.Control.exchanged l.control) (call_value l.call) l.is_once l.deadline.seconds l._part (reply_value l.so_far)
