@@ -52,6 +52,6 @@ pub(crate) fn show_log<R: Records>(
     let first = first_of(applied, from, count);
     let end = end_of(applied, first, count);
     let mut text = String::new(alloc);
-    push_positions(alloc, &mut text, node, end, end - first)?;
+    push_positions(&mut text, node, end, end - first)?;
     as_shown(alloc, text.as_str(), false)
 }

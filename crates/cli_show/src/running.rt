@@ -20,90 +20,76 @@ use std::alloc::Global;
 use std::convert::AsStr;
 use std::io::Write;
 
-/// What is shown of the store.
-fn shown_of<T: Stores>(stores: &T, alloc: Global, store: &str, wanted: Wanted<'_>) -> Outcome
-    ensures { T.answers stores.now store.now wanted.entry (result_of result) }
-{
-    match stores.show_at(alloc, store, wanted) {
-        Ok(shown) => Outcome::Shown(shown),
-        Err(Closed::Memory) => Outcome::Memory,
-        Err(Closed::Refused(code)) => Outcome::Refused(code),
-    }
+/// What is asked of a store, by whom it is shown.
+#[derive(Drop)]
+struct Request<'a, 'm, 'g, RT> {
+    rt: &'a RT,
+    alloc: Global,
+    store: &'g str,
+    matches: &'m ArgMatches<'g>,
 }
 
-/// What the store is as what nft(8) loads: 40 where no file of interfaces is named.
-fn nft_outcome<RT: Stores + Sources>(
-    rt: &RT,
-    alloc: Global,
-    store: &str,
-    matches: &ArgMatches<'_>,
-) -> Outcome
-    ensures { Gives (RT.answers rt.now) (RT.has rt.now) (rows_of (found_of matches.now))
-        kind.Nft store.now result }
-{
-    let Some(file) = value_in(matches, "interfaces") else {
-        return Outcome::Refused(USAGE);
-    };
-    match read_file(rt, alloc, file) {
-        Ok(Some(text)) => shown_of(
-            rt,
-            alloc,
-            store,
-            Wanted::Nft {
+impl<RT: Stores + Sources> Request<'_, '_, '_, RT> {
+    /// What is shown of the store.
+    fn shown(&self, wanted: Wanted<'_>) -> Outcome
+        ensures { RT.answers self.now.rt.now self.now.store.now wanted.entry (result_of result) }
+    {
+        match self.rt.show_at(self.alloc, self.store, wanted) {
+            Ok(shown) => Outcome::Shown(shown),
+            Err(Closed::Memory) => Outcome::Memory,
+            Err(Closed::Refused(code)) => Outcome::Refused(code),
+        }
+    }
+
+    /// What the store is as what nft(8) loads: 40 where no file of interfaces is named.
+    fn nft_outcome(&self) -> Outcome
+        ensures { Gives (RT.answers self.now.rt.now) (RT.has self.now.rt.now)
+            (rows_of (found_of self.now.matches.now)) kind.Nft self.now.store.now result }
+    {
+        let Some(file) = value_in(self.matches, "interfaces") else {
+            return Outcome::Refused(USAGE);
+        };
+        match read_file(self.rt, self.alloc, file) {
+            Ok(Some(text)) => self.shown(Wanted::Nft {
                 interfaces: Some(text.as_slice()),
-            },
-        ),
-        Ok(None) => shown_of(rt, alloc, store, Wanted::Nft { interfaces: None }),
-        Err(_) => Outcome::Memory,
+            }),
+            Ok(None) => self.shown(Wanted::Nft { interfaces: None }),
+            Err(_) => Outcome::Memory,
+        }
     }
-}
 
-/// The lines of the log that the arguments ask for.
-fn log_outcome<RT: Stores + Sources>(
-    rt: &RT,
-    alloc: Global,
-    store: &str,
-    matches: &ArgMatches<'_>,
-) -> Outcome
-    ensures { Gives (RT.answers rt.now) (RT.has rt.now) (rows_of (found_of matches.now))
-        kind.Log store.now result }
-{
-    let from = number_in(matches, "from");
-    let count = number_in(matches, "count");
-    shown_of(rt, alloc, store, Wanted::Log { from, count })
-}
-
-/// The verdicts for the packets behind the argument `test`.
-fn packets_outcome<RT: Stores + Sources>(
-    rt: &RT,
-    alloc: Global,
-    store: &str,
-    matches: &ArgMatches<'_>,
-) -> Outcome
-    ensures { Gives (RT.answers rt.now) (RT.has rt.now) (rows_of (found_of matches.now))
-        kind.Packets store.now result }
-{
-    match rest_of(matches) {
-        [_, packets @ ..] => shown_of(rt, alloc, store, Wanted::Packets(packets)),
-        [] => Outcome::Refused(USAGE),
+    /// The lines of the log that the arguments ask for.
+    fn log_outcome(&self) -> Outcome
+        ensures { Gives (RT.answers self.now.rt.now) (RT.has self.now.rt.now)
+            (rows_of (found_of self.now.matches.now)) kind.Log self.now.store.now result }
+    {
+        let from = number_in(self.matches, "from");
+        let count = number_in(self.matches, "count");
+        self.shown(Wanted::Log { from, count })
     }
-}
 
-/// What pfctl's options list.
-fn listing_outcome<RT: Stores + Sources>(
-    rt: &RT,
-    alloc: Global,
-    store: &str,
-    matches: &ArgMatches<'_>,
-) -> Outcome
-    ensures { Gives (RT.answers rt.now) (RT.has rt.now) (rows_of (found_of matches.now))
-        kind.Listing store.now result }
-{
-    match from_matches(alloc, matches, &[]) {
-        Ok(action) => shown_of(rt, alloc, store, Wanted::Listing(&action)),
-        Err(fault) => fault
-            .code()
-            .map_or(Outcome::Memory, |code| Outcome::Refused(code)),
+    /// The verdicts for the packets behind the argument `test`.
+    fn packets_outcome(&self) -> Outcome
+        ensures { Gives (RT.answers self.now.rt.now) (RT.has self.now.rt.now)
+            (rows_of (found_of self.now.matches.now)) kind.Packets self.now.store.now result }
+    {
+        match rest_of(self.matches) {
+            [_, packets @ ..] => self.shown(Wanted::Packets(packets)),
+            [] => Outcome::Refused(USAGE),
+        }
+    }
+
+    /// What pfctl's options list.
+    fn listing_outcome(&self) -> Outcome
+        ensures { Gives (RT.answers self.now.rt.now) (RT.has self.now.rt.now)
+            (rows_of (found_of self.now.matches.now)) kind.Listing self.now.store.now result }
+    {
+        match from_matches(self.alloc, self.matches, &[]) {
+            Ok(action) => self.shown(Wanted::Listing(&action)),
+            Err(fault) => fault
+                .code()
+                .map_or(Outcome::Memory, |code| Outcome::Refused(code)),
+        }
     }
 }
 
@@ -117,14 +103,20 @@ fn outcome_of<RT: Stores + Sources>(rt: &RT, alloc: Global, matches: &ArgMatches
     let Some(store) = value_in(matches, "store") else {
         return Outcome::Refused(USAGE);
     };
+    let request = Request {
+        rt,
+        alloc,
+        store,
+        matches,
+    };
     match kind {
-        Kind::Nft => nft_outcome(rt, alloc, store, matches),
-        Kind::Texts => shown_of(rt, alloc, store, Wanted::Texts),
-        Kind::Script => shown_of(rt, alloc, store, Wanted::Script),
-        Kind::Figures => shown_of(rt, alloc, store, Wanted::Figures),
-        Kind::Log => log_outcome(rt, alloc, store, matches),
-        Kind::Packets => packets_outcome(rt, alloc, store, matches),
-        Kind::Listing => listing_outcome(rt, alloc, store, matches),
+        Kind::Nft => request.nft_outcome(),
+        Kind::Texts => request.shown(Wanted::Texts),
+        Kind::Script => request.shown(Wanted::Script),
+        Kind::Figures => request.shown(Wanted::Figures),
+        Kind::Log => request.log_outcome(),
+        Kind::Packets => request.packets_outcome(),
+        Kind::Listing => request.listing_outcome(),
     }
 }
 

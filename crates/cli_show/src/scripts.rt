@@ -37,7 +37,7 @@ fn push_done(
     match apply(alloc, config, &view.command) {
         Ok(_) => {
             let entry = view.to_entry(alloc)?;
-            push_change(alloc, script, &entry.command)
+            push_change(script, &entry.command)
         }
         Err(ApplyFault::Refused(_, _)) => Ok(()),
         Err(ApplyFault::Memory) => Err(AllocError),
