@@ -188,17 +188,12 @@ impl TextFiles {
     }
 
     /// Writes a file beside its place and renames it, and answers whether that was possible.
-    fn put<F: Folders>(
-        &self,
-        folders: &mut F,
-        alloc: Global,
-        name: &str,
-        text: &str,
-    ) -> Result<bool, AllocError>
+    fn put<F: Folders>(&self, folders: &mut F, name: &str, text: &str) -> Result<bool, AllocError>
         ensures put { IfOk result (λ is_put. Acted (F.done folders.old) (F.done folders.new)
             (λ acts. IsPut (string_bytes self.now.folder) name.now text.now acts is_put)) }
         ensures none { OnErr result (Adds (F.done folders.old) (F.done folders.new) []) }
     {
+        let alloc = *self.written.allocator();
         let folder = self.folder.as_str();
         let place = format!(in alloc; "{folder}/{name}")?;
         let beside = format!(in alloc; "{folder}/.{name}.new")?;
@@ -212,7 +207,6 @@ impl TextFiles {
     fn put_unless_there<F: Folders>(
         &self,
         folders: &mut F,
-        alloc: Global,
         name: &str,
         text: &str,
     ) -> Result<bool, AllocError>
@@ -223,18 +217,15 @@ impl TextFiles {
         if is_written(self.written.as_slice(), name, text) {
             return Ok(true);
         }
-        self.put(folders, alloc, name, text)
+        self.put(folders, name, text)
     }
 
     /// The files, and empty ones for paths that are gone.
-    fn with_gone(
-        &self,
-        alloc: Global,
-        mut files: Vec<TextFile>,
-    ) -> Result<Vec<TextFile>, AllocError>
+    fn with_gone(&self, mut files: Vec<TextFile>) -> Result<Vec<TextFile>, AllocError>
         ensures { IfOk result (λ all.
             map file_value all.items ≡ with_gone (map file_value files.items) self.now.written.items) }
     {
+        let alloc = *self.written.allocator();
         let written = self.written.as_slice();
         for old in written {
             if is_gone(files.as_slice(), old) {
@@ -252,7 +243,6 @@ impl TextFiles {
     fn put_each<F: Folders>(
         &self,
         folders: &mut F,
-        alloc: Global,
         files: Vec<TextFile>,
     ) -> Result<Vec<TextFile>, AllocError>
         ensures put { IfOk result (λ put. Acted (F.done folders.old) (F.done folders.new) (λ acts.
@@ -262,14 +252,14 @@ impl TextFiles {
             PutsFront (string_bytes self.now.folder) self.now.written.items
             (map file_value files.items) acts)) }
     {
-        let mut put = Vec::new(alloc);
+        let mut put = Vec::new(*self.written.allocator());
         for file in files {
             let TextFile {
                 name,
                 text,
                 is_put: _,
             } = file;
-            let is_put = self.put_unless_there(folders, alloc, name.as_str(), text.as_str())?;
+            let is_put = self.put_unless_there(folders, name.as_str(), text.as_str())?;
             put.push(TextFile { name, text, is_put })?;
         }
         Ok(put)
@@ -280,7 +270,6 @@ impl TextFiles {
     fn put_all<F: Folders>(
         &mut self,
         folders: &mut F,
-        alloc: Global,
         files: Vec<TextFile>,
     ) -> Result<bool, AllocError>
         ensures folder { self.new.folder ≡ self.old.folder }
@@ -292,8 +281,8 @@ impl TextFiles {
             PutsFront (string_bytes self.old.folder) self.old.written.items
             (with_gone (map file_value files.items) self.old.written.items) acts)) }
     {
-        let files = self.with_gone(alloc, files)?;
-        self.written = self.put_each(folders, alloc, files)?;
+        let files = self.with_gone(files)?;
+        self.written = self.put_each(folders, files)?;
         Ok(are_put(self.written.as_slice()))
     }
 
@@ -302,7 +291,6 @@ impl TextFiles {
     pub(crate) fn write<F: Folders, E: Write>(
         &mut self,
         folders: &mut F,
-        alloc: Global,
         followed: &FollowedConfiguration,
         errors: &mut E,
     ) -> Result<(), AllocError>
@@ -311,11 +299,11 @@ impl TextFiles {
         ensures front { OnErr result (Acted (F.done folders.old) (F.done folders.new)
             (λ acts. AreLeftFor followed.now.config self.old acts)) }
     {
-        let Some(files) = files_of(alloc, &followed.config)? else {
+        let Some(files) = files_of(*self.written.allocator(), &followed.config)? else {
             log_refusal(errors, followed.position, NO_SCRIPT);
             return Ok(());
         };
-        let is_behind = !self.put_all(folders, alloc, files)?;
+        let is_behind = !self.put_all(folders, files)?;
         if is_behind && !self.is_behind {
             let position = followed.position;
             let _logged = writeln!(errors, "pfx: at {position} a file couldn't be written");

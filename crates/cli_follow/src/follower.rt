@@ -140,7 +140,6 @@ impl Nft {
     #[tactic(auto, using(cli_io::proofs::Fronts::nothing_written))]
     fn write<W: Write, E: Write>(
         &mut self,
-        alloc: Global,
         followed: &FollowedConfiguration,
         writer: &mut W,
         errors: &mut E,
@@ -155,7 +154,7 @@ impl Nft {
         ensures guarded { self.new.is_guarded ≡ self.old.is_guarded }
     {
         let position = followed.position;
-        match self.kernel.load(alloc, &followed.config, position)? {
+        match self.kernel.load(&followed.config, position)? {
             Step::Same => Ok(()),
             Step::Refused(code) => {
                 log_refusal(errors, position, code);
@@ -287,7 +286,6 @@ impl Follower {
     /// Writes what was followed, where lines for nft(8) are wanted. What is refused is said.
     pub(crate) fn write<W: Write, E: Write>(
         &mut self,
-        alloc: Global,
         writer: &mut W,
         errors: &mut E,
     ) -> Result<(), WriteFault>
@@ -302,7 +300,7 @@ impl Follower {
         self.followed.is_moved = false;
         self.has_begun = true;
         match &mut self.nft {
-            Some(nft) => nft.write(alloc, &self.followed, writer, errors),
+            Some(nft) => nft.write(&self.followed, writer, errors),
             None => Ok(()),
         }
     }

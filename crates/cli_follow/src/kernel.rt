@@ -78,28 +78,29 @@ impl Kernel {
     }
 
     /// What is rendered under names of a position.
-    fn rendered(
-        &self,
-        alloc: Global,
-        config: &Config,
-        position: u32,
-    ) -> Result<Transactions, RenderFault>
+    fn rendered(&self, config: &Config, position: u32) -> Result<Transactions, RenderFault>
         ensures { Renders transactions_value result (rendered_lines config.now (machine_of self.now.interfaces.items)
             self.now.members.items position) }
     {
         let (interfaces, members) = (self.interfaces.as_slice(), self.members.as_slice());
-        rendered_lines(alloc, config, interfaces, members, position)
+        rendered_lines(
+            *self.members.allocator(),
+            config,
+            interfaces,
+            members,
+            position,
+        )
     }
 
     /// Whether this is what was handed out last, but for the names.
-    fn is_same(&self, alloc: Global, config: &Config) -> Result<bool, AllocError>
+    fn is_same(&self, config: &Config) -> Result<bool, AllocError>
         ensures { IfOk result (λ same. same ≡ is_same (machine_of self.now.interfaces.items) self.now.members.items
             (given_of self.now.last) config.now) }
     {
         let Some(last) = &self.last else {
             return Ok(false);
         };
-        match self.rendered(alloc, config, last.position) {
+        match self.rendered(config, last.position) {
             Ok(again) => Ok(are_same(&again, &last.lines)),
             Err(fault) => fault.code().map(|_| false).ok_or(AllocError),
         }
@@ -118,26 +119,21 @@ impl Kernel {
     /// What is to be loaded of the configuration after that many entries: nothing where it would be rendered under the
     /// names of what was handed out last as that was; else its first two lines, and the last line of what was handed
     /// out last, unless it has the same names. Where it can't be rendered, what was handed out last stays in force.
-    pub(crate) fn load(
-        &mut self,
-        alloc: Global,
-        config: &Config,
-        position: u32,
-    ) -> Result<Step, AllocError>
+    pub(crate) fn load(&mut self, config: &Config, position: u32) -> Result<Step, AllocError>
         ensures loads { IfOk result (λ s. loads (machine_of self.old.interfaces.items) self.old.members.items
             (given_of self.old.last) config.now position
             ≡ record { last = given_of self.new.last; lines = lines_of s }) }
         ensures interfaces { self.new.interfaces ≡ self.old.interfaces }
         ensures members { self.new.members ≡ self.old.members }
     {
-        if self.is_same(alloc, config)? {
+        if self.is_same(config)? {
             return Ok(Step::Same);
         }
-        let lines = match self.rendered(alloc, config, position) {
+        let lines = match self.rendered(config, position) {
             Ok(lines) => lines,
             Err(fault) => return Ok(Step::Refused(fault.code().ok_or(AllocError)?)),
         };
-        let mut written = Vec::from_slice(alloc, lines.load.as_bytes())?;
+        let mut written = Vec::from_slice(*self.members.allocator(), lines.load.as_bytes())?;
         written.extend_from_slice(self.end_of(position))?;
         self.last = Some(Loaded { position, lines });
         Ok(Step::Lines(written))

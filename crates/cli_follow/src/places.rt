@@ -53,17 +53,11 @@ fn why_unread<RT: Files>(rt: &RT, file: &str) -> io::Result<()> {
 /// Logs why a file lists no interfaces.
 fn log_interfaces<RT: Files, E: Write>(rt: &RT, file: &str, errors: &mut E) {
     let shown = Shown(file);
-    match why_unread(rt, file) {
-        Ok(()) => {
-            let _logged = writeln!(
-                errors,
-                "pfx: interfaces {shown}: it has a malformed name, a name twice, or too many names"
-            );
-        }
-        Err(error) => {
-            let _logged = writeln!(errors, "pfx: interfaces {shown}: {error}");
-        }
-    }
+    let bad = "it has a malformed name, a name twice, or too many names";
+    let _logged = match why_unread(rt, file) {
+        Ok(()) => writeln!(errors, "pfx: interfaces {shown}: {bad}"),
+        Err(error) => writeln!(errors, "pfx: interfaces {shown}: {error}"),
+    };
 }
 
 /// The files in a folder, if one is named.

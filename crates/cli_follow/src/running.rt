@@ -81,7 +81,6 @@ fn ask<C: Control>(
 /// Writes rulesets for pfctl(8), where they are wanted.
 fn write_texts<F: Folders, E: Write>(
     folders: &mut F,
-    alloc: Global,
     follower: &Follower,
     files: &mut Option<TextFiles>,
     errors: &mut E,
@@ -92,7 +91,7 @@ fn write_texts<F: Folders, E: Write>(
         FilesLeft follower.now.followed.config files.old acts)) }
 {
     match files {
-        Some(files) => files.write(folders, alloc, &follower.followed, errors),
+        Some(files) => files.write(folders, &follower.followed, errors),
         None => Ok(()),
     }
 }
@@ -100,7 +99,6 @@ fn write_texts<F: Folders, E: Write>(
 /// Writes them again where one couldn't be written, in the first of some asks.
 fn write_again<F: Folders, E: Write>(
     folders: &mut F,
-    alloc: Global,
     asks: u64,
     follower: &Follower,
     files: &mut Option<TextFiles>,
@@ -114,7 +112,7 @@ fn write_again<F: Folders, E: Write>(
         files.old acts)) }
 {
     if is_again(asks) && are_behind(files) {
-        return write_texts(folders, alloc, follower, files, errors);
+        return write_texts(folders, follower, files, errors);
     }
     Ok(())
 }
@@ -155,12 +153,12 @@ fn turn<F: Folders, C: Control, W: Write, E: Write>(
     };
     match due {
         Due::Write => {
-            write_texts(folders, alloc, follower, files, errors)?;
-            follower.write(alloc, writer, errors)?;
+            write_texts(folders, follower, files, errors)?;
+            follower.write(writer, errors)?;
             Ok(due)
         }
         Due::Rest => {
-            write_again(folders, alloc, asks, follower, files, errors)?;
+            write_again(folders, asks, follower, files, errors)?;
             Ok(due)
         }
         _ => Ok(due),
