@@ -21,10 +21,11 @@ fn change_in(alloc: Global, matches: &ArgMatches<'_>, text: &[u8]) -> Result<Com
     match from_matches(alloc, matches, text) {
         Ok(Action::Change(command)) => Ok(command),
         Ok(_) => Err(UNKNOWN),
-        Err(fault) => match fault.code() {
-            Some(code) => Err(LineFault::Refused(code)),
-            None => Err(LineFault::Memory),
-        },
+        Err(fault) => Err(
+            fault
+                .code()
+                .map_or(LineFault::Memory, |code| LineFault::Refused(code)),
+        ),
     }
 }
 
@@ -53,8 +54,5 @@ pub(crate) fn command_in(
     if !is_allowed(file_in(&matches), text) {
         return Err(UNKNOWN);
     }
-    match text {
-        Some(text) => change_in(alloc, &matches, text),
-        None => change_in(alloc, &matches, &[]),
-    }
+    change_in(alloc, &matches, text.unwrap_or(&[]))
 }

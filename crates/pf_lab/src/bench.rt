@@ -42,10 +42,7 @@ impl Bench {
         ensures { (v : LabValue) → IsBench self.old v → OnOk result (IsBench self.new (marked message v)) }
     {
         match message {
-            Some(k) => {
-                self.delivered.push(k)?;
-                Ok(())
-            }
+            Some(k) => Ok(self.delivered.push(k)?),
             None => Ok(()),
         }
     }

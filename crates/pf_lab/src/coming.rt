@@ -34,8 +34,7 @@ pub(crate) fn named(alloc: Global, action: &LabAction) -> Result<Option<Vec<u8>>
             Err(NodeFault::TooLong) => Ok(None),
             Err(_) => Err(AllocError),
         },
-        LabAction::Tick(_) => Ok(Some(Vec::new(alloc))),
-        LabAction::Deliver(_) => Ok(Some(Vec::new(alloc))),
+        LabAction::Tick(_) | LabAction::Deliver(_) => Ok(Some(Vec::new(alloc))),
     }
 }
 

@@ -17,9 +17,8 @@ fn message_in(action: &LabAction) -> Option<usize>
     ensures { result ≡ scripts.message_in (action_value action.now) }
 {
     match action {
-        LabAction::Ask(_, _) => None,
-        LabAction::Tick(_) => None,
         LabAction::Deliver(k) => Some(*k),
+        LabAction::Ask(_, _) | LabAction::Tick(_) => None,
     }
 }
 
@@ -41,8 +40,7 @@ fn node_in(action: &LabAction) -> Option<u8>
 {
     match action {
         LabAction::Ask(m, _) => Some(*m),
-        LabAction::Tick(_) => None,
-        LabAction::Deliver(_) => None,
+        LabAction::Tick(_) | LabAction::Deliver(_) => None,
     }
 }
 
@@ -52,9 +50,7 @@ fn asked_by(event: &LabEvent) -> Option<u8>
 {
     match event {
         LabEvent::Runs(action) => node_in(action),
-        LabEvent::StopBefore(_) => None,
-        LabEvent::StopAfter(_) => None,
-        LabEvent::Restart(_) => None,
+        LabEvent::StopBefore(_) | LabEvent::StopAfter(_) | LabEvent::Restart(_) => None,
     }
 }
 

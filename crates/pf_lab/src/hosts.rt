@@ -21,7 +21,6 @@ use crate::event::{LabFault, Outcome};
 use crate::host::Host;
 use pf_entry::CLIENT;
 use px_replica::Datagram;
-use std::alloc::Global;
 
 /// What the member `m` receives happens in the world.
 pub(crate) fn run_at(
@@ -92,12 +91,7 @@ pub(crate) fn stop_before_at(hosts: &mut Vec<Host>, m: u8) -> Result<Outcome, La
 }
 
 /// The member `m` stops after its change is recorded, before anything is sent.
-pub(crate) fn stop_after_at(
-    alloc: Global,
-    hosts: &mut Vec<Host>,
-    m: u8,
-    what: What,
-) -> Result<Outcome, LabFault>
+pub(crate) fn stop_after_at(hosts: &mut Vec<Host>, m: u8, what: What) -> Result<Outcome, LabFault>
     requires askable { IsAskable what }
     ensures happens { (g : Group) (w : World Bytes) (a : Action Bytes) (sent : List datagrams.Datagram) →
         HostsAre hosts.old.items g sent w → Came g w a m what.entry →
@@ -117,7 +111,7 @@ pub(crate) fn stop_after_at(
     if !hosts[m].is_up {
         return Ok(Outcome::Stopped);
     }
-    let mut lost = Vec::new(alloc);
+    let mut lost = Vec::new(*hosts.allocator());
     let host = &mut hosts[m];
     match host.take(what, &mut lost) {
         Ok(_) => {}

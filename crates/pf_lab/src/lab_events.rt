@@ -81,7 +81,7 @@ impl Lab {
     {
         match what_comes(self.sent.as_slice(), action, bytes) {
             None => Err(LabFault::BadEvent),
-            Some((m, what)) => stop_after_at(self.alloc, &mut self.hosts, m, what),
+            Some((m, what)) => stop_after_at(&mut self.hosts, m, what),
         }
     }
 

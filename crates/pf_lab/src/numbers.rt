@@ -43,24 +43,13 @@ pub(crate) fn number_in(word: &str) -> Option<u64>
 pub(crate) fn node_in(word: &str) -> Result<u8, LineFault>
     ensures { Reads (λ m. m) result (node_of word.now) }
 {
-    match number_in(word) {
-        Some(number) => {
-            if number < 255 {
-                Ok(number as u8)
-            } else {
-                Ok(255)
-            }
-        }
-        None => Err(UNKNOWN),
-    }
+    let number = number_in(word).ok_or(UNKNOWN)?;
+    Ok(number.min(255) as u8)
 }
 
 /// The message that the argument names.
 pub(crate) fn message_in(word: &str) -> Result<usize, LineFault>
     ensures { Reads (λ k. k) result (message_of word.now) }
 {
-    match number_in(word) {
-        Some(number) => Ok(number as usize),
-        None => Err(UNKNOWN),
-    }
+    Ok(number_in(word).ok_or(UNKNOWN)? as usize)
 }

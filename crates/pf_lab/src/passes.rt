@@ -16,8 +16,7 @@ fn unless_memory(outcome: Result<Outcome, LabFault>) -> Result<(), AllocError>
     ensures { OnOk result (outcome ≢ Err LabFault.Memory) }
 {
     match outcome {
-        Ok(_) => Ok(()),
-        Err(LabFault::BadEvent) => Ok(()),
+        Ok(_) | Err(LabFault::BadEvent) => Ok(()),
         Err(LabFault::Memory) => Err(AllocError),
     }
 }
@@ -30,8 +29,7 @@ impl Bench {
             (with_world v (happens same v.members v.world (worlds.Event.Runs (worlds.Action.Deliver k))))) }
     {
         let event = LabEvent::Runs(LabAction::Deliver(k));
-        let outcome = self.lab.step(&event);
-        unless_memory(outcome)
+        unless_memory(self.lab.step(&event))
     }
 
     /// Delivers, in order, the messages that were sent so far and not delivered yet.

@@ -126,10 +126,7 @@ pub(crate) fn line_in<'w, 'a>(
         return Err(UNKNOWN);
     };
     if rest.is_empty() {
-        return match bare(*first) {
-            Some(line) => Ok(line),
-            None => Err(UNKNOWN),
-        };
+        return bare(*first).ok_or(UNKNOWN);
     }
     if *first == "test" {
         return test_in(rest);

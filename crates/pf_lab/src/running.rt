@@ -44,10 +44,7 @@ fn refused(fault: NodeFault) -> Result<Outcome, LabFault>
         NodeFault::BallotsSpent => Ok(Outcome::Refused(61)),
         NodeFault::PositionsSpent => Ok(Outcome::Refused(62)),
         NodeFault::Memory => Err(LabFault::Memory),
-        NodeFault::TooLong => unreachable!(),
-        NodeFault::Store => unreachable!(),
-        NodeFault::BadStore => unreachable!(),
-        NodeFault::Failed => unreachable!(),
+        _ => unreachable!(),
     }
 }
 

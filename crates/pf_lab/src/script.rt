@@ -11,7 +11,6 @@ use crate::bench::Bench;
 use crate::event::LabFault;
 use crate::numbers::number_in;
 use crate::state::Lab;
-use crate::stepping::{run_words, step};
 use pf_arguments::USAGE;
 use pf_scripts::{Waiting, cut_line, push_refusal, words_in};
 use std::alloc::{AllocError, Global};
@@ -50,10 +49,7 @@ fn begun(alloc: Global, script: &[u8]) -> Result<Option<(u8, &[u8])>, AllocError
             return Ok(None);
         };
         if !words.is_empty() {
-            return match members_in(&words) {
-                Some(members) => Ok(Some((members, rest))),
-                None => Ok(None),
-            };
+            return Ok(members_in(&words).map(|members| (members, rest)));
         }
         left = rest;
     }
@@ -66,31 +62,26 @@ fn new_bench(alloc: Global, members: u8) -> Result<Bench, AllocError>
     requires few { members ≤ MEMBERS }
     ensures { IfOk result (λ b. IsBench b (new_lab members)) }
 {
-    match Lab::new(alloc, members) {
-        Ok(lab) => Ok(Bench {
-            lab,
-            members,
-            passed: 0,
-            delivered: Vec::new(alloc),
-            shown: 0,
-        }),
-        Err(_) => Err(AllocError),
-    }
+    let lab = Lab::new(alloc, members).map_err(|_| AllocError)?;
+    Ok(Bench {
+        lab,
+        members,
+        passed: 0,
+        delivered: Vec::new(alloc),
+        shown: 0,
+    })
 }
 
-/// Ends a ruleset that still waits for its last line.
-fn finish(
-    alloc: Global,
-    bench: &mut Bench,
-    waiting: Option<Waiting<'_>>,
-    out: &mut String,
-) -> Result<(), AllocError>
-    ensures { (v : LabValue) → IsBench bench.old v → OnOk result
-        (string_bytes out.new ≡ string_bytes out.old ++ at_end v (option_map waiting_of waiting.entry)) }
-{
-    match waiting {
-        Some(waiting) => run_words(alloc, bench, &waiting.words, &waiting.text, out),
-        None => Ok(()),
+impl Bench {
+    /// Ends a ruleset that still waits for its last line.
+    fn finish(&mut self, waiting: Option<Waiting<'_>>, out: &mut String) -> Result<(), AllocError>
+        ensures { (v : LabValue) → IsBench self.old v → OnOk result
+            (string_bytes out.new ≡ string_bytes out.old ++ at_end v (option_map waiting_of waiting.entry)) }
+    {
+        match waiting {
+            Some(waiting) => self.run_words(&waiting.words, &waiting.text, out),
+            None => Ok(()),
+        }
     }
 }
 
@@ -105,10 +96,10 @@ fn run_lines(alloc: Global, members: u8, behind: &[u8], out: &mut String) -> Res
     let mut waiting = None;
     let mut left = behind;
     while let Some((line, rest)) = cut_line(left) {
-        waiting = step(alloc, &mut bench, waiting, line, out)?;
+        waiting = bench.step_line(waiting, line, out)?;
         left = rest;
     }
-    finish(alloc, &mut bench, waiting, out)
+    bench.finish(waiting, out)
 }
 
 /// What a script of a lab's events prints.

@@ -73,9 +73,6 @@ impl<'a> EverLearned<'a> {
         ensures { option_map (λ b. b.now) result ≡
             option_map spelled (ever_of self.now.hosts.now member position) }
     {
-        match self.hosts.get(member as usize) {
-            Some(host) => host.node.learned(position),
-            None => None,
-        }
+        self.hosts.get(member as usize)?.node.learned(position)
     }
 }

@@ -141,7 +141,6 @@ impl Bench {
     /// Prints the node's verdict for a packet.
     pub(crate) fn show_verdict(
         &self,
-        alloc: Global,
         m: u8,
         packet: &[&str],
         out: &mut String,
@@ -152,7 +151,7 @@ impl Bench {
         if m >= self.members {
             return push_refusal(out, NOT_THERE, 0);
         }
-        push_verdict(alloc, out, self.lab.node(m), packet)
+        push_verdict(self.lab.alloc, out, self.lab.node(m), packet)
     }
 
     /// Prints the messages that weren't shown yet.

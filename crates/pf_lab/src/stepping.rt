@@ -15,117 +15,101 @@ use pf_arguments::USAGE;
 use pf_scripts::{Line, Waiting, push_bytes, push_refusal, takes_text, words_in};
 use std::alloc::{AllocError, Global};
 
-/// Does what a line asks for.
-fn run_line(
-    alloc: Global,
-    bench: &mut Bench,
-    line: LabLine<'_, '_>,
-    out: &mut String,
-) -> Result<(), AllocError>
-    ensures { (v : LabValue) → IsBench bench.old v → OnOk result
-        (Does (done v (line_value line.entry)) bench.new (string_bytes out.old) (string_bytes out.new)) }
-{
-    match line {
-        LabLine::Happens(event) => bench.happen(&event, out),
-        LabLine::Run => bench.run(),
-        LabLine::Test(m, packet) => bench.show_verdict(alloc, m, packet, out),
-        LabLine::State => bench.show_state(out),
-        LabLine::Log(m) => bench.show_log(m, out),
-        LabLine::Sent => bench.show_sent(out),
-    }
-}
-
-/// Runs what a line's arguments ask for, or prints its refusal; `text` is what follows it.
-pub(crate) fn run_words(
-    alloc: Global,
-    bench: &mut Bench,
-    words: &[&str],
-    text: &[u8],
-    out: &mut String,
-) -> Result<(), AllocError>
-    ensures { (v : LabValue) → IsBench bench.old v → OnOk result
-        (Does (words_done v (map (λ w. w.now) words.now) text.now) bench.new
-        (string_bytes out.old) (string_bytes out.new)) }
-{
-    match line_in(alloc, words, text) {
-        Ok(line) => run_line(alloc, bench, line, out),
-        Err(LineFault::Refused(code)) => push_refusal(out, code, 0),
-        Err(LineFault::Memory) => Err(AllocError),
-    }
-}
-
 /// Whether a ruleset follows a line with these arguments: one of an ask, `ask` in pfctl's place.
 fn is_followed(alloc: Global, words: &[&str]) -> Result<bool, AllocError>
     ensures { IfOk result (λ b. b ≡ is_followed (map (λ w. w.now) words.now)) }
 {
     match words {
-        [first, ..] => {
-            if *first == "ask" {
-                takes_text(alloc, words)
-            } else {
-                Ok(false)
-            }
-        }
-        [] => Ok(false),
+        [first, ..] if *first == "ask" => takes_text(alloc, words),
+        _ => Ok(false),
     }
 }
 
-/// Runs a line with these arguments, unless a ruleset follows it.
-fn begin<'a>(
-    alloc: Global,
-    bench: &mut Bench,
-    words: Option<Vec<&'a str>>,
-    out: &mut String,
-) -> Result<Option<Waiting<'a>>, AllocError>
-    ensures { (v : LabValue) → IsBench bench.old v → IfOk result (λ w. Steps
-        (at_words v (option_map (λ u. map (λ x. x.now) u.items) words.entry))
-        bench.new (option_map waiting_of w) (string_bytes out.old) (string_bytes out.new)) }
-{
-    let Some(words) = words else {
-        push_refusal(out, USAGE, 0)?;
-        return Ok(None);
-    };
-    if words.is_empty() {
-        return Ok(None);
-    }
-    if is_followed(alloc, &words)? {
-        return Ok(Some(Waiting {
-            words,
-            text: Vec::new(alloc),
-        }));
-    }
-    run_words(alloc, bench, &words, &[], out)?;
-    Ok(None)
-}
-
-/// Runs a line: one of a ruleset, or one with arguments. Returns the line that waits for its text then.
-pub(crate) fn step<'a>(
-    alloc: Global,
-    bench: &mut Bench,
-    waiting: Option<Waiting<'a>>,
-    line: Line<'a>,
-    out: &mut String,
-) -> Result<Option<Waiting<'a>>, AllocError>
-    ensures { (v : LabValue) → IsBench bench.old v → IfOk result (λ w. Steps
-        (stepped v (option_map waiting_of waiting.entry) (line_of line.entry))
-        bench.new (option_map waiting_of w) (string_bytes out.old) (string_bytes out.new)) }
-{
-    match waiting {
-        None => {
-            let words = words_in(alloc, line.content)?;
-            begin(alloc, bench, words, out)
+impl Bench {
+    /// Does what a line asks for.
+    fn run_line(&mut self, line: LabLine<'_, '_>, out: &mut String) -> Result<(), AllocError>
+        ensures { (v : LabValue) → IsBench self.old v → OnOk result
+            (Does (done v (line_value line.entry)) self.new (string_bytes out.old) (string_bytes out.new)) }
+    {
+        match line {
+            LabLine::Happens(event) => self.happen(&event, out),
+            LabLine::Run => self.run(),
+            LabLine::Test(m, packet) => self.show_verdict(m, packet, out),
+            LabLine::State => self.show_state(out),
+            LabLine::Log(m) => self.show_log(m, out),
+            LabLine::Sent => self.show_sent(out),
         }
-        Some(waiting) => {
-            if line.content == b".".as_slice() {
-                run_words(alloc, bench, &waiting.words, &waiting.text, out)?;
-                return Ok(None);
+    }
+
+    /// Runs what a line's arguments ask for, or prints its refusal; `text` is what follows it.
+    pub(crate) fn run_words(
+        &mut self,
+        words: &[&str],
+        text: &[u8],
+        out: &mut String,
+    ) -> Result<(), AllocError>
+        ensures { (v : LabValue) → IsBench self.old v → OnOk result
+            (Does (words_done v (map (λ w. w.now) words.now) text.now) self.new
+            (string_bytes out.old) (string_bytes out.new)) }
+    {
+        match line_in(self.lab.alloc, words, text) {
+            Ok(line) => self.run_line(line, out),
+            Err(LineFault::Refused(code)) => push_refusal(out, code, 0),
+            Err(LineFault::Memory) => Err(AllocError),
+        }
+    }
+
+    /// Runs a line with these arguments, unless a ruleset follows it.
+    fn begin<'a>(
+        &mut self,
+        words: Option<Vec<&'a str>>,
+        out: &mut String,
+    ) -> Result<Option<Waiting<'a>>, AllocError>
+        ensures { (v : LabValue) → IsBench self.old v → IfOk result (λ w. Steps
+            (at_words v (option_map (λ u. map (λ x. x.now) u.items) words.entry))
+            self.new (option_map waiting_of w) (string_bytes out.old) (string_bytes out.new)) }
+    {
+        let Some(words) = words else {
+            push_refusal(out, USAGE, 0)?;
+            return Ok(None);
+        };
+        if words.is_empty() {
+            return Ok(None);
+        }
+        if is_followed(self.lab.alloc, &words)? {
+            let text = Vec::new(self.lab.alloc);
+            return Ok(Some(Waiting { words, text }));
+        }
+        self.run_words(&words, &[], out)?;
+        Ok(None)
+    }
+
+    /// Runs a line: one of a ruleset, or one with arguments. Returns the line that waits for its text then.
+    pub(crate) fn step_line<'a>(
+        &mut self,
+        waiting: Option<Waiting<'a>>,
+        line: Line<'a>,
+        out: &mut String,
+    ) -> Result<Option<Waiting<'a>>, AllocError>
+        ensures { (v : LabValue) → IsBench self.old v → IfOk result (λ w. Steps
+            (stepped v (option_map waiting_of waiting.entry) (line_of line.entry))
+            self.new (option_map waiting_of w) (string_bytes out.old) (string_bytes out.new)) }
+    {
+        match waiting {
+            None => {
+                let words = words_in(self.lab.alloc, line.content)?;
+                self.begin(words, out)
             }
-            let mut text = waiting.text;
-            push_bytes(&mut text, line)?;
-            Ok(Some(Waiting {
-                words: waiting.words,
-                text,
-            }))
+            Some(waiting) => {
+                if line.content == b".".as_slice() {
+                    self.run_words(&waiting.words, &waiting.text, out)?;
+                    return Ok(None);
+                }
+                let words = waiting.words;
+                let mut text = waiting.text;
+                push_bytes(&mut text, line)?;
+                Ok(Some(Waiting { words, text }))
+            }
         }
     }
 }
