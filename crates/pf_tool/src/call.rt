@@ -1,44 +1,65 @@
 //! What the arguments ask for.
 
-ghost use Rattle.std.specs.Prelude.{◌≡◌, Some, map, option_map};
+ghost use Rattle.std.specs.Prelude.{◌≡◌, map, option_map};
 ghost use Rattle.std.specs.Option.{option_copied};
 ghost use Rattle.clap.specs.Words.{found_of, rows_of, subcommand_rows_of};
-ghost use Rattle.pf_tool.specs.Options.{place_for, is_given, check_call, test_call, packets_call, explain_as};
-ghost use Rattle.pf_tool.specs.Options.{called_by, called, is_other, names_other};
+ghost use Rattle.pf_tool.specs.Options.{place_for, is_given, check_call, test_call, explain_as};
+ghost use Rattle.pf_tool.specs.Options.{called, is_other, names_other};
 ghost use Rattle.pf_tool.specs.Messages.{is_verbose};
-ghost use Rattle.pf_tool.specs.inner.Calls.{asked};
+ghost use Rattle.pf_tool.specs.inner.Calls.{asked, reads_input};
 
 use clap::ArgMatches;
 use cli_io::{Explanation, named, value_in, values_in};
 use pf_grammar::Place;
 use std::convert::AsStr;
 
+/// What the rulesets of files give at a place; without files that of the input.
+#[derive(Clone, Copy)]
+pub(crate) struct Check<'m, 'a> {
+    pub(crate) place: Place,
+    pub(crate) quiet: bool,
+    pub(crate) files: &'m [&'a str],
+}
+
+/// Verdicts for packets given as arguments and in a file, under a file's rules; what no file has is the input's.
+#[derive(Clone, Copy)]
+pub(crate) struct Test<'m, 'a> {
+    /// The ruleset.
+    pub(crate) file: Option<&'a str>,
+    /// The file of packets.
+    pub(crate) more: Option<&'a str>,
+    pub(crate) quiet: bool,
+    pub(crate) packets: &'m [&'a str],
+}
+
 /// What the arguments ask for.
 #[derive(Clone, Copy)]
 pub(crate) enum Call<'m, 'a> {
+    /// What rulesets give at a place.
+    Check(Check<'m, 'a>),
     /// Verdicts for packets.
-    Test(&'m [&'a str]),
-    /// What a ruleset gives at a place.
-    Check(Place),
+    Test(Test<'m, 'a>),
     /// What a script over one configuration prints.
     Ctl,
     /// What a script of a lab's events prints.
     Lab,
     /// A refusal's paragraph, or all of them.
     Explain(Option<&'m Explanation>),
-    /// What the rulesets of files give at a place; without files that of the input.
-    CheckFiles {
-        place: Place,
-        quiet: bool,
-        files: &'m [&'a str],
-    },
-    /// Verdicts for packets given as arguments and in a file, under a file's rules; what no file has is the input's.
-    TestFiles {
-        file: Option<&'a str>,
-        more: Option<&'a str>,
-        quiet: bool,
-        packets: &'m [&'a str],
-    },
+}
+
+impl Call<'_, '_> {
+    /// Whether the input is read.
+    pub(crate) fn reads_input(&self) -> bool
+        ensures { result ≡ reads_input (asked self.now) }
+    {
+        match self {
+            Call::Check(check) => check.files.is_empty(),
+            Call::Test(test) => test.file.is_none()
+                || (test.more.is_none() && test.packets.is_empty()),
+            Call::Ctl | Call::Lab => true,
+            Call::Explain(_) => false,
+        }
+    }
 }
 
 /// Whether an option without a value was given.
@@ -62,33 +83,11 @@ fn place_for(anchor: Option<&str>) -> Place
 fn check_call<'m, 'a>(inner: &'m ArgMatches<'a>) -> Call<'m, 'a>
     ensures { asked result ≡ check_call (rows_of (found_of inner.now)) }
 {
-    let place = place_for(value_in(inner, "anchor"));
-    let quiet = is_given(value_in(inner, "quiet"));
-    let files = values_in(inner, "file");
-    match files {
-        [] if !quiet => Call::Check(place),
-        _ => Call::CheckFiles {
-            place,
-            quiet,
-            files,
-        },
-    }
-}
-
-/// What `test` asks for without a file.
-fn packets_call<'m, 'a>(quiet: bool, packets: &'m [&'a str]) -> Option<Call<'m, 'a>>
-    ensures { option_map asked result ≡ packets_call quiet (map (λ p. p.now) packets.now) }
-{
-    match packets {
-        [] => None,
-        _ if quiet => Some(Call::TestFiles {
-            file: None,
-            more: None,
-            quiet,
-            packets,
-        }),
-        _ => Some(Call::Test(packets)),
-    }
+    Call::Check(Check {
+        place: place_for(value_in(inner, "anchor")),
+        quiet: is_given(value_in(inner, "quiet")),
+        files: values_in(inner, "file"),
+    })
 }
 
 /// What `test` asks for, none where it has no packet.
@@ -99,15 +98,15 @@ fn test_call<'m, 'a>(inner: &'m ArgMatches<'a>) -> Option<Call<'m, 'a>>
     let more = value_in(inner, "packets");
     let quiet = is_given(value_in(inner, "quiet"));
     let packets = values_in(inner, "packet");
-    if file.is_none() && more.is_none() {
-        return packets_call(quiet, packets);
+    if file.is_none() && more.is_none() && packets.is_empty() {
+        return None;
     }
-    Some(Call::TestFiles {
+    Some(Call::Test(Test {
         file,
         more,
         quiet,
         packets,
-    })
+    }))
 }
 
 /// What `explain` asks for, none where no refusal has the number.
@@ -120,14 +119,14 @@ fn explain_call<'m, 'a>(table: &'m [Explanation], code: Option<&str>) -> Option<
     }
 }
 
-/// What a subcommand asks for with the matches of its arguments.
-fn call_by<'m, 'a>(
+/// What the matches of the arguments ask for with a table of refusals, none where they ask for nothing.
+pub(crate) fn call_in<'m, 'a>(
     table: &'m [Explanation],
-    subcommand: &str,
-    inner: &'m ArgMatches<'a>,
+    matches: &'m ArgMatches<'a>,
 ) -> Option<Call<'m, 'a>>
-    ensures { option_map asked result ≡ called_by table.now subcommand.now (rows_of (found_of inner.now)) }
+    ensures { option_map asked result ≡ called table.now (subcommand_rows_of matches.now) }
 {
+    let (subcommand, inner) = matches.subcommand()?;
     if subcommand == "check" {
         return Some(check_call(inner));
     }
@@ -144,17 +143,6 @@ fn call_by<'m, 'a>(
         return explain_call(table, value_in(inner, "code"));
     }
     None
-}
-
-/// What the matches of the arguments ask for with a table of refusals, none where they ask for nothing.
-pub(crate) fn call_in<'m, 'a>(
-    table: &'m [Explanation],
-    matches: &'m ArgMatches<'a>,
-) -> Option<Call<'m, 'a>>
-    ensures { option_map asked result ≡ called table.now (subcommand_rows_of matches.now) }
-{
-    let (subcommand, inner) = matches.subcommand()?;
-    call_by(table, subcommand, inner)
 }
 
 /// Whether `-v` was given.

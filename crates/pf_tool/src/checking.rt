@@ -5,78 +5,55 @@ ghost use Rattle.pf_tool.specs.Tool.{check_output, checked_source, checked_sourc
 ghost use Rattle.pf_tool.specs.inner.Output.{written, rendered};
 ghost use Rattle.pf_tool.specs.inner.Sources.{source_in};
 
-use crate::output::{Ending, Output, answered, refused, unread};
+use crate::output::Output;
 use crate::reporting::Reporter;
 use crate::source::Source;
 use pf_grammar::{ParseFault, Place, Profile, parse, show};
-use std::alloc::{AllocError, Global};
+use std::alloc::AllocError;
 
-/// What `check` writes over the text of this source: the ruleset that it gives at the place, or its refusal.
-#[tactic(auto, unfolding(crate::specs::Tool::check_output))]
-pub(crate) fn check_output(
-    alloc: Global,
-    reporter: &Reporter<'_>,
-    source: &str,
-    place: Place,
-    text: &[u8],
-) -> Result<Output, AllocError>
-    ensures { IfOk result (λ o. written o ≡ rendered reporter.now (check_output source.now place text.now)) }
-{
-    match parse(alloc, text, place, Profile::Two) {
-        Ok(loaded) => {
-            let shown = show(alloc, &loaded)?;
-            Ok(answered(alloc, shown))
-        }
-        Err(ParseFault::Memory) => Err(AllocError),
-        Err(ParseFault::Refused(refusal)) => {
-            let line = Some(refusal.line);
-            refused(alloc, reporter, source, line, refusal.cause.code())
+impl Reporter<'_> {
+    /// What `check` writes over the text of this source: the ruleset that it gives at the place, or its refusal.
+    #[tactic(auto, unfolding(crate::specs::Tool::check_output))]
+    pub(crate) fn check_output(
+        &self,
+        source: &str,
+        place: Place,
+        text: &[u8],
+    ) -> Result<Output, AllocError>
+        ensures { IfOk result (λ o. written o ≡ rendered self.now (check_output source.now place text.now)) }
+    {
+        match parse(self.alloc, text, place, Profile::Two) {
+            Ok(loaded) => Ok(self.answered(show(self.alloc, &loaded)?)),
+            Err(ParseFault::Memory) => Err(AllocError),
+            Err(ParseFault::Refused(refusal)) => self.refused_ruleset(source, refusal),
         }
     }
-}
 
-/// What `check` writes over a ruleset, which may be one that can't be read.
-fn checked_source(
-    alloc: Global,
-    reporter: &Reporter<'_>,
-    place: Place,
-    source: &Source<'_>,
-) -> Result<Output, AllocError>
-    ensures { IfOk result (λ o. written o ≡ rendered reporter.now (checked_source place (source_in source.now))) }
-{
-    match source.bytes() {
-        Some(text) => check_output(alloc, reporter, source.name, place, text),
-        None => unread(alloc, reporter, source.name),
+    /// What `check` writes over a ruleset, which may be one that can't be read.
+    fn checked_source(&self, place: Place, source: &Source<'_>) -> Result<Output, AllocError>
+        ensures { IfOk result (λ o. written o ≡ rendered self.now (checked_source place (source_in source.now))) }
+    {
+        match source.text.as_deref() {
+            Some(text) => self.check_output(source.name, place, text),
+            None => self.unread(source.name),
+        }
     }
-}
 
-/// What `check` writes over these rulesets in turn.
-#[tactic(auto, unfolding(crate::specs::Tool::checked_sources))]
-pub(crate) fn checked_sources(
-    alloc: Global,
-    reporter: &Reporter<'_>,
-    place: Place,
-    sources: &[Source<'_>],
-) -> Result<Output, AllocError>
-    ensures { IfOk result (λ o. written o ≡ rendered reporter.now (checked_sources place (map source_in sources.now))) }
-{
-    let mut text = String::new(alloc);
-    let mut messages = String::new(alloc);
-    let mut is_any = false;
-    for source in sources {
-        let one = checked_source(alloc, reporter, place, source)?;
-        text.push_str(one.text.as_str())?;
-        messages.push_str(one.messages.as_str())?;
-        is_any = is_any || one.is_refused();
+    /// What `check` writes over these rulesets in turn.
+    #[tactic(auto, unfolding(crate::specs::Tool::checked_sources))]
+    pub(crate) fn checked_sources(
+        &self,
+        place: Place,
+        sources: &[Source<'_>],
+    ) -> Result<Output, AllocError>
+        ensures { IfOk result (λ o. written o
+            ≡ rendered self.now (checked_sources place (map source_in sources.now))) }
+    {
+        let mut all = self.answered(String::new(self.alloc));
+        for source in sources {
+            let one = self.checked_source(place, source)?;
+            all.append(&one)?;
+        }
+        Ok(all)
     }
-    let ending = if is_any {
-        Ending::Refused
-    } else {
-        Ending::Done
-    };
-    Ok(Output {
-        text,
-        messages,
-        ending,
-    })
 }

@@ -1,12 +1,14 @@
 //! What a run writes.
 
-ghost use Rattle.std.specs.Prelude.{◌≡◌, [], None, IfOk, string_bytes};
-ghost use Rattle.pf_tool.specs.Tool.{refused, refused_text, unread, is_refused};
+ghost use Rattle.std.specs.Prelude.{◌≡◌, [], None, IfOk, OnOk, string_bytes};
+ghost use Rattle.pf_grammar.specs.declared.fault.Refusal.{Refusal};
+ghost use Rattle.pf_tool.specs.Tool.{refused, refused_ruleset, refused_text, unread};
 ghost use Rattle.pf_tool.specs.declared.output.Ending.TheVariants as ending;
-ghost use Rattle.pf_tool.specs.inner.Output.{written, rendered, quieted_bytes};
+ghost use Rattle.pf_tool.specs.inner.Output.{written, rendered, quieted_bytes, both};
 
 use crate::reporting::Reporter;
 use cli_io::UNREADABLE;
+use pf_grammar::Refusal;
 use std::alloc::{AllocError, Global};
 
 /// How a run ends that wrote all of its output.
@@ -26,22 +28,38 @@ pub(crate) struct Output {
 }
 
 impl Output {
-    /// Whether the run ends as refused.
-    pub(crate) fn is_refused(&self) -> bool
-        ensures { result ≡ is_refused (written self.now).ending }
+    /// All that is to be written.
+    pub(crate) fn new(text: String, messages: String, ending: Ending) -> Output
+        ensures { written result ≡ record { text = string_bytes text; messages = string_bytes messages; ending = ending } }
     {
-        matches!(self.ending, Ending::Refused)
+        Output {
+            text,
+            messages,
+            ending,
+        }
     }
-}
 
-/// What is written where nothing is refused.
-pub(crate) fn answered(alloc: Global, text: String) -> Output
-    ensures { written result ≡ record { text = string_bytes text; messages = []; ending = ending.Done } }
-{
-    Output {
-        text,
-        messages: String::new(alloc),
-        ending: Ending::Done,
+    /// Puts another output behind this one; the run ends as refused where one of them does.
+    pub(crate) fn append(&mut self, other: &Output) -> Result<(), AllocError>
+        ensures { OnOk result (written self.new ≡ both (written self.old) (written other.now)) }
+    {
+        self.text.push_str(other.text.as_str())?;
+        self.messages.push_str(other.messages.as_str())?;
+        if matches!(other.ending, Ending::Refused) {
+            self.ending = Ending::Refused;
+        }
+        Ok(())
+    }
+
+    /// With `-q` nothing is written but messages, and the run ends alike.
+    pub(crate) fn quieted(self, quiet: bool) -> Output
+        ensures { written result ≡ quieted_bytes quiet (written self) }
+    {
+        if quiet {
+            let text = String::new(*self.text.allocator());
+            return Output::new(text, self.messages, self.ending);
+        }
+        self
     }
 }
 
@@ -57,46 +75,43 @@ fn refused_text(alloc: Global, line: Option<u64>, code: u8) -> Result<String, Al
     Ok(text)
 }
 
-/// A source is refused with this number, at its line where the refusal names one.
-pub(crate) fn refused(
-    alloc: Global,
-    reporter: &Reporter<'_>,
-    source: &str,
-    line: Option<u64>,
-    code: u8,
-) -> Result<Output, AllocError>
-    ensures { IfOk result (λ o. written o ≡ rendered reporter.now (refused source.now line code)) }
-{
-    let text = refused_text(alloc, line, code)?;
-    let messages = reporter.refusal(alloc, source, line, code)?;
-    Ok(Output {
-        text,
-        messages,
-        ending: Ending::Refused,
-    })
-}
-
-/// What is written of a source that can't be read.
-pub(crate) fn unread(
-    alloc: Global,
-    reporter: &Reporter<'_>,
-    source: &str,
-) -> Result<Output, AllocError>
-    ensures { IfOk result (λ o. written o ≡ rendered reporter.now (unread source.now)) }
-{
-    refused(alloc, reporter, source, None, UNREADABLE)
-}
-
-/// With `-q` nothing is written but messages, and the run ends alike.
-pub(crate) fn quieted(alloc: Global, quiet: bool, output: Output) -> Output
-    ensures { written result ≡ quieted_bytes quiet (written output) }
-{
-    if quiet {
-        return Output {
-            text: String::new(alloc),
-            messages: output.messages,
-            ending: output.ending,
-        };
+impl Reporter<'_> {
+    /// What is written where nothing is refused.
+    pub(crate) fn answered(&self, text: String) -> Output
+        ensures { written result ≡ record { text = string_bytes text; messages = []; ending = ending.Done } }
+    {
+        Output::new(text, String::new(self.alloc), Ending::Done)
     }
-    output
+
+    /// A source is refused with this number, at its line where the refusal names one.
+    pub(crate) fn refused(
+        &self,
+        source: &str,
+        line: Option<u64>,
+        code: u8,
+    ) -> Result<Output, AllocError>
+        ensures { IfOk result (λ o. written o ≡ rendered self.now (refused source.now line code)) }
+    {
+        let text = refused_text(self.alloc, line, code)?;
+        let messages = self.refusal(source, line, code)?;
+        Ok(Output::new(text, messages, Ending::Refused))
+    }
+
+    /// The text of a ruleset is refused.
+    pub(crate) fn refused_ruleset(
+        &self,
+        source: &str,
+        refusal: Refusal,
+    ) -> Result<Output, AllocError>
+        ensures { IfOk result (λ o. written o ≡ rendered self.now (refused_ruleset source.now refusal)) }
+    {
+        self.refused(source, Some(refusal.line), refusal.cause.code())
+    }
+
+    /// What is written of a source that can't be read.
+    pub(crate) fn unread(&self, source: &str) -> Result<Output, AllocError>
+        ensures { IfOk result (λ o. written o ≡ rendered self.now (unread source.now)) }
+    {
+        self.refused(source, None, UNREADABLE)
+    }
 }

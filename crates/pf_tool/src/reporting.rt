@@ -29,18 +29,17 @@ pub(crate) enum Level {
 pub(crate) fn level_of(is_verbose: bool, is_terminal: bool) -> Level
     ensures { result ≡ level_of is_verbose is_terminal }
 {
-    if is_verbose {
-        return Level::Rules;
+    match (is_verbose, is_terminal) {
+        (true, _) => Level::Rules,
+        (false, true) => Level::Refusals,
+        (false, false) => Level::Silent,
     }
-    if is_terminal {
-        return Level::Refusals;
-    }
-    Level::Silent
 }
 
 /// How messages are written: which, and with which table of refusals.
 #[derive(Clone, Copy)]
 pub(crate) struct Reporter<'t> {
+    pub(crate) alloc: Global,
     pub(crate) table: &'t [Explanation],
     pub(crate) level: Level,
 }
@@ -53,24 +52,9 @@ impl Reporter<'_> {
         !matches!(self.level, Level::Silent)
     }
 
-    /// Whether the rules that decide are reported.
-    fn has_rules(&self) -> bool
-        ensures { result ≡ has_rules self.now.level }
-    {
-        matches!(self.level, Level::Rules)
-    }
-
-    /// The short name of a refusal.
-    fn name_of(&self, code: u8) -> &str
-        ensures { result.now ≡ name_of (row_of self.now.table.now code) }
-    {
-        explanation(self.table, code).map_or("refused", |row| row.name)
-    }
-
     /// The line of a refusal, empty where refusals aren't reported.
     pub(crate) fn refusal(
         &self,
-        alloc: Global,
         source: &str,
         line: Option<u64>,
         code: u8,
@@ -79,22 +63,21 @@ impl Reporter<'_> {
             (Refuses source.now line code)) }
     {
         if !self.has_refusals() {
-            return Ok(String::new(alloc));
+            return Ok(String::new(self.alloc));
         }
-        let source = format!(in alloc; "{}", Shown(source))?;
+        let source = format!(in self.alloc; "{}", Shown(source))?;
         let remark = Remark {
             source: source.as_str(),
             line,
-            name: self.name_of(code),
+            name: explanation(self.table, code).map_or("refused", |row| row.name),
             code,
         };
-        format!(in alloc; "{remark}\n")
+        format!(in self.alloc; "{remark}\n")
     }
 
     /// The line of the rule that decides, for the packet with this number; empty where rules aren't reported.
     pub(crate) fn decision(
         &self,
-        alloc: Global,
         n: usize,
         config: &Config,
         found: &Verdict<'_>,
@@ -102,11 +85,11 @@ impl Reporter<'_> {
         ensures { IfOk result (λ text. string_bytes text ≡ message_line self.now.level self.now.table.now
             (Decides n config.now (judgement_of found.now))) }
     {
-        if !self.has_rules() {
-            return Ok(String::new(alloc));
+        if !matches!(self.level, Level::Rules) {
+            return Ok(String::new(self.alloc));
         }
-        let line = decided_line(alloc, n, config, found)?;
-        format!(in alloc; "{line}\n")
+        let line = decided_line(self.alloc, n, config, found)?;
+        format!(in self.alloc; "{line}\n")
     }
 }
 

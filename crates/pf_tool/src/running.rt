@@ -8,39 +8,34 @@ ghost use Rattle.pf_tool.specs.Options.{call_of, names_other, pfx_app};
 ghost use Rattle.pf_tool.specs.Tool.{Ran, Reported};
 ghost use Rattle.pf_tool.specs.inner.Calls.{asked};
 
-use crate::answering::{RunFault, output_for};
 use crate::call::{Call, call_in, is_verbose, misnamed, names_other};
 use crate::options::command;
 use crate::output::Ending;
-use crate::reporting::{Level, Reporter, level_of, report};
-use cli_io::{Explanation, Sources, Status, misused, out_of_memory, write_bytes};
-use std::alloc::Global;
+use crate::reporting::{Reporter, level_of, report};
+use crate::source::Runner;
+use cli_io::{Explanation, InputFault, Sources, Status, misused, out_of_memory, write_bytes};
 use std::convert::AsStr;
 use std::io::{Read, Write};
 
 /// Does what is asked for, and writes the output and the messages.
 #[tactic(auto, using(cli_io::proofs::Fronts::nothing_written))]
 fn answer<T: Sources, R: Read, W: Write, E: Write>(
-    sources: &T,
-    alloc: Global,
-    table: &[Explanation],
-    call: Call<'_, '_>,
-    level: Level,
+    runner: &Runner<'_, T>,
+    call: &Call<'_, '_>,
     reader: &mut R,
     writer: &mut W,
     errors: &mut E,
 ) -> Status
-    ensures ran { Ran (T.has sources.now) table.now result (Some (asked call.entry)) (R.remaining reader.old)
-        (W.contents writer.old) (W.contents writer.new) }
-    ensures reported { Reported (T.has sources.now) table.now level result (Some (asked call.entry))
-        (R.remaining reader.old) (W.contents writer.old) (W.contents writer.new) (E.contents errors.old)
-        (E.contents errors.new) }
+    ensures ran { Ran (T.has runner.now.sources.now) runner.now.reporter.table.now result (Some (asked call.now))
+        (R.remaining reader.old) (W.contents writer.old) (W.contents writer.new) }
+    ensures reported { Reported (T.has runner.now.sources.now) runner.now.reporter.table.now runner.now.reporter.level
+        result (Some (asked call.now)) (R.remaining reader.old) (W.contents writer.old) (W.contents writer.new)
+        (E.contents errors.old) (E.contents errors.new) }
 {
-    let reporter = Reporter { table, level };
-    let output = match output_for(sources, alloc, &reporter, call, reader) {
+    let output = match runner.output_for(call, reader) {
         Ok(output) => output,
-        Err(RunFault::Memory) => return out_of_memory(writer),
-        Err(RunFault::Failed) => return Status::Failed,
+        Err(InputFault::Memory) => return out_of_memory(writer),
+        Err(InputFault::Failed | InputFault::TooLong) => return Status::Failed,
     };
     match write_bytes(writer, output.text.as_bytes()) {
         Ok(()) => {
@@ -107,7 +102,15 @@ pub fn run<T: AllocGlobal + Sources, S: AsStr, R: Read, W: Write, E: Write>(
     match call_in(table, &matches) {
         Some(call) => {
             let level = level_of(is_verbose(&matches), is_terminal);
-            answer(rt, alloc, table, call, level, reader, writer, errors)
+            let runner = Runner {
+                sources: rt,
+                reporter: Reporter {
+                    alloc,
+                    table,
+                    level,
+                },
+            };
+            answer(&runner, &call, reader, writer, errors)
         }
         None => misnamed_words(misnamed(&matches), writer),
     }

@@ -9,7 +9,7 @@ ghost use Rattle.pf_lab.specs.Scripts as lab;
 ghost use Rattle.pf_tool.specs.Tool.{answered, marks, refusals_in, scripted};
 ghost use Rattle.pf_tool.specs.inner.Output.{written, rendered, reported};
 
-use crate::output::{Ending, Output, answered};
+use crate::output::{Ending, Output};
 use crate::reporting::Reporter;
 use pf_lab::lab_script;
 use pf_scripts::{Printed, ctl, cut_line};
@@ -43,10 +43,7 @@ fn push_marks(found: &mut Vec<Option<u8>>, piece: &Printed) -> Result<(), AllocE
     ensures { OnOk result (found.new.items ≡ found.old.items ++ marks (printed_value piece.now)) }
 {
     match piece {
-        Printed::Refused(code, _) => {
-            found.push(Some(*code))?;
-            Ok(())
-        }
+        Printed::Refused(code, _) => Ok(found.push(Some(*code))?),
         Printed::Lines(text) => push_unmarked(found, text.as_str()),
     }
 }
@@ -62,67 +59,48 @@ fn marks(alloc: Global, printed: &[Printed]) -> Result<Vec<Option<u8>>, AllocErr
     Ok(found)
 }
 
-/// The messages of the refusals among printed lines, by their places from 1.
-fn refusals_in(
-    alloc: Global,
-    reporter: &Reporter<'_>,
-    marks: &[Option<u8>],
-) -> Result<String, AllocError>
-    ensures { IfOk result (λ text. string_bytes text ≡ reported reporter.now (refusals_in 1 marks.now)) }
-{
-    let mut messages = String::new(alloc);
-    for (i, mark) in marks.iter().enumerate() {
-        if let Some(code) = mark {
-            let message = reporter.refusal(alloc, "stdout", Some((i + 1) as u64), *code)?;
-            messages.push_str(message.as_str())?;
+impl Reporter<'_> {
+    /// The messages of the refusals among printed lines, by their places from 1.
+    fn refusals_in(&self, marks: &[Option<u8>]) -> Result<String, AllocError>
+        ensures { IfOk result (λ text. string_bytes text ≡ reported self.now (refusals_in 1 marks.now)) }
+    {
+        let mut messages = String::new(self.alloc);
+        for (i, mark) in marks.iter().enumerate() {
+            if let Some(code) = mark {
+                let message = self.refusal("stdout", Some((i + 1) as u64), *code)?;
+                messages.push_str(message.as_str())?;
+            }
         }
+        Ok(messages)
     }
-    Ok(messages)
-}
 
-/// The messages of the refusals that a script prints; none are looked for where refusals aren't reported.
-fn script_messages(
-    alloc: Global,
-    reporter: &Reporter<'_>,
-    printed: &[Printed],
-) -> Result<String, AllocError>
-    ensures { IfOk result (λ text. string_bytes text ≡ reported reporter.now
-        (refusals_in 1 (flat_map marks (printed_values printed.now)))) }
-{
-    if reporter.has_refusals() {
-        let found = marks(alloc, printed)?;
-        return refusals_in(alloc, reporter, &found);
+    /// The messages of the refusals that a script prints; none are looked for where refusals aren't reported.
+    fn script_messages(&self, printed: &[Printed]) -> Result<String, AllocError>
+        ensures { IfOk result (λ text. string_bytes text ≡ reported self.now
+            (refusals_in 1 (flat_map marks (printed_values printed.now)))) }
+    {
+        if self.has_refusals() {
+            let found = marks(self.alloc, printed)?;
+            return self.refusals_in(&found);
+        }
+        Ok(String::new(self.alloc))
     }
-    Ok(String::new(alloc))
-}
 
-/// What `ctl` writes over this input: what the script's lines print over one configuration.
-#[tactic(auto, unfolding(crate::specs::Tool::scripted))]
-pub(crate) fn script_output(
-    alloc: Global,
-    reporter: &Reporter<'_>,
-    input: &[u8],
-) -> Result<Output, AllocError>
-    ensures { IfOk result (λ o. written o ≡ rendered reporter.now (scripted (printed input.now))) }
-{
-    let printed = ctl(alloc, input)?;
-    let text = text_of(alloc, &printed)?;
-    let messages = script_messages(alloc, reporter, &printed)?;
-    Ok(Output {
-        text,
-        messages,
-        ending: Ending::Done,
-    })
-}
+    /// What `ctl` writes over this input: what the script's lines print over one configuration.
+    #[tactic(auto, unfolding(crate::specs::Tool::scripted))]
+    pub(crate) fn script_output(&self, input: &[u8]) -> Result<Output, AllocError>
+        ensures { IfOk result (λ o. written o ≡ rendered self.now (scripted (printed input.now))) }
+    {
+        let printed = ctl(self.alloc, input)?;
+        let text = text_of(self.alloc, &printed)?;
+        let messages = self.script_messages(&printed)?;
+        Ok(Output::new(text, messages, Ending::Done))
+    }
 
-/// What `lab` writes over this input: what the script's lines print over one lab.
-pub(crate) fn lab_output(
-    alloc: Global,
-    reporter: &Reporter<'_>,
-    input: &[u8],
-) -> Result<Output, AllocError>
-    ensures { IfOk result (λ o. written o ≡ rendered reporter.now (answered (lab.printed input.now))) }
-{
-    let text = lab_script(alloc, input)?;
-    Ok(answered(alloc, text))
+    /// What `lab` writes over this input: what the script's lines print over one lab.
+    pub(crate) fn lab_output(&self, input: &[u8]) -> Result<Output, AllocError>
+        ensures { IfOk result (λ o. written o ≡ rendered self.now (answered (lab.printed input.now))) }
+    {
+        Ok(self.answered(lab_script(self.alloc, input)?))
+    }
 }

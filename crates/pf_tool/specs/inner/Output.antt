@@ -1,6 +1,7 @@
 -- The value of an output of the code.
 use Rattle.std.specs.Prelude.{◌≡◌, ℕ, Bool, true, false, List, [], ◌++◌, string_bytes}
 use Rattle.pf_tool.specs.declared.output.Ending.{Ending}
+use Rattle.pf_tool.specs.declared.output.Ending.TheVariants.{Done, Refused}
 use Rattle.pf_tool.specs.declared.output.Output.{Output}
 use Rattle.pf_tool.specs.declared.reporting.Reporter.{Reporter}
 use Rattle.pf_tool.specs.Messages.{Message, message_lines}
@@ -28,6 +29,19 @@ rendered r w = record { text = w.text; messages = reported r w.messages; ending 
 abbrev pub after : (text messages : List ℕ) → Rendered → Rendered
 after text messages later =
     record { text = text ++ later.text; messages = messages ++ later.messages; ending = later.ending }
+
+-- two endings: refused where one of them is
+abbrev pub ending_of : Ending → Ending → Ending
+ending_of Done later = later
+ending_of Refused later = Refused
+
+-- one output, and another behind it
+abbrev pub both : Rendered → Rendered → Rendered
+both first later = record {
+  text = first.text ++ later.text;
+  messages = first.messages ++ later.messages;
+  ending = ending_of first.ending later.ending;
+}
 
 -- with -q nothing is written but messages
 abbrev pub quieted_bytes : Bool → Rendered → Rendered
