@@ -156,49 +156,33 @@ impl PortSpan {
     }
 }
 
-fn ports_from(low: u16, high: u16) -> Option<PortSpan>
-    ensures { result ≡ ports_from low high }
+/// These ports, or all but these.
+fn ports(low: u16, high: u16, negated: bool) -> PortSpan
+    ensures low { result.low ≡ low }
+    ensures high { result.high ≡ high }
+    ensures negated { result.negated ≡ negated }
 {
-    Some(PortSpan {
-        low,
-        high,
-        negated: false,
-    })
-}
-
-fn ports_but(low: u16, high: u16) -> Option<PortSpan>
-    ensures { result ≡ ports_but low high }
-{
-    Some(PortSpan {
-        low,
-        high,
-        negated: true,
-    })
+    PortSpan { low, high, negated }
 }
 
 /// The ports that pass, none if none does.
 fn port_span(test: PortTest) -> Option<PortSpan>
     ensures { result ≡ port_span test }
 {
-    match test {
-        PortTest::Equal(n) => ports_from(n, n),
-        PortTest::NotEqual(n) => ports_but(n, n),
-        PortTest::Less(n) => if n == 0 { None } else { ports_from(0, n - 1) },
-        PortTest::LessEqual(n) => ports_from(0, n),
-        PortTest::Greater(n) => ports_but(0, n),
-        PortTest::GreaterEqual(n) => ports_from(n, 65535),
-        PortTest::FromTo(a, b) => if a <= b { ports_from(a, b) } else { None },
-        PortTest::Between(a, b) => if a < b && a + 1 < b {
-            ports_from(a + 1, b - 1)
-        } else {
-            None
-        },
-        PortTest::Outside(a, b) => if a <= b {
-            ports_but(a, b)
-        } else {
-            ports_from(0, 65535)
-        },
-    }
+    let span = match test {
+        PortTest::Equal(n) => ports(n, n, false),
+        PortTest::NotEqual(n) => ports(n, n, true),
+        PortTest::Less(n) if n > 0 => ports(0, n - 1, false),
+        PortTest::LessEqual(n) => ports(0, n, false),
+        PortTest::Greater(n) => ports(0, n, true),
+        PortTest::GreaterEqual(n) => ports(n, 65535, false),
+        PortTest::FromTo(a, b) if a <= b => ports(a, b, false),
+        PortTest::Between(a, b) if a < b && a + 1 < b => ports(a + 1, b - 1, false),
+        PortTest::Outside(a, b) if a <= b => ports(a, b, true),
+        PortTest::Outside(_, _) => ports(0, 65535, false),
+        _ => return None,
+    };
+    Some(span)
 }
 
 /// TCP and UDP have ports.

@@ -43,10 +43,7 @@ fn push_unknown<'c>(place: Place<'c>, rules: &mut Vec<NftRule<'c>>) -> Result<()
         ++ ending Drop Unknown (unknown_matches (known (machine_of place.entry.machine.now))) ∷ []) }
 {
     let matches = unknown_matches(place.alloc, known(place.alloc, place.machine)?)?;
-    let statement = Statement::Ends {
-        outcome: Outcome::Drop,
-        note: Note::Unknown,
-    };
+    let statement = Statement::ends(Outcome::Drop, Note::Unknown);
     Ok(rules.push(NftRule { matches, statement })?)
 }
 
@@ -57,11 +54,7 @@ fn push_skips<'c>(place: Place<'c>, rules: &mut Vec<NftRule<'c>>) -> Result<(), 
 {
     let names = interfaces_skipped(place.alloc, place.machine, place.config.skip())?;
     let asked = on_some(place.alloc, names)?;
-    let statement = Statement::Ends {
-        outcome: Outcome::Accept,
-        note: Note::Skip,
-    };
-    push_rules(rules, &asked, statement)
+    push_rules(rules, &asked, Statement::ends(Outcome::Accept, Note::Skip))
 }
 
 /// The two chains of the main ruleset, if it has rules.
@@ -84,10 +77,7 @@ fn push_default<'c>(rules: &mut Vec<NftRule<'c>>) -> Result<(), AllocError>
         ++ ending Accept Default [] ∷ []) }
 {
     let matches = Vec::new(*rules.allocator());
-    let statement = Statement::Ends {
-        outcome: Outcome::Accept,
-        note: Note::Default,
-    };
+    let statement = Statement::ends(Outcome::Accept, Note::Default);
     Ok(rules.push(NftRule { matches, statement })?)
 }
 

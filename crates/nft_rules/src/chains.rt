@@ -50,14 +50,8 @@ fn push_filter<'c>(
         place.entry.path.now rule.now.conditions) place.entry.path.now index rule.now) }
 {
     let asked = alternatives(place, &rule.conditions)?;
-    let note = Note::Spot {
-        path: place.path,
-        index,
-    };
-    let statement = Statement::Ends {
-        outcome: outcome_of(rule.action),
-        note,
-    };
+    let path = place.path;
+    let statement = Statement::ends(outcome_of(rule.action), Note::Spot { path, index });
     push_rules(rules, &asked, statement)
 }
 

@@ -24,11 +24,8 @@ fn owner_of<'c>(place: Place<'c>, name: &str) -> Option<&'c [Name]>
     if place.config.table(place.path, name).is_some() {
         return Some(place.path);
     }
-    if place.config.table(&[], name).is_some() {
-        Some(&[])
-    } else {
-        None
-    }
+    let main: &'c [Name] = &[];
+    place.config.table(main, name).map(|_| main)
 }
 
 /// Whether they are the same.
@@ -56,10 +53,7 @@ pub(crate) fn first_of(prefix: &Prefix) -> u128
     ensures value { result ≡ first_of prefix.now }
     ensures small { result ≤ top (family_of prefix.now.base) }
 {
-    match prefix.base() {
-        Addr::V4(bits) => u128::from(bits),
-        Addr::V6(bits) => bits,
-    }
+    bits_of(prefix.base())
 }
 
 /// One less than a power of two, 2 to the 128th at most.

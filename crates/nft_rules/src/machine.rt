@@ -43,12 +43,7 @@ fn groups_in<'m>(
 fn is_among(names: &[InterfaceName], name: &[u8]) -> bool
     ensures { result ≡ list_any (λ n. bytes_eq n name.now) names.now }
 {
-    for other in names {
-        if other.as_bytes() == name {
-            return true;
-        }
-    }
-    false
+    names.iter().any(|other| other.as_bytes() == name)
 }
 
 /// Whether the machine's interface may be named so: by its name, by that without the digits at its end, or by a group.
@@ -65,12 +60,10 @@ fn is_named(machine: &[MachineInterface], interface: &InterfaceName, name: &[u8]
 fn is_matched(machine: &[MachineInterface], interface: &InterfaceName, wanted: &Interface) -> bool
     ensures { result ≡ is_matched wanted.now (names_in (machine_of machine.now) interface.now) }
 {
-    let found = is_named(machine, interface, wanted.name.as_bytes());
-    if wanted.negated { !found } else { found }
+    is_named(machine, interface, wanted.name.as_bytes()) != wanted.negated
 }
 
 /// Whether the machine's interface is skipped.
-#[tactic(auto, unfolding(crate::specs::Rendering::is_skipped))]
 fn is_skipped(
     skip: &[InterfaceName],
     machine: &[MachineInterface],
@@ -78,12 +71,8 @@ fn is_skipped(
 ) -> bool
     ensures { result ≡ is_skipped skip.now (names_in (machine_of machine.now) interface.now) }
 {
-    for name in skip {
-        if is_named(machine, interface, name.as_bytes()) {
-            return true;
-        }
-    }
-    false
+    skip.iter()
+        .any(|name| is_named(machine, interface, name.as_bytes()))
 }
 
 /// The machine's interfaces for which a rule on this one is meant.
@@ -113,10 +102,9 @@ pub(crate) fn interfaces_skipped(
 {
     let mut names = Vec::new(alloc);
     for interface in machine {
-        if !is_skipped(skip, machine, &interface.name) {
-            continue;
+        if is_skipped(skip, machine, &interface.name) {
+            names.push(interface.name.copied())?;
         }
-        names.push(interface.name.copied())?;
     }
     Ok(names)
 }

@@ -1,7 +1,7 @@
 //! The part of nftables in which a configuration is written (nft(8)).
 
 ghost use Rattle.std.specs.Prelude.{◌≡◌};
-ghost use Rattle.nft_rules.specs.Seen.{chain_name_of};
+ghost use Rattle.nft_rules.specs.Seen.{chain_name_of, note_of, statement_of};
 ghost use Rattle.nft_rules.specs.Subset as subset;
 
 use pf_addr::Family;
@@ -151,6 +151,15 @@ pub enum Statement<'c> {
     Ends { outcome: Outcome, note: Note<'c> },
     /// It goes to another chain, and, where that decides nothing, on.
     Jump(ChainName<'c>),
+}
+
+impl<'c> Statement<'c> {
+    /// The packet is decided.
+    pub(crate) fn ends(outcome: Outcome, note: Note<'c>) -> Statement<'c>
+        ensures { statement_of result ≡ subset.Ends (record { outcome = outcome; note = note_of note.entry }) }
+    {
+        Statement::Ends { outcome, note }
+    }
 }
 
 /// A rule.

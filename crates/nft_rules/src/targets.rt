@@ -9,9 +9,9 @@ ghost use Rattle.nft_rules.specs.Seen.{chain_name_of};
 
 use crate::chains::Place;
 use crate::subset::{ChainName, Pass};
-use pf_config::{Anchor, Config};
+use pf_config::{Anchor, Config, joined};
 use pf_rules::{Name, PATH_MAX, Target};
-use std::alloc::{AllocError, Global};
+use std::alloc::AllocError;
 use std::rc::Rc;
 
 /// Whether a jump may lead to the path: some rule is there, and it has 8 names at most.
@@ -112,26 +112,6 @@ fn push_anchor<'c>(
         None => Ok(()),
         Some(anchor) => push_chained(config, paths, anchor.names()),
     }
-}
-
-/// A path, and names behind it.
-fn joined(alloc: Global, path: &[Name], names: &[Name]) -> Result<Vec<Name>, AllocError>
-    ensures { IfOk result (λ v. v.items ≡ path.now ++ names.now) }
-{
-    let mut all = Vec::new(alloc);
-    push_names(alloc, &mut all, path)?;
-    push_names(alloc, &mut all, names)?;
-    Ok(all)
-}
-
-/// Puts the same names behind those that are there.
-fn push_names(alloc: Global, all: &mut Vec<Name>, names: &[Name]) -> Result<(), AllocError>
-    ensures { OnOk result (all.new.items ≡ all.old.items ++ names.now) }
-{
-    for name in names {
-        all.push(name.copied(alloc)?)?;
-    }
-    Ok(())
 }
 
 /// The paths that an anchor rule evaluates and to which a jump may lead, in their order.

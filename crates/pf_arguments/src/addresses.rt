@@ -27,10 +27,8 @@ fn entry_of(word: &str) -> Result<TableEntry, AddrFault>
     ensures { entry_read result ≡ entry_of word.now }
 {
     let (negated, text) = cut_sign(word);
-    match parse_prefix(text) {
-        Ok(prefix) => Ok(TableEntry { negated, prefix }),
-        Err(fault) => Err(fault),
-    }
+    let prefix = parse_prefix(text)?;
+    Ok(TableEntry { negated, prefix })
 }
 
 /// The lower of a fault and one that came before it, if one did.
@@ -38,14 +36,8 @@ fn lowest(found: Option<AddrFault>, fault: AddrFault) -> AddrFault
     ensures { result ≡ lowest_of found fault }
 {
     match found {
-        None => fault,
-        Some(first) => {
-            if fault.code() < first.code() {
-                fault
-            } else {
-                first
-            }
-        }
+        Some(first) if fault.code() >= first.code() => first,
+        _ => fault,
     }
 }
 

@@ -41,57 +41,39 @@ pub(crate) enum Operation {
 fn flush_operation(text: &str) -> Option<Operation>
     ensures { result ≡ flush_operation text.now }
 {
-    if text == "rules" {
-        return Some(Operation::Whole(AnchorOperation::FlushRules));
+    match text {
+        "rules" => Some(Operation::Whole(AnchorOperation::FlushRules)),
+        "Tables" => Some(Operation::Whole(AnchorOperation::FlushTables)),
+        "all" => Some(Operation::Whole(AnchorOperation::FlushAll)),
+        _ => None,
     }
-    if text == "Tables" {
-        return Some(Operation::Whole(AnchorOperation::FlushTables));
-    }
-    if text == "all" {
-        return Some(Operation::Whole(AnchorOperation::FlushAll));
-    }
-    None
 }
 
 /// The value of `-T`.
 fn table_operation(text: &str) -> Option<Operation>
     ensures { result ≡ table_operation text.now }
 {
-    if text == "add" {
-        return Some(Operation::OnTable(TableOperation::Add));
+    match text {
+        "add" => Some(Operation::OnTable(TableOperation::Add)),
+        "delete" => Some(Operation::OnTable(TableOperation::Delete)),
+        "replace" => Some(Operation::OnTable(TableOperation::Replace)),
+        "flush" => Some(Operation::OnTable(TableOperation::Flush)),
+        "show" => Some(Operation::OnTable(TableOperation::Show)),
+        "test" => Some(Operation::OnTable(TableOperation::Test)),
+        _ => None,
     }
-    if text == "delete" {
-        return Some(Operation::OnTable(TableOperation::Delete));
-    }
-    if text == "replace" {
-        return Some(Operation::OnTable(TableOperation::Replace));
-    }
-    if text == "flush" {
-        return Some(Operation::OnTable(TableOperation::Flush));
-    }
-    if text == "show" {
-        return Some(Operation::OnTable(TableOperation::Show));
-    }
-    if text == "test" {
-        return Some(Operation::OnTable(TableOperation::Test));
-    }
-    None
 }
 
 /// The value of `-s`.
 fn show_operation(text: &str) -> Option<Operation>
     ensures { result ≡ show_operation text.now }
 {
-    if text == "rules" {
-        return Some(Operation::Whole(AnchorOperation::ShowRules));
+    match text {
+        "rules" => Some(Operation::Whole(AnchorOperation::ShowRules)),
+        "Tables" => Some(Operation::Whole(AnchorOperation::ShowTables)),
+        "Anchors" => Some(Operation::Whole(AnchorOperation::ShowAnchors)),
+        _ => None,
     }
-    if text == "Tables" {
-        return Some(Operation::Whole(AnchorOperation::ShowTables));
-    }
-    if text == "Anchors" {
-        return Some(Operation::Whole(AnchorOperation::ShowAnchors));
-    }
-    None
 }
 
 /// What is done with the text of `-f`: with `-n` it is checked alone.

@@ -25,10 +25,7 @@ pub(crate) struct Given<'m, 'a> {
 fn is_given(text: Option<&str>) -> bool
     ensures { result ≡ is_given (option_copied text.entry) }
 {
-    match text {
-        Some(text) => text == "true",
-        None => false,
-    }
+    text.is_some_and(|text| text == "true")
 }
 
 /// The arguments; an empty slice where none are given.

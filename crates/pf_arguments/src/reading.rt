@@ -18,7 +18,7 @@ use crate::fault::CommandFault;
 use crate::given::Given;
 use clap::ArgMatches;
 use pf_config::{ConfigFault, parse_path};
-use pf_entry::{Command, EncodeFault, Entry, Path, Profile, SomeAddresses, TableName, encode};
+use pf_entry::{Command, EncodeFault, Path, Profile, SomeAddresses, TableName, encode_asked};
 use pf_rules::is_table_name;
 use std::alloc::{AllocError, Global};
 
@@ -27,13 +27,8 @@ fn change(alloc: Global, command: Command) -> Result<Action, CommandFault>
     ensures answer { Answers result (change (command_value command)) }
     ensures short { IfOk result IsShort }
 {
-    let entry = Entry {
-        origin: 0,
-        number: 0,
-        command,
-    };
-    match encode(alloc, &entry) {
-        Ok(_bytes) => Ok(Action::Change(entry.command)),
+    match encode_asked(alloc, 0, 0, &command) {
+        Ok(_bytes) => Ok(Action::Change(command)),
         Err(EncodeFault::TooLong) => Err(CommandFault::TooLong),
         Err(EncodeFault::Memory) => Err(CommandFault::Memory),
     }
@@ -55,10 +50,9 @@ fn path_given(alloc: Global, given: Given<'_, '_>) -> Result<Path, CommandFault>
 fn names_table(given: Given<'_, '_>) -> bool
     ensures { result ≡ is_some (table_given (given_of given.entry)) }
 {
-    match given.table {
-        Some(text) => is_table_name(Profile::One, text.as_bytes()),
-        None => false,
-    }
+    given
+        .table
+        .is_some_and(|text| is_table_name(Profile::One, text.as_bytes()))
 }
 
 /// Whether `-t` or addresses are given.

@@ -133,19 +133,11 @@ fn flush_table(config: &mut Config, path: &Path, name: &TableName) -> Result<App
     )
 }
 
-/// The entries of a list that an entry spells.
-#[tactic(auto, using(crate::proofs::Applying::entries_again))]
-fn entries_owned(alloc: Global, list: &Addresses) -> Result<Vec<TableEntry>, AllocError>
-    ensures { IfOk result (λ v. v.items ≡ entries_of (addresses_of list.now)) }
-{
-    addresses_owned(alloc, list)
-}
-
 /// Changes the configuration by a command, and answers how many entries were added to its table and removed from it.
 ///
 /// A load reads its text by its profile, for the main ruleset where the path is empty and else for an anchor. A command
 /// that is refused, or for which a growth is refused, changes nothing.
-#[tactic(auto, using(crate::proofs::Applying::leaves_next))]
+#[tactic(auto, using(crate::proofs::Applying::leaves_next, crate::proofs::Applying::uncounted_applies, crate::proofs::Applying::entries_again), unfolding(crate::specs::Effect::effect))]
 pub fn apply(
     alloc: Global,
     config: &mut Config,
@@ -156,18 +148,6 @@ pub fn apply(
     // The configuration is the one after the command, a refused one too.
     ensures next { Leaves result config.old config.new
         (after_command config.old (command_of command.now)) }
-{
-    apply_case(alloc, config, command)
-}
-
-/// The same, by the command's case.
-#[tactic(auto, using(crate::proofs::Applying::uncounted_applies), unfolding(crate::specs::Effect::effect))]
-fn apply_case(
-    alloc: Global,
-    config: &mut Config,
-    command: &CommandView,
-) -> Result<Applied, ApplyFault>
-    ensures { Applies result config.old config.new (effect config.old (command_of command.now)) }
 {
     match command {
         CommandView::Load {
@@ -197,7 +177,7 @@ fn apply_case(
         } => {
             let path = path_owned(alloc, path)?;
             let table = table_owned(alloc, table)?;
-            let list = entries_owned(alloc, &addresses.items)?;
+            let list = addresses_owned(alloc, &addresses.items)?;
             add(config, &path, &table, &list)
         }
         CommandView::Delete {
@@ -207,7 +187,7 @@ fn apply_case(
         } => {
             let path = path_owned(alloc, path)?;
             let table = table_owned(alloc, table)?;
-            let list = entries_owned(alloc, &addresses.items)?;
+            let list = addresses_owned(alloc, &addresses.items)?;
             delete(config, &path, &table, &list)
         }
         CommandView::Replace {
@@ -217,7 +197,7 @@ fn apply_case(
         } => {
             let path = path_owned(alloc, path)?;
             let table = table_owned(alloc, table)?;
-            let list = entries_owned(alloc, addresses)?;
+            let list = addresses_owned(alloc, addresses)?;
             replace(alloc, config, &path, &table, &list)
         }
         CommandView::FlushTable { path, table } => {

@@ -1,8 +1,9 @@
 -- The anchor of a name is taken out from among the others, and put back in its place.
-use Rattle.std.proofs.Common.{◌≡◌, ℕ, ◌+◌, ◌≤◌, true, false, cond, List, [], ◌∷◌, ◌++◌, Option, Some, None, Ordering, length, length-append, length-take-le, take, drop, slice_get, zero, suc, ◌<◌, refl, sym, subst, ap, ◌∙◌, arith, take-append-drop}
+use Rattle.std.proofs.Common.{◌≡◌, ℕ, Bool, ◌+◌, ◌≤◌, true, false, cond, List, [], ◌∷◌, ◌++◌, Option, Some, None, Ordering, length, length-append, length-take-le, take, drop, filter, get_or, slice_get, zero, suc, ◌<◌, refl, sym, subst, ap, ◌∙◌, arith, take-append-drop}
 use Rattle.std.specs.declared.cmp.Ordering.TheVariants.{Less, Equal, Greater}
 use Rattle.std.specs.declared.rc.Rc.{Rc}
 use Rattle.std.specs.Prelude.{if◌then◌else◌, find, is_some, IfSome, option_map}
+use Rattle.std.specs.List.Sorted.{IsPartitionPoint, IsPartitionedBy}
 use Rattle.std.specs.Str.{bytes_eq}
 use Rattle.std.specs.Ordering.{is_lt, nat_cmp, ordering_reverse}
 use Rattle.std.specs.Cmp.Lexicographic.{slice_cmp}
@@ -25,47 +26,37 @@ use Rattle.pf_config.proofs.KidHalves.{order_back, order_front, shared_append}
 
 -- ---- those before a name are counted by halves
 
-before_all : (n : Name) (ks : List AnchorTree) (m : AnchorTree) (js : List AnchorTree) → AreInOrder (ks ++ m ∷ js) → is_before (last_name m.names) n ≡ true → kids_before n (ks ++ m ∷ js) ≡ ks ++ m ∷ kids_before n js
-before_all n [] m js s h = rw h refl
-before_all n (k ∷ ks) m js s h = rw (name_chain (last_name k.names) (last_name m.names) n (at_end ks s.0) h) (ap (λ (r : List AnchorTree). k ∷ r) (before_all n ks m js s.1 h))
-  where
-    at_end : (ks : List AnchorTree) → kids_above (last_name k.names) (ks ++ m ∷ js) ≡ true → is_before (last_name k.names) (last_name m.names) ≡ true
-    at_end [] e = (both_true (is_before (last_name k.names) (last_name m.names)) (kids_above (last_name k.names) js) e).0
-    at_end (x ∷ ks) e = at_end ks (both_true (is_before (last_name k.names) (last_name x.names)) (kids_above (last_name k.names) (ks ++ m ∷ js)) e).1
+-- where the first i pass a test and no other does, i pass it
+count_passing : {X : Type 0} (p : X → Bool) (xs : List X) (i : ℕ) → i ≤ length xs → IsPartitionPoint (λ y. p y ≡ true) (λ y. p y ≡ false) xs i → length (filter p xs) ≡ i
+count_passing p [] zero n h = refl
+count_passing p [] (suc i) n h = absurd (omega (arith, n))
+count_passing p (x ∷ xs) zero n h =
+    let rest = count_passing p xs zero (omega arith) ((λ k d a b. absurd (omega (arith, b))), (λ k d a b. h.1 (suc k) d (omega arith) (omega (arith, b)))) in
+    rw (h.1 zero x (omega arith) (omega arith)) rest
+count_passing p (x ∷ xs) (suc i) n h =
+    let rest = count_passing p xs i (omega (arith, n)) ((λ k d a b. h.0 (suc k) d (omega arith) (omega (arith, b))), (λ k d a b. h.1 (suc k) d (omega (arith, a)) (omega (arith, b)))) in
+    rw (h.0 zero x (omega arith) (omega arith)) (omega (arith, rest))
 
-none_before : (n m : Name) (js : List AnchorTree) → is_before m n ≡ false → kids_above m js ≡ true → kids_before n js ≡ []
-none_before n m [] h a = refl
-none_before n m (j ∷ js) h a =
-    let both = both_true (is_before m (last_name j.names)) (kids_above m js) a in
-    (elim (is_before (last_name j.names) n) as (λ b. is_before (last_name j.names) n ≡ b → cond b (j ∷ kids_before n js) (kids_before n js) ≡ []) [
-      | true ↦ λ e. (let bad : true ≡ false = sym (name_chain m (last_name j.names) n both.0 e) ∙ h in cc)
-      | false ↦ λ e. none_before n m js h both.1
-    ]) refl
+kid_above : {Z : Type 0} (m : Name) (ks : List (Rc AnchorTree Z)) (j : ℕ) (d : Rc AnchorTree Z) → kids_above m (shared ks) ≡ true → j < length ks → is_before m (last_name (get_or ks j d).value.names) ≡ true
+kid_above m [] j d h n = absurd (omega (arith, n))
+kid_above m (k ∷ ks) zero d h n = (both_true (is_before m (last_name k.value.names)) (kids_above m (shared ks)) h).0
+kid_above m (k ∷ ks) (suc j) d h n = kid_above m ks j d (both_true (is_before m (last_name k.value.names)) (kids_above m (shared ks)) h).1 (omega (arith, n))
 
-before_front : (n : Name) (ks : List AnchorTree) (m : AnchorTree) (js : List AnchorTree) → AreInOrder (ks ++ m ∷ js) → is_before (last_name m.names) n ≡ false → kids_before n (ks ++ m ∷ js) ≡ kids_before n ks
-before_front n ks m js s h =
-    let back : kids_before n (m ∷ js) ≡ [] = rw h (none_before n (last_name m.names) js h (order_back ks (m ∷ js) s).0) in
-    filter-append (λ (j : AnchorTree). is_before (last_name j.names) n) ks (m ∷ js) ∙ ap (λ r. kids_before n ks ++ r) back ∙ append_nil (kids_before n ks)
+pub parted_by : {Z : Type 0} (n : Name) (ks : List (Rc AnchorTree Z)) → AreInOrder (shared ks) → IsPartitionedBy (λ (k : Rc AnchorTree Z). is_before (last_name k.value.names) n) ks
+parted_by n [] s i j d le w h = absurd (omega (arith, w))
+parted_by n (k ∷ ks) s zero zero d le w h = h
+parted_by n (k ∷ ks) s zero (suc j) d le w h = name_chain (last_name k.value.names) (last_name (get_or ks j d).value.names) n (kid_above (last_name k.value.names) ks j d s.0 (omega (arith, w))) h
+parted_by n (k ∷ ks) s (suc i) zero d le w h = absurd (omega (arith, le))
+parted_by n (k ∷ ks) s (suc i) (suc j) d le w h = parted_by n ks s.1 i j d (omega (arith, le)) (omega (arith, w)) h
 
--- one half of the anchors is left to be counted
-pub record CountHalves (n : Name) (i : ℕ) (ks front : List AnchorTree) (m : AnchorTree) (behind : List AnchorTree) : Type 0 where
-  pub later : is_before (last_name m.names) n ≡ true → i + 1 + length (kids_before n behind) ≡ length (kids_before n ks)
-  pub first : is_before (last_name m.names) n ≡ false → length (kids_before n front) ≡ length (kids_before n ks)
-  pub in_order_behind : AreInOrder behind
-  pub in_order_first : AreInOrder front
+count_shared : {Z : Type 0} (q : AnchorTree → Bool) (ks : List (Rc AnchorTree Z)) → length (filter q (shared ks)) ≡ length (filter (λ (k : Rc AnchorTree Z). q k.value) ks)
+count_shared q [] = refl
+count_shared {Z} q (k ∷ ks) =
+    let rest = count_shared q ks in
+    elim (q k.value) as (λ b. length (cond b (k.value ∷ filter q (shared ks)) (filter q (shared ks))) ≡ length (cond b (k ∷ filter (λ (j : Rc AnchorTree Z). q j.value) ks) (filter (λ (j : Rc AnchorTree Z). q j.value) ks))) [ true ↦ omega (arith, rest) | false ↦ rest ]
 
-pub count_halves : {Z : Type 0} (n : Name) (i : ℕ) (ks : List (Rc AnchorTree Z)) (m : Rc AnchorTree Z) (behind : List (Rc AnchorTree Z)) → AreInOrder (shared ks) → i ≤ length ks → drop i ks ≡ m ∷ behind → CountHalves n i (shared ks) (shared (take i ks)) m.value (shared behind)
-count_halves {Z} n i ks m behind s le h =
-    let front = shared (take i ks) in
-    let e : front ++ m.value ∷ shared behind ≡ shared ks = sym (shared_append (take i ks) (m ∷ behind)) ∙ ap (λ r. shared (take i ks ++ r)) (sym h) ∙ ap shared (take-append-drop i ks) in
-    let t : AreInOrder (front ++ m.value ∷ shared behind) = subst AreInOrder (sym e) s in
-    let long : length front ≡ i = length-map (take i ks) (λ k. k.value) ∙ length-take-le i ks le in
-    record {
-      later = λ o. (let c : length (kids_before n (shared ks)) ≡ length front + length (m.value ∷ kids_before n (shared behind)) = sym (ap (λ r. length (kids_before n r)) e) ∙ ap length (before_all n front m.value (shared behind) t o) ∙ length-append front (m.value ∷ kids_before n (shared behind)) in omega (arith, c, long));
-      first = λ o. sym (sym (ap (λ r. length (kids_before n r)) e) ∙ ap length (before_front n front m.value (shared behind) t o));
-      in_order_behind = (order_back front (m.value ∷ shared behind) t).1;
-      in_order_first = order_front front (m.value ∷ shared behind) t;
-    }
+pub counted : {Z : Type 0} (n : Name) (ks : List (Rc AnchorTree Z)) (i : ℕ) → i ≤ length ks → IsPartitionPoint (λ (k : Rc AnchorTree Z). is_before (last_name k.value.names) n ≡ true) (λ (k : Rc AnchorTree Z). is_before (last_name k.value.names) n ≡ false) ks i → i ≡ length (kids_before n (shared ks))
+counted {Z} n ks i w h = sym (count_shared (λ (j : AnchorTree). is_before (last_name j.names) n) ks ∙ count_passing (λ (k : Rc AnchorTree Z). is_before (last_name k.value.names) n) ks i w h)
 
 -- ---- those before a name, the one of that name, and those behind it
 

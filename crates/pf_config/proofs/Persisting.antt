@@ -91,7 +91,7 @@ made_none (Entry name e edit) rules rules' tables tables' m h k = go (named name
           | false ↦ λ d. (let bad : true ≡ false = d in cc)
         ]) c
 made_none (Whole name t) rules rules' tables tables' m h k = ap (list_any is_fleeting) m.1 ∙ table_none tables name.now t.now h (not_false t.now.persist k)
-made_none (Own own held) rules rules' tables tables' m h k = ap (list_any is_fleeting) m.1 ∙ k
+made_none (Own own) rules rules' tables tables' m h k = ap (list_any is_fleeting) m.1 ∙ k
 
 -- after a change each table persists, if each did and the change's do
 pub still_none : {X : Type 0} (res : Result Bool X) (change : Change) (p : Path) (old new : Configuration) (may : Bool) → (not may && any_may_shed old.anchors) ≡ false → MatchResult res (λ done. MapChangesIf done (Makes change) p old new) (λ x. new ≡ old) → (not (may || makes_fleeting change) && any_may_shed new.anchors) ≡ false

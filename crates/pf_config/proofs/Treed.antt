@@ -206,7 +206,7 @@ own_rules p rules tables ks h = ap rules_in (at_own p rules tables (below ks) (n
 pub own_tables : (p : Path) (rules : List AnyRule) (tables : List (Name × TableValue)) (ks : List AnchorTree) → AreKids p ks → tables_in (anchor_at p (own_entry p rules tables ++ below ks)) ≡ tables
 own_tables p rules tables ks h = ap tables_in (at_own p rules tables (below ks) (none_below p ks h)) ∙ (elim (is_empty rules && is_empty tables) as (λ b. is_empty rules && is_empty tables ≡ b → tables_in (if b then None else Some (record { path = p; rules = rules; tables = tables })) ≡ tables) [ true ↦ λ e. sym (empty_is tables (both_true (is_empty rules) (is_empty tables) e).1) | false ↦ λ e. refl ]) refl
 
-pub nothing_is : (p : Path) (rules : List AnyRule) (tables : List (Name × TableValue)) (ks : List AnchorTree) → AreKids p ks → is_empty (own_entry p rules tables ++ below ks) ≡ (is_empty rules && (is_empty tables && is_empty ks))
+pub nothing_is : (p : Path) (rules : List AnyRule) (tables : List (Name × TableValue)) (ks : List AnchorTree) → AreKids p ks → is_empty (own_entry p rules tables ++ below ks) ≡ ((is_empty rules && is_empty tables) && is_empty ks)
 nothing_is p [] [] [] h = refl
 nothing_is p [] [] (k ∷ ks) h = kid_holds k.anchors (below ks) h.0.1
   where

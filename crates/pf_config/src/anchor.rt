@@ -24,9 +24,7 @@ use crate::below::{
 };
 use crate::candidate_list::CandidateList;
 use crate::change::{Change, change_own};
-use crate::order::{Order, order_of};
-use crate::own::{are_apart, has_entry, is_own_unnamed, is_unnamed_below, own_room, push_own_path};
-use crate::own_rules::OwnRules;
+use crate::own::{Own, are_apart, is_unnamed_below};
 use crate::paths::{copied_path, followed_by};
 use crate::referred::{Referred, any_fleeting};
 use crate::tables::{Tables, named};
@@ -42,33 +40,29 @@ use std::rc::Rc;
 #[derive(Drop)]
 pub struct Anchor {
     names: Vec<Name>,
-    items: Rc<Vec<Item>>,
-    order: Rc<Order>,
-    tables: Tables,
+    own: Own,
     kids: Vec<Rc<Anchor>>,
 }
 
 impl Model for Anchor {
-    ghost use Rattle.std.specs.Prelude.{map, length, ◌≤◌, ◌++◌};
+    ghost use Rattle.std.specs.Prelude.{map, length, ◌++◌};
     ghost use Rattle.pf_rules.specs.Seen.{rule_of};
     ghost use Rattle.pf_config.specs.Trees.{AnchorTree, own_entry, below, shared, AreKids, weight};
-    ghost use Rattle.pf_config.specs.Orders.{IsOrder};
     ghost use Rattle.pf_config.specs.inner.TreeFalls.{shared_lighter};
 
     ghost Value = { AnchorTree };
 
     ghost view = { λ a. record {
       names = a.names.items;
-      anchors = own_entry a.names.items (map rule_of a.items.value.items) a.tables ++ below (shared a.kids.items);
+      anchors = own_entry a.names.items (map rule_of a.own.items.value.items) a.own.tables ++ below (shared a.kids.items);
     } };
 
-    ghost invariant = { λ a. (length a.items.value.items ≤ 1024) × AreKids a.names.items (shared a.kids.items)
-        × IsOrder (map rule_of a.items.value.items) a.order.value.stops a.order.value.others };
+    ghost invariant = { λ a. AreKids a.names.items (shared a.kids.items) };
 
     ghost size = { λ t. weight (length t.names) t.anchors };
 
     ghost size_decreases = { λ a h. shared_lighter a.names.items (own_entry a.names.items (map rule_of
-        a.items.value.items) a.tables) a.kids.items h.1 };
+        a.own.items.value.items) a.own.tables) a.kids.items h };
 }
 
 impl Anchor {
@@ -85,7 +79,7 @@ impl Anchor {
         ensures rules { map rule_of result.now ≡ rules_in (anchor_at self.now.names self.now.anchors) }
         ensures few { length result.now ≤ RULES_MAX }
     {
-        &self.items
+        &self.own.items
     }
 
     /// The rules at its path that may end an evaluation, which are the quick filter rules and the anchor rules: the
@@ -94,7 +88,7 @@ impl Anchor {
     pub fn stops(&self) -> &CandidateList
         ensures { result.now ≡ stops_of (rules_in (anchor_at self.now.names self.now.anchors)) }
     {
-        &self.order.stops
+        &self.own.order.stops
     }
 
     /// The rules at its path that aren't quick: the last one first.
@@ -102,7 +96,7 @@ impl Anchor {
     pub fn others(&self) -> &CandidateList
         ensures { result.now ≡ others_of (rules_in (anchor_at self.now.names self.now.anchors)) }
     {
-        &self.order.others
+        &self.own.order.others
     }
 
     /// The tables at its path.
@@ -111,7 +105,7 @@ impl Anchor {
         ensures value { result.now ≡ tables_in (anchor_at self.now.names self.now.anchors) }
         ensures ordered { AreOrdered result.now }
     {
-        self.tables.list()
+        self.own.tables.list()
     }
 
     /// The table of that name at its path.
@@ -140,7 +134,7 @@ impl Anchor {
     pub(crate) fn has_own(&self) -> bool
         ensures { result ≡ is_some (anchor_at self.now.names self.now.anchors) }
     {
-        has_entry(&self.items, self.tables.list())
+        !self.own.is_empty()
     }
 
     /// Whether it holds nothing.
@@ -148,7 +142,7 @@ impl Anchor {
     pub(crate) fn is_nothing(&self) -> bool
         ensures { result ≡ is_empty self.now.anchors }
     {
-        are_empty(&self.items, self.tables.list(), &self.kids)
+        self.own.is_empty() && self.kids.is_empty()
     }
 
     /// The anchor of that name directly below. None where no path of the configuration begins with its names.
@@ -163,7 +157,7 @@ impl Anchor {
     pub(crate) fn target(&self, index: u32, name: &str) -> Option<&Anchor>
         ensures { option_copied result ≡ child_at self.now name.now }
     {
-        kid_named(&self.kids, name, self.order.places.of_rule(index))
+        kid_named(&self.kids, name, self.own.order.places.of_rule(index))
     }
 
     /// The anchors directly below, in byte order of their names.
@@ -180,21 +174,16 @@ impl Anchor {
     pub fn is_unnamed(&self) -> bool
         ensures { result ≡ begins_below (last_name self.now.names) }
     {
-        match last_name(&self.names) {
-            [first, ..] => *first == b'_',
-            [] => false,
-        }
+        matches!(last_name(&self.names), [b'_', ..])
     }
 
     /// How much room is left once its entries have theirs. None where there isn't room for all.
     pub(crate) fn room_after(&self, room: usize) -> Option<usize>
         ensures { result ≡ room_after room (length self.now.anchors) }
     {
-        let first = own_room(&self.items, self.tables.list(), room)?;
-        let mut left = first;
+        let mut left = self.own.room_after(room)?;
         for kid in &self.kids {
-            let less = kid.room_after(left)?;
-            left = less;
+            left = kid.room_after(left)?;
         }
         Some(left)
     }
@@ -204,7 +193,9 @@ impl Anchor {
         ensures { OnOk result (map (λ p. p.now) paths.new.items
             ≡ map (λ p. p.now) paths.old.items ++ paths_in self.now.anchors) }
     {
-        push_own_path(&self.names, &self.items, self.tables.list(), paths)?;
+        if !self.own.is_empty() {
+            paths.push(&self.names)?;
+        }
         for kid in &self.kids {
             kid.push_paths(paths)?;
         }
@@ -227,7 +218,7 @@ impl Anchor {
         if are_apart(&self.names, path) {
             return false;
         }
-        if is_own_unnamed(&self.names, &self.items, self.tables.list(), path) {
+        if self.own.is_unnamed_below(&self.names, path) {
             return true;
         }
         for kid in &self.kids {
@@ -251,32 +242,24 @@ impl Anchor {
             let none = Anchor::empty(alloc, names)?;
             return Ok(none);
         }
-        let items = self.items.clone()?;
-        let order = self.order.clone()?;
-        let tables = self.tables.copied()?;
+        let own = self.own.copied()?;
         let mut kids = Vec::new(alloc);
         for kid in &self.kids {
             if !kid.has_unnamed(path) {
                 push_some(&mut kids, kid.clone()?)?;
                 continue;
             }
-            let own = kid.without_unnamed(alloc, path)?;
-            push_some(&mut kids, Rc::new(alloc, own)?)?;
+            let next = kid.without_unnamed(alloc, path)?;
+            push_some(&mut kids, Rc::new(alloc, next)?)?;
         }
-        Ok(Anchor {
-            names,
-            items,
-            order,
-            tables,
-            kids,
-        })
+        Ok(Anchor { names, own, kids })
     }
 
     /// Whether a rule here or below refers to the table of that name.
     pub(crate) fn refers(&self, name: &TableName) -> bool
         ensures { result ≡ list_any (refer name.now) self.now.anchors }
     {
-        if items_refer(name, &self.items) {
+        if items_refer(name, &self.own.items) {
             return true;
         }
         for kid in &self.kids {
@@ -291,7 +274,7 @@ impl Anchor {
     pub(crate) fn put_referred(&self, alloc: Global, names: &mut Referred) -> Result<(), AllocError>
         ensures { OnOk result (Gains names.old (λ n. list_any (refer n) self.now.anchors) names.new) }
     {
-        names.put_items(alloc, &self.items)?;
+        names.put_items(alloc, &self.own.items)?;
         for kid in &self.kids {
             kid.put_referred(alloc, names)?;
         }
@@ -303,7 +286,7 @@ impl Anchor {
     pub(crate) fn has_fleeting(&self) -> bool
         ensures { result ≡ any_may_shed self.now.anchors }
     {
-        if any_fleeting(self.tables.list()) {
+        if any_fleeting(self.own.tables.list()) {
             return true;
         }
         for kid in &self.kids {
@@ -320,7 +303,7 @@ impl Anchor {
         requires { KnowsAll known.now main.now.anchors }
         ensures { result ≡ any_sheds main.now.anchors self.now.anchors }
     {
-        if any_unused(main, known, &self.names, &self.items, self.tables.list()) {
+        if any_unused(main, known, &self.names, &self.own) {
             return true;
         }
         for kid in &self.kids {
@@ -346,67 +329,39 @@ impl Anchor {
         }) }
     {
         let names = copied_path(alloc, &self.names)?;
-        let items = self.items.clone()?;
-        let order = self.order.clone()?;
-        let tables = used_tables(
-            alloc,
-            main,
-            known,
-            &self.names,
-            &self.items,
-            self.tables.list(),
-        )?;
+        let tables = used_tables(main, known, &self.names, &self.own)?;
+        let own = self.own.with_tables(tables)?;
         let mut kids = Vec::new(alloc);
         for kid in &self.kids {
             if !kid.has_unused(main, known) {
                 push_some(&mut kids, kid.clone()?)?;
                 continue;
             }
-            let own = kid.tidied(alloc, main, known)?;
-            push_some(&mut kids, Rc::new(alloc, own)?)?;
+            let next = kid.tidied(alloc, main, known)?;
+            push_some(&mut kids, Rc::new(alloc, next)?)?;
         }
-        Ok(Anchor {
-            names,
-            items,
-            order,
-            tables,
-            kids,
-        })
+        Ok(Anchor { names, own, kids })
     }
 
     /// An anchor with nothing in it.
     pub(crate) fn empty(alloc: Global, names: Vec<Name>) -> Result<Anchor, AllocError>
         ensures { IfOk result (λ a. a ≡ record { names = names.items; anchors = [] }) }
     {
-        let items = Rc::new(alloc, Vec::new(alloc))?;
-        let order = Rc::new(alloc, order_of(alloc, &items)?)?;
+        let own = Own::without_rules(Tables::new(alloc)?)?;
         Ok(Anchor {
             names,
-            items,
-            order,
-            tables: Tables::new(alloc)?,
+            own,
             kids: Vec::new(alloc),
         })
     }
 
-    /// The rules at its path, shared with their order.
-    #[tactic(auto, using(crate::proofs::Treed::own_rules))]
-    pub(crate) fn shared_rules(&self) -> Result<OwnRules, AllocError>
-        ensures { IfOk result (λ r. map rule_of r.items.value.items ≡
-            rules_in (anchor_at self.now.names self.now.anchors)) }
+    /// What is at its path.
+    #[tactic(auto, using(crate::proofs::Treed::own_rules, crate::proofs::Treed::own_tables))]
+    pub(crate) fn own(&self) -> &Own
+        ensures rules { map rule_of result.now.items.value.items ≡ rules_in (anchor_at self.now.names self.now.anchors) }
+        ensures tables { result.now.tables ≡ tables_in (anchor_at self.now.names self.now.anchors) }
     {
-        let items = self.items.clone()?;
-        let order = self.order.clone()?;
-        Ok(OwnRules::with(items, order))
-    }
-
-    /// The tables at its path, shared.
-    #[tactic(auto, using(crate::proofs::Treed::own_tables))]
-    pub(crate) fn shared_tables(&self) -> Result<Tables, AllocError>
-        ensures { IfOk result (λ t. t ≡ tables_in (anchor_at self.now.names self.now.anchors)) }
-    {
-        let tables = self.tables.copied()?;
-        Ok(tables)
+        &self.own
     }
 
     /// The same once more. The anchors below are shared.
@@ -414,84 +369,36 @@ impl Anchor {
         ensures { IfOk result (λ a. a ≡ self.now) }
     {
         let names = copied_path(alloc, &self.names)?;
-        let items = self.items.clone()?;
-        let order = self.order.clone()?;
-        let tables = self.tables.copied()?;
+        let own = self.own.copied()?;
         let kids = shared_kids(alloc, &self.kids)?;
-        Ok(Anchor {
-            names,
-            items,
-            order,
-            tables,
-            kids,
-        })
+        Ok(Anchor { names, own, kids })
     }
-
-    /// The same with these rules and tables at its path.
-    fn with_own(self, rules: OwnRules, tables: Tables) -> Anchor
-        ensures { result ≡ placed_in self [] (map rule_of rules.items.value.items) tables }
-    {
-        let Anchor {
-            names,
-            items: _,
-            order: _,
-            tables: _,
-            kids,
-        } = self;
-        let OwnRules { items, order } = rules;
-        Anchor {
-            names,
-            items,
-            order,
-            tables,
-            kids,
-        }
-    }
-}
-
-/// Whether there is none of all these.
-#[tactic(auto, using(crate::proofs::Treed::empty_len, crate::proofs::Treed::empty_map))]
-fn are_empty(items: &[Item], tables: &[(TableName, Table)], kids: &[Rc<Anchor>]) -> bool
-    ensures { result ≡ (is_empty (map rule_of items.now) && (is_empty tables.now && is_empty (shared kids.now))) }
-{
-    items.is_empty() && tables.is_empty() && kids.is_empty()
 }
 
 /// The anchor with these rules and tables at a path below it. It is taken apart: what nobody else shares is changed in
 /// its place, and what is shared stays as it is.
-pub(crate) fn with_entry(
-    alloc: Global,
-    anchor: Anchor,
-    rest: &[Name],
-    rules: OwnRules,
-    tables: Tables,
-) -> Result<Anchor, AllocError>
-    ensures { IfOk result (λ a. a ≡ placed_in anchor rest.now (map rule_of rules.items.value.items) tables) }
+pub(crate) fn with_entry(anchor: Anchor, rest: &[Name], own: Own) -> Result<Anchor, AllocError>
+    ensures { IfOk result (λ a. a ≡ placed_in anchor rest.now (map rule_of own.items.value.items) own.tables) }
 {
-    match rest {
-        [] => Ok(anchor.with_own(rules, tables)),
-        [name, more @ ..] => {
-            let Anchor {
-                names,
-                items,
-                order,
-                tables: held,
-                mut kids,
-            } = anchor;
-            let at = count_before(&kids, name);
-            let removed = take_named(&mut kids, at, name);
-            let kid = owned_or_empty(alloc, &names, name, removed)?;
-            let changed = with_entry(alloc, kid, more, rules, tables)?;
-            put_kid(&mut kids, at, Rc::new(alloc, changed)?)?;
-            Ok(Anchor {
-                names,
-                items,
-                order,
-                tables: held,
-                kids,
-            })
-        }
-    }
+    let Anchor {
+        names,
+        own: held,
+        mut kids,
+    } = anchor;
+    let [name, more @ ..] = rest else {
+        return Ok(Anchor { names, own, kids });
+    };
+    let alloc = *kids.allocator();
+    let at = count_before(&kids, name);
+    let removed = take_named(&mut kids, at, name);
+    let kid = owned_or_empty(alloc, &names, name, removed)?;
+    let changed = with_entry(kid, more, own)?;
+    put_kid(&mut kids, at, Rc::new(alloc, changed)?)?;
+    Ok(Anchor {
+        names,
+        own: held,
+        kids,
+    })
 }
 
 /// Changes the rules and tables of the anchor at a path below this one in place, which comes in where there is none.
@@ -508,13 +415,7 @@ pub(crate) fn change_below(
         (λ e. anchor.new ≡ anchor.old) }
 {
     match rest {
-        [] => change_own(
-            alloc,
-            &mut anchor.items,
-            &mut anchor.order,
-            &mut anchor.tables,
-            change,
-        ),
+        [] => change_own(&mut anchor.own, change),
         [first, more @ ..] => change_kid(
             alloc,
             &anchor.names,
@@ -569,11 +470,11 @@ fn add_kid(
     ensures { MatchResult result (λ done. KidChangesIf done (Makes change.now) names.now first.now more.now
         (shared kids.old.items) (shared kids.new.items)) (λ e. shared kids.new.items ≡ shared kids.old.items) }
 {
-    let Some((rules, tables)) = change.made_of_none(alloc)? else {
+    let Some(own) = change.made_of_none(alloc)? else {
         return Ok(false);
     };
     let none = Anchor::empty(alloc, followed_by(alloc, names, first)?)?;
-    let kid = Rc::new(alloc, with_entry(alloc, none, more, rules, tables)?)?;
+    let kid = Rc::new(alloc, with_entry(none, more, own)?)?;
     kids.insert(at, kid)?;
     Ok(true)
 }

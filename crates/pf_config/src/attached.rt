@@ -37,10 +37,7 @@ impl Config {
     pub fn kids(&self, path: &[Name]) -> &[Rc<Anchor>]
         ensures { paths_of (shared result.now) ≡ map (followed_by path.now) (kids self.now path.now) }
     {
-        match self.anchor(path) {
-            Some(anchor) => anchor.kids(),
-            None => &[],
-        }
+        self.anchor(path).map_or(&[], |anchor| anchor.kids())
     }
 }
 
@@ -54,10 +51,7 @@ impl Anchor {
         let [first, names @ ..] = rest else {
             return Some(self);
         };
-        match self.target(index, first.as_str()) {
-            Some(kid) => descend(kid, names),
-            None => None,
-        }
+        descend(self.target(index, first.as_str())?, names)
     }
 }
 
@@ -67,19 +61,17 @@ fn found<'c>(anchor: Option<&'c Anchor>, rest: &[Name]) -> Option<&'c [Name]>
 {
     let at = descend(anchor?, rest)?;
     if at.is_nothing() {
-        return None;
+        None
+    } else {
+        Some(at.names())
     }
-    Some(at.names())
 }
 
 /// Whether the anchor's last name is above this one, where one is given.
 fn is_above(after: Option<&Name>, kid: &Anchor) -> bool
     ensures { result ≡ is_above (option_copied after.entry) (last_name kid.now.names) }
 {
-    match after {
-        None => true,
-        Some(name) => name.as_bytes().cmp(last_name(kid.names())) == Ordering::Less,
-    }
+    after.is_none_or(|name| name.as_bytes().cmp(last_name(kid.names())) == Ordering::Less)
 }
 
 /// The names of the first of the anchors whose last name is above this one, where one is given.

@@ -64,22 +64,7 @@ pub(crate) fn count_before(kids: &[Rc<Anchor>], name: &Name) -> usize
     requires { AreInOrder (shared kids.now) }
     ensures { result ≡ length (kids_before name.now (shared kids.now)) }
 {
-    let mut left = kids;
-    let mut count = 0usize;
-    while !left.is_empty() {
-        let half = left.len() / 2;
-        let (front, back) = left.split_at(half);
-        let [middle, behind @ ..] = back else {
-            return count;
-        };
-        if middle.is_before(name) {
-            count += half + 1;
-            left = behind;
-        } else {
-            left = front;
-        }
-    }
-    count
+    kids.partition_point(|kid| kid.is_before(name))
 }
 
 /// Whether the anchor of that name is there. Its place is after those with names before it.
@@ -105,8 +90,7 @@ pub(crate) fn take_named(kids: &mut Vec<Rc<Anchor>>, at: usize, name: &Name) -> 
     if !is_at(kids, at, name) {
         return None;
     }
-    let kid = kids.remove(at);
-    Some(kid)
+    Some(kids.remove(at))
 }
 
 /// Puts the anchor in its place among the others, unless it holds nothing.
@@ -119,10 +103,9 @@ pub(crate) fn put_kid(
     ensures { OnOk result (shared kids.new.items ≡ take at (shared kids.old.items) ++
         (some_kid kid.value ++ drop at (shared kids.old.items))) }
 {
-    if kid.is_nothing() {
-        return Ok(());
+    if !kid.is_nothing() {
+        kids.insert(at, kid)?;
     }
-    kids.insert(at, kid)?;
     Ok(())
 }
 

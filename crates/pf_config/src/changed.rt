@@ -9,31 +9,13 @@ ghost use Rattle.pf_config.specs.inner.Trees.{any_unnamed};
 ghost use Rattle.pf_config.specs.declared.config.TheConstants.{RULES_MAX};
 
 use crate::anchor::{Anchor, with_entry};
-use crate::own_rules::OwnRules;
+use crate::own::Own;
 use crate::referred::gathered;
 use crate::tables::Tables;
 use crate::walk::descend;
 use pf_rules::{Item, Name};
 use std::alloc::{AllocError, Global};
 use std::rc::Rc;
-
-/// The rules at a path, shared with their order.
-#[tactic(auto, using(crate::proofs::Descents::main_down, crate::proofs::Descents::found_rules, crate::proofs::Descents::no_rules_found))]
-fn rules_at(alloc: Global, main: &Anchor, path: &[Name]) -> Result<OwnRules, AllocError>
-    requires { main.now.names ≡ [] }
-    ensures { IfOk result (λ r. map rule_of r.items.value.items ≡ rules_in (anchor_at path.now main.now.anchors)) }
-{
-    match descend(main, path) {
-        Some(anchor) => {
-            let rules = anchor.shared_rules()?;
-            Ok(rules)
-        }
-        None => {
-            let rules = OwnRules::none(alloc)?;
-            Ok(rules)
-        }
-    }
-}
 
 /// The tables at a path, which share their entries.
 #[tactic(auto, using(crate::proofs::Descents::main_down, crate::proofs::Descents::found_tables, crate::proofs::Descents::no_tables_found))]
@@ -42,10 +24,7 @@ pub(crate) fn tables_at(alloc: Global, main: &Anchor, path: &[Name]) -> Result<T
     ensures { IfOk result (λ t. t ≡ tables_in (anchor_at path.now main.now.anchors)) }
 {
     match descend(main, path) {
-        Some(anchor) => {
-            let tables = anchor.shared_tables()?;
-            Ok(tables)
-        }
+        Some(anchor) => anchor.own().tables.copied(),
         None => Tables::new(alloc),
     }
 }
@@ -61,6 +40,19 @@ pub(crate) fn has_unnamed(main: &Anchor, path: &[Name]) -> bool
     }
 }
 
+/// The rules at a path, shared, and these tables.
+#[tactic(auto, using(crate::proofs::Descents::main_down, crate::proofs::Descents::found_rules, crate::proofs::Descents::no_rules_found))]
+fn own_with(main: &Anchor, path: &[Name], tables: Tables) -> Result<Own, AllocError>
+    requires { main.now.names ≡ [] }
+    ensures rules { IfOk result (λ o. map rule_of o.items.value.items ≡ rules_in (anchor_at path.now main.now.anchors)) }
+    ensures tables { IfOk result (λ o. o.tables ≡ tables) }
+{
+    match descend(main, path) {
+        Some(anchor) => anchor.own().with_tables(tables),
+        None => Own::without_rules(tables),
+    }
+}
+
 /// The map with these tables at a path.
 pub(crate) fn with_tables(
     alloc: Global,
@@ -72,9 +64,9 @@ pub(crate) fn with_tables(
     ensures names { IfOk result (λ a. a.names ≡ []) }
     ensures map { IfOk result (λ a. a.anchors ≡ with_tables path.now tables main.now.anchors) }
 {
-    let rules = rules_at(alloc, main, path)?;
+    let rules = own_with(main, path, tables)?;
     let own = main.copied(alloc)?;
-    let next = with_entry(alloc, own, path, rules, tables)?;
+    let next = with_entry(own, path, rules)?;
     Ok(next)
 }
 
@@ -90,9 +82,8 @@ fn with_rules(
     ensures names { IfOk result (λ a. a.names ≡ []) }
     ensures map { IfOk result (λ a. a.anchors ≡ with_rules path.now (map rule_of items.value.items) main.anchors) }
 {
-    let tables = tables_at(alloc, &main, path)?;
-    let rules = OwnRules::of(alloc, items)?;
-    let next = with_entry(alloc, main, path, rules, tables)?;
+    let rules = Own::of(items, tables_at(alloc, &main, path)?)?;
+    let next = with_entry(main, path, rules)?;
     Ok(next)
 }
 
@@ -106,8 +97,7 @@ pub(crate) fn cut(alloc: Global, main: Anchor, path: &[Name]) -> Result<Anchor, 
     if !has_unnamed(&main, path) {
         return Ok(main);
     }
-    let left = main.without_unnamed(alloc, path)?;
-    Ok(left)
+    main.without_unnamed(alloc, path)
 }
 
 /// The map with these rules at a path, and no unnamed blocks below it.
@@ -125,9 +115,7 @@ pub(crate) fn placed(
       rules = map rule_of items.value.items;
     })) }
 {
-    let left = cut(alloc, main, path)?;
-    let next = with_rules(alloc, left, path, items)?;
-    Ok(next)
+    with_rules(alloc, cut(alloc, main, path)?, path, items)
 }
 
 /// The map without the tables that no rule refers to.
@@ -140,6 +128,5 @@ pub(crate) fn tidied(alloc: Global, all: Anchor) -> Result<Anchor, AllocError>
     if !all.has_unused(&all, &known) {
         return Ok(all);
     }
-    let next = all.tidied(alloc, &all, &known)?;
-    Ok(next)
+    all.tidied(alloc, &all, &known)
 }

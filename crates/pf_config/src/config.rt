@@ -8,6 +8,7 @@ ghost use Rattle.pf_rules.specs.Seen.{rule_of};
 ghost use Rattle.pf_config.specs.Map.{anchor_at, rules_at, tables_at, table_at, table_for, table_names, paths_in};
 ghost use Rattle.pf_tables.specs.Contents.{with_entries, contents_of};
 ghost use Rattle.pf_config.specs.Changes.{Changes, RefusesFirst, load, flush_rules, flush_tables, flush_all};
+ghost use Rattle.pf_config.specs.Changes.{placed, tidied};
 ghost use Rattle.pf_config.specs.inner.Changes.{FailsWith};
 ghost use Rattle.pf_config.specs.Changes.{add, replace, delete, flush_table, set_table, filled, new_table};
 ghost use Rattle.pf_config.specs.Changes.{load_ruleset};
@@ -26,7 +27,7 @@ use crate::changed::{has_unnamed, placed, tables_at, tidied, with_tables};
 use crate::depths::go_too_deep;
 use crate::fault::ConfigFault;
 use crate::loading::{any_too_deep, is_too_deep, loaded, with_definitions};
-use crate::own_rules::OwnRules;
+use crate::own::Own;
 use crate::paths::copied_path;
 use crate::placing::Placing;
 use crate::referred::any_fleeting;
@@ -127,10 +128,7 @@ impl Config {
         ensures rules { map rule_of result.now ≡ rules_at self.now path.now }
         ensures few { length result.now ≤ RULES_MAX }
     {
-        match self.anchor(path) {
-            Some(anchor) => anchor.items(),
-            None => &[],
-        }
+        self.anchor(path).map_or(&[], |anchor| anchor.items())
     }
 
     /// The tables at a path.
@@ -139,10 +137,7 @@ impl Config {
         ensures value { result.now ≡ tables_at self.now path.now }
         ensures ordered { AreOrdered result.now }
     {
-        match self.anchor(path) {
-            Some(anchor) => anchor.tables(),
-            None => &[],
-        }
+        self.anchor(path).map_or(&[], |anchor| anchor.tables())
     }
 
     /// The names of the tables at a path, in their order: byte by byte.
@@ -173,10 +168,7 @@ impl Config {
     pub fn table_for(&self, path: &[Name], name: &str) -> Option<&Table>
         ensures { option_copied result ≡ table_for self.now path.now name.now }
     {
-        if let Some(table) = self.table(path, name) {
-            return Some(table);
-        }
-        self.table(&[], name)
+        self.table(path, name).or_else(|| self.table(&[], name))
     }
 
     /// Removes all tables of a path.
@@ -184,12 +176,8 @@ impl Config {
     pub fn flush_tables(&mut self, path: &Path) -> Result<(), ConfigFault>
         ensures { Changes result self.old self.new (Ok (flush_tables self.old path.now)) }
     {
-        let next = with_tables(
-            self.alloc,
-            &self.main,
-            path.names(),
-            Tables::new(self.alloc)?,
-        )?;
+        let none = Tables::new(self.alloc)?;
+        let next = with_tables(self.alloc, &self.main, path.names(), none)?;
         self.put(next);
         Ok(())
     }
@@ -274,45 +262,48 @@ impl Config {
         if self.has_fleeting || has_unnamed(&self.main, path) {
             return Ok(false);
         }
-        let rules = OwnRules::of(self.alloc, own.items()?)?;
         let old = tables_at(self.alloc, &self.main, path)?;
-        let tables = with_definitions(self.alloc, old, definitions)?;
-        if any_fleeting(tables.list()) {
+        let own = Own::of(
+            own.items()?,
+            with_definitions(self.alloc, old, definitions)?,
+        )?;
+        if any_fleeting(own.tables.list()) {
             return Ok(false);
         }
-        self.change(path, &Change::Own(&rules, &tables))
+        self.change(path, &Change::Own(&own))
+    }
+
+    /// The map without the rules of a path, its unnamed blocks, and the tables that no rule refers to any more.
+    #[tactic(auto, using(crate::proofs::Few::rules_few))]
+    fn without_rules(&self, path: &Path) -> Result<Anchor, AllocError>
+        ensures names { IfOk result (λ a. a.names ≡ []) }
+        ensures few { IfOk result (λ a. length a.anchors ≤ ANCHORS_MAX) }
+        ensures map { IfOk result (λ a. a.anchors ≡ tidied (placed self.now.anchors (record {
+          path = path.now;
+          rules = [];
+        }))) }
+    {
+        let items = Rc::new(self.alloc, Vec::new(self.alloc))?;
+        let main = self.main.copied(self.alloc)?;
+        tidied(self.alloc, placed(self.alloc, main, path.names(), items)?)
     }
 
     /// Removes the rules of a path, its unnamed blocks, and the tables that no rule refers to any more.
-    #[tactic(auto, using(crate::proofs::Few::rules_few), unfolding(crate::specs::Changes::flush_rules))]
+    #[tactic(auto, unfolding(crate::specs::Changes::flush_rules))]
     pub fn flush_rules(&mut self, path: &Path) -> Result<(), ConfigFault>
         ensures { Changes result self.old self.new (Ok (flush_rules self.old path.now)) }
     {
-        let items = Rc::new(self.alloc, Vec::new(self.alloc))?;
-        let left = placed(
-            self.alloc,
-            self.main.copied(self.alloc)?,
-            path.names(),
-            items,
-        )?;
-        let next = tidied(self.alloc, left)?;
+        let next = self.without_rules(path)?;
         self.put(next);
         Ok(())
     }
 
     /// Removes what `flush_rules` does, and then all tables of the path.
-    #[tactic(auto, using(crate::proofs::Few::rules_few, crate::proofs::Few::tables_few), unfolding(crate::specs::Changes::flush_rules, crate::specs::Changes::flush_tables))]
+    #[tactic(auto, using(crate::proofs::Few::tables_few), unfolding(crate::specs::Changes::flush_rules, crate::specs::Changes::flush_tables))]
     pub fn flush_all(&mut self, path: &Path) -> Result<(), ConfigFault>
         ensures { Changes result self.old self.new (Ok (flush_all self.old path.now)) }
     {
-        let items = Rc::new(self.alloc, Vec::new(self.alloc))?;
-        let left = placed(
-            self.alloc,
-            self.main.copied(self.alloc)?,
-            path.names(),
-            items,
-        )?;
-        let tidy = tidied(self.alloc, left)?;
+        let tidy = self.without_rules(path)?;
         let next = with_tables(self.alloc, &tidy, path.names(), Tables::new(self.alloc)?)?;
         self.put(next);
         Ok(())
@@ -368,18 +359,18 @@ impl Config {
         ensures made { Changes result self.old self.new (delete self.old path.now name.now list.now) }
         ensures first { RefusesFirst result (delete self.old path.now name.now list.now) }
     {
-        let Some(old) = self.table(path.names(), name.as_str()) else {
-            return Err(ConfigFault::NoTable);
-        };
+        let old = self
+            .table(path.names(), name.as_str())
+            .ok_or(ConfigFault::NoTable)?;
         if old.is_const() {
             return Err(ConfigFault::ConstTable);
         }
         if self.edit_one(path.names(), name, list, Edit::Remove)? {
             return Ok(());
         }
-        let Some(old) = self.table(path.names(), name.as_str()) else {
-            return Err(ConfigFault::NoTable);
-        };
+        let old = self
+            .table(path.names(), name.as_str())
+            .ok_or(ConfigFault::NoTable)?;
         let table = old.without_entries(self.alloc, list)?;
         self.set_table(path.names(), name, &table)
     }
@@ -390,9 +381,9 @@ impl Config {
         ensures made { Changes result self.old self.new (flush_table self.old path.now name.now) }
         ensures first { RefusesFirst result (flush_table self.old path.now name.now) }
     {
-        let Some(old) = self.table(path.names(), name.as_str()) else {
-            return Err(ConfigFault::NoTable);
-        };
+        let old = self
+            .table(path.names(), name.as_str())
+            .ok_or(ConfigFault::NoTable)?;
         if old.is_const() {
             return Err(ConfigFault::ConstTable);
         }
@@ -470,10 +461,7 @@ fn has_own(main: &Anchor, path: &[Name]) -> bool
     requires { main.now.names ≡ [] }
     ensures { result ≡ is_some (anchor_at path.now main.now.anchors) }
 {
-    match descend(main, path) {
-        Some(anchor) => anchor.has_own(),
-        None => false,
-    }
+    descend(main, path).is_some_and(|anchor| anchor.has_own())
 }
 
 /// How many paths more there may be at least after a change at a path: of the known room one is taken where the path is
@@ -491,72 +479,45 @@ fn room_after_one(main: &Anchor, path: &[Name], room: usize) -> Option<usize>
     if room > 0 {
         return Some(room - 1);
     }
-    match main.room_after(ANCHORS_MAX) {
-        Some(left) if left > 0 => Some(left - 1),
-        _ => None,
-    }
+    main.room_after(ANCHORS_MAX)?.checked_sub(1)
 }
 
 /// Whether the map has no more entries than it may.
 fn has_room(main: &Anchor) -> bool
     ensures { result ≡ not (nat_lt ANCHORS_MAX (length main.now.anchors)) }
 {
-    match main.room_after(ANCHORS_MAX) {
-        Some(_) => true,
-        None => false,
-    }
+    main.room_after(ANCHORS_MAX).is_some()
 }
 
 /// Whether there is a table that may not be changed.
 fn is_const(table: Option<&Table>) -> bool
     ensures { result ≡ (unwrap_or (option_copied table.entry) new_table).is_const }
 {
-    match table {
-        Some(table) => table.is_const(),
-        None => false,
-    }
+    table.is_some_and(|table| table.is_const())
 }
 
 /// The table with entries put in, a new one if there is none.
 fn added(alloc: Global, old: Option<&Table>, list: &[TableEntry]) -> Result<Table, ConfigFault>
+    requires { (unwrap_or (option_copied old) new_table).is_const ≡ false }
     ensures { MatchResult result (λ t. filled (unwrap_or (option_copied old.entry) new_table)
         (with_entries (unwrap_or (option_copied old.entry) new_table).entries list.now) ≡ Ok t) (λ e.
         FailsWith e (filled (unwrap_or (option_copied old.entry) new_table)
         (with_entries (unwrap_or (option_copied old.entry) new_table).entries list.now))) }
 {
     match old {
-        None => {
-            let table = Table::of(alloc, true, false, list)?;
-            few_enough(table)
-        }
-        Some(old) => {
-            if old.is_const() {
-                return Err(ConfigFault::ConstTable);
-            }
-            let table = old.with_entries(alloc, list)?;
-            few_enough(table)
-        }
+        None => few_enough(Table::of(alloc, true, false, list)?),
+        Some(old) => few_enough(old.with_entries(alloc, list)?),
     }
 }
 
 /// The table with the list as its contents, a new one if there is none.
 fn replaced(alloc: Global, old: Option<&Table>, list: &[TableEntry]) -> Result<Table, ConfigFault>
+    requires { (unwrap_or (option_copied old) new_table).is_const ≡ false }
     ensures { MatchResult result (λ t. filled (unwrap_or (option_copied old.entry) new_table) (contents_of list.now)
         ≡ Ok t) (λ e. FailsWith e (filled (unwrap_or (option_copied old.entry) new_table) (contents_of list.now))) }
 {
-    match old {
-        None => {
-            let table = Table::of(alloc, true, false, list)?;
-            few_enough(table)
-        }
-        Some(old) => {
-            if old.is_const() {
-                return Err(ConfigFault::ConstTable);
-            }
-            let table = Table::of(alloc, old.persist(), false, list)?;
-            few_enough(table)
-        }
-    }
+    let persist = old.map_or(true, |old| old.persist());
+    few_enough(Table::of(alloc, persist, false, list)?)
 }
 
 /// The table, if its entries are few enough.

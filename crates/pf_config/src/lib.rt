@@ -7,11 +7,11 @@
 //! - [`Anchor`]: what is at a path and below it.
 //! - [`Candidate`]: a rule as an evaluation reads it, in an order made once at the load: its index, and its [`Sieve`].
 //! - [`CandidateList`]: these rules one after the other; a [`Search`] finds the few of them that may match.
-//! - [`parse_path`] reads the path of an anchor.
+//! - [`parse_path`] reads the path of an anchor; [`copied_path`] and [`joined`] make one of others.
 //! - [`Table`], of the crate below.
 //!
-//! Within, what a configuration is made of: `paths` and `path_text` (paths and how they are spelled), `own` and
-//! `own_rules` (the rules and tables at one path), `tables`, `skipped`, `below` and `attached` (the anchors below one),
+//! Within, what a configuration is made of: `paths` and `path_text` (paths and how they are spelled), `own` (the
+//! rules and tables at one path), `tables`, `skipped`, `below` and `attached` (the anchors below one),
 //! `walk`. How it changes: `change` in place, or `changed`, a new tree that shares the rest; `table_change` a table,
 //! `loading` a ruleset with its `blocks` (`depths`, `placing`), `unused` and `referred` the tables that go; `fault` why
 //! it is refused. How a verdict finds rules: `order`, `sieve`, and `places`, the expected places of anchors.
@@ -90,7 +90,6 @@ mod fault;
 mod loading;
 mod order;
 mod own;
-mod own_rules;
 mod path_text;
 mod paths;
 mod places;
@@ -109,6 +108,7 @@ pub use candidate_list::{CandidateList, Search};
 pub use config::{Config, RULES_MAX};
 pub use fault::ConfigFault;
 pub use path_text::parse_path;
+pub use paths::{copied_path, joined};
 pub use pf_rules::{Name, Path, TableEntry, TableName};
 pub use pf_tables::{Interval, Table, is_within};
 pub use sieve::front_bits;

@@ -11,7 +11,7 @@ ghost use Rattle.pf_config.specs.inner.Trees.{with_text};
 use crate::anchor::{Anchor, with_entry};
 use crate::changed::{cut, placed, tables_at, tidied};
 use crate::depths::DEEPEST;
-use crate::own_rules::OwnRules;
+use crate::own::Own;
 use crate::placing::Placing;
 use crate::table_change::put_among;
 use crate::tables::{Tables, copied_tables, named};
@@ -23,12 +23,7 @@ use std::alloc::{AllocError, Global};
 pub(crate) fn any_too_deep(blocks: &[Placing]) -> bool
     ensures { result ≡ list_any is_too_deep blocks.now }
 {
-    for block in blocks {
-        if is_too_deep(block) {
-            return true;
-        }
-    }
-    false
+    blocks.iter().any(|block| is_too_deep(block))
 }
 
 /// Whether a block is too deep.
@@ -46,8 +41,7 @@ fn with_blocks(alloc: Global, main: Anchor, blocks: &[Placing]) -> Result<Anchor
 {
     let mut next = main;
     for block in blocks {
-        let items = block.items()?;
-        next = placed(alloc, next, block.path(), items)?;
+        next = placed(alloc, next, block.path(), block.items()?)?;
     }
     Ok(next)
 }
@@ -122,27 +116,8 @@ pub(crate) fn with_definitions(
     if definitions.is_empty() {
         return Ok(tables);
     }
-    let rising = rising(alloc, definitions)?;
-    let next = with_each(alloc, tables.list(), &rising)?;
+    let next = with_each(alloc, tables.list(), &rising(alloc, definitions)?)?;
     Tables::of(alloc, next)
-}
-
-/// The map with a ruleset's rules at its path, and its definitions among the tables there.
-fn with_text(
-    alloc: Global,
-    main: Anchor,
-    own: &Placing,
-    definitions: &[TableDef],
-) -> Result<Anchor, AllocError>
-    requires { main.names ≡ [] }
-    ensures names { IfOk result (λ a. a.names ≡ []) }
-    ensures map { IfOk result (λ a. a.anchors ≡ with_text own.now (map definition_of definitions.now) main.anchors) }
-{
-    let rules = OwnRules::of(alloc, own.items()?)?;
-    let old = tables_at(alloc, &main, own.path())?;
-    let tables = with_definitions(alloc, old, definitions)?;
-    let next = with_entry(alloc, main, own.path(), rules, tables)?;
-    Ok(next)
 }
 
 /// The map with a ruleset's rules and tables at its path, and no unnamed blocks below it.
@@ -157,9 +132,10 @@ fn placed_text(
     ensures map { IfOk result (λ a. a.anchors ≡ with_text own.now (map definition_of definitions.now)
         (without_unnamed own.now.path main.anchors)) }
 {
-    let left = cut(alloc, main, own.path())?;
-    let next = with_text(alloc, left, own, definitions)?;
-    Ok(next)
+    let path = own.path();
+    let left = cut(alloc, main, path)?;
+    let tables = with_definitions(alloc, tables_at(alloc, &left, path)?, definitions)?;
+    with_entry(left, path, Own::of(own.items()?, tables)?)
 }
 
 /// The map after a load.
@@ -176,9 +152,6 @@ pub(crate) fn loaded(
     ensures map { IfOk result (λ a. a.anchors ≡ loaded own.now (map definition_of definitions.now) blocks.now
         main.now.anchors) }
 {
-    let old = main.copied(alloc)?;
-    let first = placed_text(alloc, old, own, definitions)?;
-    let all = with_blocks(alloc, first, blocks)?;
-    let tidy = tidied(alloc, all)?;
-    Ok(tidy)
+    let first = placed_text(alloc, main.copied(alloc)?, own, definitions)?;
+    tidied(alloc, with_blocks(alloc, first, blocks)?)
 }

@@ -50,11 +50,8 @@ pub fn parse_path(alloc: Global, text: &str) -> Result<Path, ConfigFault>
         return Ok(Path::main(alloc));
     }
     let pieces = pieces(alloc, text.as_bytes())?;
-    match names_of(alloc, &pieces)? {
-        Some(names) => match Path::new(names) {
-            Some(path) => Ok(path),
-            None => Err(ConfigFault::BadPath),
-        },
-        None => Err(ConfigFault::BadPath),
-    }
+    let Some(names) = names_of(alloc, &pieces)? else {
+        return Err(ConfigFault::BadPath);
+    };
+    Path::new(names).ok_or(ConfigFault::BadPath)
 }

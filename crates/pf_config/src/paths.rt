@@ -6,7 +6,7 @@ use pf_rules::Name;
 use std::alloc::{AllocError, Global};
 
 /// The names once more.
-pub(crate) fn copied_path(alloc: Global, path: &[Name]) -> Result<Vec<Name>, AllocError>
+pub fn copied_path(alloc: Global, path: &[Name]) -> Result<Vec<Name>, AllocError>
     ensures { IfOk result (λ v. v.items ≡ path.now) }
 {
     let mut names = Vec::new(alloc);
@@ -30,7 +30,7 @@ pub(crate) fn followed_by(
 }
 
 /// The names, and more names behind them.
-pub(crate) fn joined(alloc: Global, path: &[Name], more: &[Name]) -> Result<Vec<Name>, AllocError>
+pub fn joined(alloc: Global, path: &[Name], more: &[Name]) -> Result<Vec<Name>, AllocError>
     ensures { IfOk result (λ v. v.items ≡ path.now ++ more.now) }
 {
     let mut names = copied_path(alloc, path)?;

@@ -78,8 +78,9 @@ impl Referred {
         ensures { OnOk result (Gains self.old (λ n. is_at_table n host.now) self.new) }
     {
         match host {
-            Host::In(Addresses::Table(own)) => self.put(alloc, own),
-            Host::NotIn(Addresses::Table(own)) => self.put(alloc, own),
+            Host::In(Addresses::Table(own)) | Host::NotIn(Addresses::Table(own)) => self.put(
+                alloc, own,
+            ),
             _ => Ok(()),
         }
     }
@@ -107,12 +108,7 @@ impl Referred {
 pub(crate) fn any_fleeting(tables: &[(TableName, Table)]) -> bool
     ensures { result ≡ list_any is_fleeting tables.now }
 {
-    for entry in tables {
-        if !entry.1.persist() {
-            return true;
-        }
-    }
-    false
+    tables.iter().any(|entry| !entry.1.persist())
 }
 
 /// The names that the rules of the whole configuration refer to, if main has tables enough of which some may go.

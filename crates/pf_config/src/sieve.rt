@@ -10,13 +10,11 @@ use pf_rules::{Addresses, Conditions, Host, PortTest};
 use pf_tables::Interval;
 
 /// All numbers.
+#[tactic(auto, unfolding(crate::specs::Orders::between))]
 fn everything() -> Interval
     ensures { result ≡ everything }
 {
-    Interval {
-        first: 0,
-        width: u32::MAX,
-    }
+    between(0, u32::MAX)
 }
 
 /// The numbers that agree with this one in all but the given number of last bits.
@@ -75,9 +73,8 @@ fn host_interval(host: &Host) -> Interval
     ensures { result ≡ host_interval host.now }
 {
     match host {
-        Host::Any => everything(),
         Host::In(set) => set_interval(set),
-        Host::NotIn(_) => everything(),
+        Host::Any | Host::NotIn(_) => everything(),
     }
 }
 
@@ -88,14 +85,9 @@ fn test_interval(test: PortTest) -> Interval
 {
     match test {
         PortTest::Equal(n) => between(n as u32, n as u32),
-        PortTest::Less(n) => between(0, n as u32),
-        PortTest::LessEqual(n) => between(0, n as u32),
-        PortTest::FromTo(a, b) => between(a as u32, b as u32),
-        PortTest::Between(a, b) => between(a as u32, b as u32),
-        PortTest::NotEqual(_) => everything(),
-        PortTest::Greater(_) => everything(),
-        PortTest::GreaterEqual(_) => everything(),
-        PortTest::Outside(_, _) => everything(),
+        PortTest::Less(n) | PortTest::LessEqual(n) => between(0, n as u32),
+        PortTest::FromTo(a, b) | PortTest::Between(a, b) => between(a as u32, b as u32),
+        _ => everything(),
     }
 }
 
@@ -103,10 +95,7 @@ fn test_interval(test: PortTest) -> Interval
 fn port_interval(wanted: Option<PortTest>) -> Interval
     ensures { result ≡ port_interval wanted }
 {
-    match wanted {
-        None => everything(),
-        Some(test) => test_interval(test),
-    }
+    wanted.map_or(everything(), test_interval)
 }
 
 /// The sieve of a rule with these conditions.

@@ -16,10 +16,7 @@ use std::alloc::{AllocError, Global};
 fn has_room(table: &Table, edit: Edit) -> bool
     ensures { result ≡ has_room edit (length table.now.entries) }
 {
-    match edit {
-        Edit::Insert => table.entry_count() < ENTRIES_MAX,
-        Edit::Remove => true,
-    }
+    matches!(edit, Edit::Remove) || table.entry_count() < ENTRIES_MAX
 }
 
 /// Edits an entry of a table in place. False, and nothing is changed, where that can't be done, or the table is const
@@ -28,10 +25,7 @@ fn edit_table(table: &mut Table, entry: &TableEntry, edit: Edit) -> Result<bool,
     ensures { MatchResult result (λ done. IsTableIf done (edited_table edit entry.now table.old) table.old table.new)
         (λ e. table.new ≡ table.old) }
 {
-    if table.is_const() {
-        return Ok(false);
-    }
-    if !has_room(table, edit) {
+    if table.is_const() || !has_room(table, edit) {
         return Ok(false);
     }
     table.edit(entry, edit)
@@ -60,8 +54,7 @@ pub(crate) fn edit_among(
     let Ok(at) = place_of(tables, name.as_bytes()) else {
         return Ok(false);
     };
-    let held = &mut tables[at];
-    edit_table(&mut held.1, entry, edit)
+    edit_table(&mut tables[at].1, entry, edit)
 }
 
 /// Puts a table under its name. An error changes nothing.
@@ -77,15 +70,8 @@ pub(crate) fn put_among(
         (λ e. tables.new.items ≡ tables.old.items) }
 {
     match place_of(tables, name.as_bytes()) {
-        Ok(at) => {
-            let held = &mut tables[at];
-            held.1 = table;
-            Ok(())
-        }
-        Err(at) => {
-            let key = name.copied(alloc)?;
-            tables.insert(at, (key, table))?;
-            Ok(())
-        }
+        Ok(at) => tables[at].1 = table,
+        Err(at) => tables.insert(at, (name.copied(alloc)?, table))?,
     }
+    Ok(())
 }

@@ -50,6 +50,11 @@ impl Tables {
         Ok(Tables { all })
     }
 
+    /// Where they are kept.
+    pub(crate) fn alloc(&self) -> Global {
+        *self.all.allocator()
+    }
+
     /// The tables themselves.
     pub(crate) fn list(&self) -> &[(TableName, Table)]
         ensures value { result.now ≡ self.now }
@@ -76,20 +81,14 @@ impl Tables {
     }
 
     /// Puts a table under its name in place. False, and nothing is changed, where the tables are shared.
-    pub(crate) fn put(
-        &mut self,
-        alloc: Global,
-        name: &TableName,
-        table: &Table,
-    ) -> Result<bool, AllocError>
+    pub(crate) fn put(&mut self, name: &TableName, table: &Table) -> Result<bool, AllocError>
         ensures { MatchResult result (λ done. ChangesIf done (Some table.now) name.now self.old self.new)
             (λ e. self.new ≡ self.old) }
     {
         let Some(all) = Rc::get_mut(&mut self.all) else {
             return Ok(false);
         };
-        let own = copied_table(table)?;
-        put_among(alloc, all, name, own)?;
+        put_among(*all.allocator(), all, name, copied_table(table)?)?;
         Ok(true)
     }
 
@@ -143,9 +142,7 @@ pub(crate) fn copied_tables(
 {
     let mut next = Vec::new(alloc);
     for entry in tables {
-        let own = entry.0.copied(alloc)?;
-        let table = copied_table(&entry.1)?;
-        next.push((own, table))?;
+        next.push((entry.0.copied(alloc)?, copied_table(&entry.1)?))?;
     }
     Ok(next)
 }
@@ -161,7 +158,6 @@ pub(crate) fn with_table(
     ensures { IfOk result (λ t. t ≡ with_table tables.now name.now table.now) }
 {
     let mut next = copied_tables(alloc, tables)?;
-    let own = copied_table(table)?;
-    put_among(alloc, &mut next, name, own)?;
+    put_among(alloc, &mut next, name, copied_table(table)?)?;
     Tables::of(alloc, next)
 }

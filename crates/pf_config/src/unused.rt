@@ -9,6 +9,7 @@ ghost use Rattle.pf_config.specs.Ordered.{AreOrdered};
 ghost use Rattle.pf_config.specs.inner.Referring.{KnowsAll, goes_by, stays_by};
 
 use crate::anchor::Anchor;
+use crate::own::Own;
 use crate::referred::{FEW, Referred};
 use crate::tables::{Tables, copied_table};
 use pf_rules::{Addresses, Conditions, Host, Item, Name, TableName};
@@ -32,19 +33,12 @@ fn conditions_refer(name: &TableName, conditions: &Conditions) -> bool
     is_at_table(name, &conditions.source) || is_at_table(name, &conditions.destination)
 }
 
-/// Whether the rule refers to the table of that name.
-fn refers(name: &TableName, item: &Item) -> bool
-    ensures { result ≡ refers name.now (rule_of item.now) }
-{
-    conditions_refer(name, item.conditions())
-}
-
 /// Whether one of the rules refers to the table of that name.
 pub(crate) fn items_refer(name: &TableName, items: &[Item]) -> bool
     ensures { result ≡ list_any (refers name.now) (map rule_of items.now) }
 {
     for item in items {
-        if refers(name, item) {
+        if conditions_refer(name, item.conditions()) {
             return true;
         }
     }
@@ -74,76 +68,54 @@ fn any_unasked(main: &Anchor, path: &[Name], items: &[Item], tables: &[(TableNam
       tables = [];
     })) tables.now }
 {
-    for entry in tables {
-        let stays = entry.1.persist() || is_used(main, path, items, &entry.0);
-        if !stays {
-            return true;
-        }
-    }
-    false
+    tables.iter().any(|entry| !(entry.1.persist() || is_used(main, path, items, &entry.0)))
 }
 
 /// Whether one of the tables neither persists nor is among the names.
 fn any_unlisted(names: &Referred, tables: &[(TableName, Table)]) -> bool
     ensures { result ≡ list_any (goes_by names.now) tables.now }
 {
-    for entry in tables {
-        let stays = entry.1.persist() || names.contains(&entry.0);
-        if !stays {
-            return true;
-        }
-    }
-    false
+    tables
+        .iter()
+        .any(|entry| !(entry.1.persist() || names.contains(&entry.0)))
 }
 
 /// Whether one of the tables at a path neither persists nor is used. The names that the rules of the whole
 /// configuration refer to are known, or its rules are asked. An anchor's own are asked: they refer to 2,048 tables at
 /// most, so that it is soon found where there are more.
 #[tactic(auto, using(crate::proofs::Treed::empty_len))]
-pub(crate) fn any_unused(
-    main: &Anchor,
-    known: &Option<Referred>,
-    path: &[Name],
-    items: &[Item],
-    tables: &[(TableName, Table)],
-) -> bool
+pub(crate) fn any_unused(main: &Anchor, known: &Option<Referred>, path: &[Name], own: &Own) -> bool
     requires { KnowsAll known.now main.now.anchors }
     ensures { result ≡ list_any (is_idle main.now.anchors (record {
       path = path.now;
-      rules = map rule_of items.now;
+      rules = map rule_of own.now.items.value.items;
       tables = [];
-    })) tables.now }
+    })) own.now.tables }
 {
+    let tables = own.tables.list();
     if path.is_empty() {
         if let Some(names) = known {
             return any_unlisted(names, tables);
         }
     }
-    any_unasked(main, path, items, tables)
+    any_unasked(main, path, &own.items, tables)
 }
 
 /// The tables at a path that persist or are used, where the rules are asked.
 #[tactic(auto, using(crate::proofs::Ordered::ordered_filter))]
-fn asked_tables(
-    alloc: Global,
-    main: &Anchor,
-    path: &[Name],
-    items: &[Item],
-    tables: &[(TableName, Table)],
-) -> Result<Tables, AllocError>
-    requires { AreOrdered tables.now }
+fn asked_tables(main: &Anchor, path: &[Name], own: &Own) -> Result<Tables, AllocError>
     ensures { IfOk result (λ t. t ≡ used_tables main.now.anchors (record {
       path = path.now;
-      rules = map rule_of items.now;
+      rules = map rule_of own.now.items.value.items;
       tables = [];
-    }) tables.now) }
+    }) own.now.tables) }
 {
+    let alloc = own.tables.alloc();
+    let items: &[Item] = &own.items;
     let mut next = Vec::new(alloc);
-    for entry in tables {
+    for entry in own.tables.list() {
         if entry.1.persist() || is_used(main, path, items, &entry.0) {
-            let name = entry.0.copied(alloc)?;
-            let table = copied_table(&entry.1)?;
-            next.push((name, table))?;
+            next.push((entry.0.copied(alloc)?, copied_table(&entry.1)?))?;
         }
     }
     Tables::of(alloc, next)
@@ -151,20 +123,14 @@ fn asked_tables(
 
 /// The tables that persist or are among the names.
 #[tactic(auto, using(crate::proofs::Ordered::ordered_filter))]
-fn listed_tables(
-    alloc: Global,
-    names: &Referred,
-    tables: &[(TableName, Table)],
-) -> Result<Tables, AllocError>
-    requires { AreOrdered tables.now }
+fn listed_tables(names: &Referred, tables: &Tables) -> Result<Tables, AllocError>
     ensures { IfOk result (λ t. t ≡ filter (stays_by names.now) tables.now) }
 {
+    let alloc = tables.alloc();
     let mut next = Vec::new(alloc);
-    for entry in tables {
+    for entry in tables.list() {
         if entry.1.persist() || names.contains(&entry.0) {
-            let name = entry.0.copied(alloc)?;
-            let table = copied_table(&entry.1)?;
-            next.push((name, table))?;
+            next.push((entry.0.copied(alloc)?, copied_table(&entry.1)?))?;
         }
     }
     Tables::of(alloc, next)
@@ -173,28 +139,24 @@ fn listed_tables(
 /// The tables at a path that persist or are used. Where there are many, the names that rules refer to are gathered.
 #[tactic(auto, using(crate::proofs::Treed::empty_len))]
 pub(crate) fn used_tables(
-    alloc: Global,
     main: &Anchor,
     known: &Option<Referred>,
     path: &[Name],
-    items: &[Item],
-    tables: &[(TableName, Table)],
+    own: &Own,
 ) -> Result<Tables, AllocError>
-    requires known { KnowsAll known.now main.now.anchors }
-    requires ordered { AreOrdered tables.now }
+    requires { KnowsAll known.now main.now.anchors }
     ensures { IfOk result (λ t. t ≡ used_tables main.now.anchors (record {
       path = path.now;
-      rules = map rule_of items.now;
+      rules = map rule_of own.now.items.value.items;
       tables = [];
-    }) tables.now) }
+    }) own.now.tables) }
 {
     if path.is_empty() {
         if let Some(names) = known {
-            return listed_tables(alloc, names, tables);
+            return listed_tables(names, &own.tables);
         }
-    } else if tables.len() > FEW {
-        let names = Referred::of(alloc, items)?;
-        return listed_tables(alloc, &names, tables);
+    } else if own.tables.list().len() > FEW {
+        return listed_tables(&Referred::of(own.tables.alloc(), &own.items)?, &own.tables);
     }
-    asked_tables(alloc, main, path, items, tables)
+    asked_tables(main, path, own)
 }

@@ -13,10 +13,7 @@ pub(crate) fn descend<'c>(from: &'c Anchor, rest: &[Name]) -> Option<&'c Anchor>
 {
     let mut at = from;
     for name in rest {
-        let Some(kid) = at.child(name.as_str()) else {
-            return None;
-        };
-        at = kid;
+        at = at.child(name.as_str())?;
     }
     Some(at)
 }

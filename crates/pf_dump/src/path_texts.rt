@@ -10,9 +10,9 @@ ghost use Rattle.std.specs.List.{list_all};
 ghost use Rattle.pf_dump.specs.Seen.{text_of};
 
 use crate::same::is_same;
-use crate::text::{copied, push_text};
+use crate::text::push_text;
 use pf_command::place_at;
-use pf_config::{Config, ConfigFault};
+use pf_config::{Config, ConfigFault, copied_path};
 use pf_grammar::{ParseFault, Profile, parse};
 use pf_rules::{Name, Path};
 use std::alloc::{AllocError, Global};
@@ -56,14 +56,12 @@ pub fn text_paths(alloc: Global, config: &Config) -> Result<Vec<&[Name]>, AllocE
     let mut found = Vec::new(alloc);
     let mut has_main = !config.skip().is_empty();
     let paths = config.paths()?;
-    let mut left = paths.as_slice();
-    while let [path, rest @ ..] = left {
+    for path in &paths {
         let path: &[Name] = path;
         has_main = has_main || path.is_empty();
         if is_anchor(path) {
             found.push(path)?;
         }
-        left = rest;
     }
     if has_main {
         let main: &[Name] = &[];
@@ -85,7 +83,7 @@ fn load_text(
     ensures done { IfOk result (λ b. IsDone
         (text_done config.old (record { path = path.now; text = text.now })) b config.new) }
 {
-    let Some(named) = Path::new(copied(alloc, path)?) else {
+    let Some(named) = Path::new(copied_path(alloc, path)?) else {
         return Ok(false);
     };
     match parse(alloc, text, place_at(path), Profile::Two) {
@@ -106,12 +104,10 @@ fn loaded(alloc: Global, texts: &[PathText<'_>]) -> Result<Option<Config>, Alloc
     ensures done { IfOk result (λ o. o ≡ texts_done (map text_of texts.now)) }
 {
     let mut config = Config::new(alloc)?;
-    let mut left = texts;
-    while let [text, rest @ ..] = left {
+    for text in texts {
         if !load_text(alloc, &mut config, text.path, text.text.as_bytes())? {
             return Ok(None);
         }
-        left = rest;
     }
     Ok(Some(config))
 }
@@ -122,12 +118,10 @@ fn written(alloc: Global, config: &Config) -> Result<Vec<PathText<'_>>, AllocErr
 {
     let mut texts = Vec::new(alloc);
     let paths = text_paths(alloc, config)?;
-    let mut left = paths.as_slice();
-    while let [path, rest @ ..] = left {
+    for path in &paths {
         let mut text = String::new(alloc);
         push_text(&mut text, config, path, true)?;
         texts.push(PathText { path, text })?;
-        left = rest;
     }
     Ok(texts)
 }

@@ -11,9 +11,10 @@ ghost use Rattle.pf_dump.specs.Scripts.{configured};
 ghost use Rattle.pf_dump.specs.Done.{change_done, pfctl_done, words_done, line_done, script_done};
 ghost use Rattle.pf_dump.specs.inner.Seen.{StepsTo, IsDone, IsPlace};
 
-use pf_arguments::{Command, CommandView, EncodeFault, Entry, decode, encode};
+use pf_arguments::{Command, CommandView, EncodeFault, decode};
 use pf_command::{ApplyFault, apply};
 use pf_config::Config;
+use pf_entry::encode_asked;
 use pf_scripts::{
     Line, Waiting, WordsRead, cut_line, push_bytes, read_words, takes_text, words_in,
 };
@@ -59,12 +60,7 @@ fn apply_change(alloc: Global, config: &mut Config, command: Command) -> Result<
       command = command_value command;
     }))) }
 {
-    let entry = Entry {
-        origin: 0,
-        number: 0,
-        command,
-    };
-    let bytes = match encode(alloc, &entry) {
+    let bytes = match encode_asked(alloc, 0, 0, &command) {
         Ok(bytes) => bytes,
         Err(EncodeFault::Memory) => return Err(AllocError),
         Err(EncodeFault::TooLong) => return Ok(false),
@@ -124,12 +120,8 @@ fn run_line<'a>(config: &mut Config, words: Vec<&'a str>) -> Result<ReplayState<
         (words_done config.old (Some (map (λ x. x.now) words.entry.items))) s.goes_on config.new s.waiting) }
 {
     match words.as_slice() {
-        [first, ..] => {
-            if *first == "pfctl" {
-                return run_pfctl(config, words);
-            }
-            Ok(ReplayState::at(false))
-        }
+        [first, ..] if *first == "pfctl" => run_pfctl(config, words),
+        [_, ..] => Ok(ReplayState::at(false)),
         [] => Ok(ReplayState::at(true)),
     }
 }

@@ -75,12 +75,10 @@ fn same_named(
     ensures back { IfOk result (λ s. tables_named a.now path.now (map (λ x. x.now) names.now)
         ≡ tables_named b.now path.now (map (λ x. x.now) names.now) → s ≡ true) }
 {
-    let mut left = names;
-    while let [name, rest @ ..] = left {
+    for name in names {
         if !same_table_if(alloc, a.table(path, name), b.table(path, name))? {
             return Ok(false);
         }
-        left = rest;
     }
     Ok(true)
 }
@@ -125,12 +123,10 @@ fn same_at_all(alloc: Global, a: &Config, b: &Config, paths: &[&[Name]]) -> Resu
     ensures back { IfOk result (λ s. map (content_at a.now) (map (λ x. x.now) paths.now)
         ≡ map (content_at b.now) (map (λ x. x.now) paths.now) → s ≡ true) }
 {
-    let mut left = paths;
-    while let [path, rest @ ..] = left {
+    for path in paths {
         if !same_at(alloc, a, b, path)? {
             return Ok(false);
         }
-        left = rest;
     }
     Ok(true)
 }

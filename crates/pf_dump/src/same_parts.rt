@@ -2,7 +2,7 @@
 
 ghost use Rattle.std.specs.Prelude.{◌≡◌, true};
 
-use pf_rules::{Addresses, FlagTest, Host, Interface, InterfaceName, TcpFlags};
+use pf_rules::{Addresses, FlagTest, Host, Interface, TcpFlags};
 
 /// Whether the same of the first four flags are set.
 fn same_first_flags(a: TcpFlags, b: TcpFlags) -> bool
@@ -48,15 +48,6 @@ pub(crate) fn same_flag_test(a: FlagTest, b: FlagTest) -> bool
     }
 }
 
-/// Whether two interfaces have one name.
-#[tactic(auto, using(pf_config::proofs::Treed::bytes_same))]
-pub(crate) fn same_interface_name(a: &InterfaceName, b: &InterfaceName) -> bool
-    ensures same { result ≡ true → a.now ≡ b.now }
-    ensures back { a.now ≡ b.now → result ≡ true }
-{
-    a.as_bytes() == b.as_bytes()
-}
-
 /// Whether two sets of addresses are written in the same way.
 #[tactic(auto, using(pf_config::proofs::Treed::bytes_same))]
 fn same_addresses(a: &Addresses, b: &Addresses) -> bool
@@ -78,18 +69,9 @@ pub(crate) fn same_host(a: &Host, b: &Host) -> bool
 {
     match (a, b) {
         (Host::Any, Host::Any) => true,
-        (Host::In(a), Host::In(b)) => same_addresses(a, b),
-        (Host::NotIn(a), Host::NotIn(b)) => same_addresses(a, b),
+        (Host::In(a), Host::In(b)) | (Host::NotIn(a), Host::NotIn(b)) => same_addresses(a, b),
         _ => false,
     }
-}
-
-/// The same of an interface that is asked for.
-fn same_one(a: &Interface, b: &Interface) -> bool
-    ensures same { result ≡ true → a.now ≡ b.now }
-    ensures back { a.now ≡ b.now → result ≡ true }
-{
-    a.negated == b.negated && same_interface_name(&a.name, &b.name)
 }
 
 /// The same where one may be asked for.
@@ -99,7 +81,7 @@ pub(crate) fn same_interface(a: &Option<Interface>, b: &Option<Interface>) -> bo
 {
     match (a, b) {
         (None, None) => true,
-        (Some(a), Some(b)) => same_one(a, b),
+        (Some(a), Some(b)) => a.negated == b.negated && a.name == b.name,
         _ => false,
     }
 }

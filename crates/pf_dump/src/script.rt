@@ -28,10 +28,8 @@ fn is_open(text: &[u8]) -> bool
     ensures { result ≡ is_open_after false text.now }
 {
     let mut pending = false;
-    let mut left = text;
-    while let [byte, rest @ ..] = left {
+    for byte in text {
         pending = *byte != b'\n';
-        left = rest;
     }
     pending
 }
@@ -87,8 +85,7 @@ fn push_addresses(
         ≡ string_bytes out.old ++ addresses_text path.now name.now ADDRESSES entries.now) }
 {
     let mut room = ADDRESSES;
-    let mut left = entries;
-    while let [entry, rest @ ..] = left {
+    for entry in entries {
         if room == 0 {
             out.push('\n')?;
             push_begin(out, path, name, "add")?;
@@ -96,7 +93,6 @@ fn push_addresses(
         }
         write!(out, "{}", Entry(*entry))?;
         room -= 1;
-        left = rest;
     }
     out.push('\n')
 }
@@ -123,12 +119,10 @@ fn push_all_entries(script: &mut Vec<u8>, config: &Config, path: &[Name]) -> Res
     ensures { OnOk result (script.new.items ≡ script.old.items ++ all_entries_lines config.now path.now) }
 {
     let names = config.table_names(path)?;
-    let mut left = names.as_slice();
-    while let [name, rest @ ..] = left {
+    for name in &names {
         if let Some(table) = config.table(path, name) {
             push_entries(script, path, name, table)?;
         }
-        left = rest;
     }
     Ok(())
 }
@@ -156,10 +150,8 @@ pub(crate) fn script_of(alloc: Global, config: &Config) -> Result<Vec<u8>, Alloc
 {
     let mut script = Vec::new(alloc);
     let paths = text_paths(alloc, config)?;
-    let mut left = paths.as_slice();
-    while let [path, rest @ ..] = left {
+    for path in &paths {
         push_lines(&mut script, config, path)?;
-        left = rest;
     }
     Ok(script)
 }

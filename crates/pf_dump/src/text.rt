@@ -12,7 +12,7 @@ ghost use Rattle.pf_dump.specs.Written.{path_text};
 ghost use Rattle.pf_dump.specs.inner.Seen.{opens_of};
 
 use crate::same_rules::same_names;
-use pf_config::{Config, Table};
+use pf_config::{Config, Table, joined};
 use pf_rules::{AnchorHeading, Item, Name, TableEntry};
 use pf_show::{SkipLine, TableLine, show_items};
 use std::alloc::{AllocError, Global};
@@ -37,8 +37,7 @@ impl Opens<'_> {
         ensures few { result ≤ 1 }
     {
         match self {
-            Opens::Closed => 0,
-            Opens::Block(None) => 0,
+            Opens::Closed | Opens::Block(None) => 0,
             Opens::Block(Some(_)) => 1,
         }
     }
@@ -89,36 +88,12 @@ fn push_tables(
     ensures { OnOk result (string_bytes out.new ≡ string_bytes out.old ++ tables_text is_listed config.now path.now) }
 {
     let names = config.table_names(path)?;
-    let mut left = names.as_slice();
-    while let [name, rest @ ..] = left {
+    for name in &names {
         if let Some(table) = config.table(path, name) {
             push_table(out, name, table, is_listed)?;
         }
-        left = rest;
     }
     Ok(())
-}
-
-/// The names once more.
-pub(crate) fn copied(alloc: Global, path: &[Name]) -> Result<Vec<Name>, AllocError>
-    ensures { IfOk result (λ v. v.items ≡ path.now) }
-{
-    let mut names = Vec::new(alloc);
-    for name in path {
-        names.push(name.copied(alloc)?)?;
-    }
-    Ok(names)
-}
-
-/// A path and the names behind it.
-fn joined(alloc: Global, path: &[Name], names: &[Name]) -> Result<Vec<Name>, AllocError>
-    ensures { IfOk result (λ v. v.items ≡ path.now ++ names.now) }
-{
-    let mut all = copied(alloc, path)?;
-    for name in names {
-        all.push(name.copied(alloc)?)?;
-    }
-    Ok(all)
 }
 
 /// The anchor rule that a rule is.
@@ -165,12 +140,10 @@ fn is_on(item: &Item, names: &[Name]) -> bool
 fn has_target(items: &[Item], names: &[Name]) -> bool
     ensures { result ≡ text.has_target names.now (map rule_of items.now) }
 {
-    let mut left = items;
-    while let [item, rest @ ..] = left {
+    for item in items {
         if is_on(item, names) {
             return true;
         }
-        left = rest;
     }
     false
 }

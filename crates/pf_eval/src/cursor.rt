@@ -58,13 +58,11 @@ impl<'t> Cursor<'t> {
         ensures begins { result ≡ begins key.now (left self.old) }
         ensures past { left self.new ≡ (if result then drop 1 (left self.old) else left self.old) }
     {
-        match behind(self.rest, key) {
-            Some(rest) => {
-                self.rest = rest;
-                true
-            }
-            None => false,
-        }
+        let Some(rest) = behind(self.rest, key) else {
+            return false;
+        };
+        self.rest = rest;
+        true
     }
 
     /// The next token.
@@ -86,10 +84,7 @@ impl<'t> Cursor<'t> {
         ensures read { Reads (option_copied result) (left self.new) (word_after key.now (left self.old)) }
         ensures consumed { IsSome result → length (left self.new) < length (left self.old) }
     {
-        if !self.passes(key) {
-            return None;
-        }
-        self.word()
+        if self.passes(key) { self.word() } else { None }
     }
 
     /// The direction of the packet.
@@ -99,12 +94,9 @@ impl<'t> Cursor<'t> {
     {
         let word = self.word()?;
         if is_same_word(word, b"in") {
-            Some(Direction::In)
-        } else if is_same_word(word, b"out") {
-            Some(Direction::Out)
-        } else {
-            None
+            return Some(Direction::In);
         }
+        is_same_word(word, b"out").then_some(Direction::Out)
     }
 
     /// The name of an interface.
@@ -127,10 +119,7 @@ impl<'t> Cursor<'t> {
         requires plain { list_all (λ b. not (is_blank b)) key.now ≡ true }
         ensures { Reads result (left self.new) (keyed key.now name_of (left self.old)) }
     {
-        if !self.passes(key) {
-            return None;
-        }
-        self.name()
+        if self.passes(key) { self.name() } else { None }
     }
 
     /// The groups of the interface.
@@ -153,8 +142,7 @@ impl<'t> Cursor<'t> {
     pub(crate) fn protocol(&mut self) -> Option<u8>
         ensures { Reads result (left self.new) (keyed (codes "proto") protocol_of (left self.old)) }
     {
-        let word = self.word_after(b"proto")?;
-        parse_protocol(word)
+        parse_protocol(self.word_after(b"proto")?)
     }
 
     #[inline(always)]
@@ -164,8 +152,7 @@ impl<'t> Cursor<'t> {
         requires plain { list_all (λ b. not (is_blank b)) key.now ≡ true }
         ensures { Reads result (left self.new) (keyed key.now address_of (left self.old)) }
     {
-        let word = self.word_after(key)?;
-        parse_bytes(word).ok()
+        parse_bytes(self.word_after(key)?).ok()
     }
 
     #[tactic(auto, unfolding(crate::specs::PacketTexts::keyed, crate::specs::PacketTexts::word_after, crate::specs::PacketTexts::optional))]
@@ -175,9 +162,7 @@ impl<'t> Cursor<'t> {
         if !self.passes(b"port") {
             return Some(None);
         }
-        let word = self.word()?;
-        let port = parse_decimal(word, 5, u16::MAX)?;
-        Some(Some(port))
+        parse_decimal(self.word()?, 5, u16::MAX).map(|port| Some(port))
     }
 
     /// An address after this keyword, and its port.
@@ -201,9 +186,7 @@ impl<'t> Cursor<'t> {
         if !self.passes(b"flags") {
             return Some(None);
         }
-        let word = self.word()?;
-        let flags = parse_flags(word)?;
-        Some(Some(flags))
+        parse_flags(self.word()?).map(|flags| Some(flags))
     }
 
     /// The type of ICMP, if it is given.
@@ -214,8 +197,6 @@ impl<'t> Cursor<'t> {
         if !self.passes(b"icmp-type") {
             return Some(None);
         }
-        let word = self.word()?;
-        let number = parse_decimal(word, 3, 255)?;
-        Some(Some(number as u8))
+        parse_decimal(self.word()?, 3, 255).map(|number| Some(number as u8))
     }
 }

@@ -11,7 +11,7 @@ use crate::flat::deciding_flat;
 use crate::hit::Hit;
 use crate::packet::Packet;
 use crate::skipping;
-use crate::walk::{Walk, found};
+use crate::walk::{Rules, Walk};
 use pf_config::Config;
 use pf_rules::{Action, InterfaceName, Ruleset};
 
@@ -42,9 +42,14 @@ fn deciding<'c>(config: &'c Config, packet: &Packet) -> Option<Hit<'c>>
     ensures { spot_in result ≡ last_spot (hits 9 config.now packet.now []) }
 {
     let main = config.anchor(&[])?;
-    match found(Walk::Stops, config, main, packet, NESTED) {
+    let all = Rules {
+        config,
+        packet,
+        depth: NESTED,
+    };
+    match all.found(Walk::Stops, main) {
         Some(hit) => Some(hit),
-        None => found(Walk::Others, config, main, packet, NESTED),
+        None => all.found(Walk::Others, main),
     }
 }
 
@@ -52,12 +57,7 @@ fn deciding<'c>(config: &'c Config, packet: &Packet) -> Option<Hit<'c>>
 fn is_skipped(skip: &[InterfaceName], packet: &Packet) -> bool
     ensures { result ≡ is_skipped skip.now packet.now }
 {
-    for name in skip {
-        if packet.is_on(name.as_bytes()) {
-            return true;
-        }
-    }
-    false
+    skip.iter().any(|name| packet.is_on(name.as_bytes()))
 }
 
 /// The verdict of a configuration for a packet: a packet on a skipped interface passes at once; else the last matching

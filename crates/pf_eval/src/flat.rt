@@ -6,7 +6,7 @@ ghost use Rattle.pf_eval.specs.Verdicts.{hits_with, last_spot, no_tables, no_hit
 ghost use Rattle.pf_eval.specs.inner.TwoWalks.{first_rule, last_rule, flat_stop, flat_last, spot_in};
 ghost use Rattle.pf_config.specs.declared.config.TheConstants.{RULES_MAX};
 
-use crate::hit::{Hit, other_hit, quick_hit};
+use crate::hit::{Hit, rule_hit};
 use crate::packet::Packet;
 use crate::scope::nowhere;
 use pf_rules::Item;
@@ -18,8 +18,8 @@ fn quick_at<'r>(packet: &Packet, index: u32, item: &Item) -> Option<Hit<'r>>
     ensures { spot_in result ≡ flat_stop packet.now index (rule_of item.now) }
 {
     match item {
-        Item::Filter(rule) => quick_hit(nowhere(), packet, index, rule),
-        Item::Anchor(_) => None,
+        Item::Filter(rule) if rule.quick => rule_hit(nowhere(), packet, index, rule),
+        _ => None,
     }
 }
 
@@ -30,8 +30,8 @@ fn other_at<'r>(packet: &Packet, index: u32, item: &Item) -> Option<Hit<'r>>
     ensures { spot_in result ≡ flat_last packet.now index (rule_of item.now) }
 {
     match item {
-        Item::Filter(rule) => other_hit(nowhere(), packet, index, rule),
-        Item::Anchor(_) => None,
+        Item::Filter(rule) if !rule.quick => rule_hit(nowhere(), packet, index, rule),
+        _ => None,
     }
 }
 

@@ -48,9 +48,8 @@ pub(crate) fn is_direction(wanted: Option<Direction>, direction: Direction) -> b
     ensures { result ≡ if_set (direction_eq direction) wanted }
 {
     match (wanted, direction) {
-        (None, _) | (Some(Direction::In), Direction::In) | (Some(Direction::Out), Direction::Out) =>
-            true,
         (Some(Direction::In), Direction::Out) | (Some(Direction::Out), Direction::In) => false,
+        _ => true,
     }
 }
 
@@ -60,10 +59,7 @@ fn is_interface(wanted: &Option<Interface>, packet: &Packet) -> bool
 {
     match wanted {
         None => true,
-        Some(interface) => {
-            let found = packet.is_on(interface.name.as_bytes());
-            if interface.negated { !found } else { found }
-        }
+        Some(it) => packet.is_on(it.name.as_bytes()) != it.negated,
     }
 }
 
@@ -81,10 +77,7 @@ pub(crate) fn is_family(wanted: Option<Family>, addr: Addr) -> bool
 pub(crate) fn is_number(wanted: Option<u8>, number: u8) -> bool
     ensures { result ≡ if_set (λ n. number == n) wanted }
 {
-    match wanted {
-        None => true,
-        Some(wanted) => number == wanted,
-    }
+    wanted.is_none_or(|wanted| number == wanted)
 }
 
 fn at_host(scope: Scope<'_>, addr: Addr, host: &Host) -> bool
@@ -116,10 +109,8 @@ fn in_table(scope: Scope<'_>, name: &TableName, addr: Addr) -> bool
     let Some(config) = scope.config else {
         return false;
     };
-    match config.table_for(scope.path, name.as_str()) {
-        None => false,
-        Some(table) => table.holds(addr),
-    }
+    let table = config.table_for(scope.path, name.as_str());
+    table.is_some_and(|table| table.holds(addr))
 }
 
 fn is_port(wanted: Option<PortTest>, port: Option<u16>) -> bool
@@ -182,9 +173,5 @@ fn just(set: TcpFlags, of: TcpFlags, here: TcpFlags) -> bool
 fn is_type(wanted: Option<u8>, kind: Option<u8>) -> bool
     ensures { result ≡ if_set (λ n. if_there (λ m. m == n) kind) wanted }
 {
-    match (wanted, kind) {
-        (None, _) => true,
-        (Some(_), None) => false,
-        (Some(wanted), Some(kind)) => kind == wanted,
-    }
+    wanted.is_none() || kind == wanted
 }

@@ -78,12 +78,7 @@ impl Packet {
 fn is_among(names: &[InterfaceName], name: &[u8]) -> bool
     ensures { result ≡ list_any (λ n. bytes_eq n name.now) names.now }
 {
-    for other in names {
-        if other.as_bytes() == name {
-            return true;
-        }
-    }
-    false
+    names.iter().any(|other| other.as_bytes() == name)
 }
 
 /// How many bytes the name has without the digits at its end.

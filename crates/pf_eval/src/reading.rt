@@ -1,7 +1,7 @@
 //! Packets from text.
 
 ghost use Rattle.std.specs.Prelude.{◌≡◌, ◌&&◌, Err, true};
-ghost use Rattle.pf_eval.specs.PacketTexts.{same_family, has_ports, is_there_if, only_if, agrees, said_flags};
+ghost use Rattle.pf_eval.specs.PacketTexts.{same_family, has_ports, is_there_if, only_if, agrees};
 ghost use Rattle.pf_eval.specs.PacketTexts.{has_outer_blank, packet_at, packet_of, words};
 ghost use Rattle.pf_eval.specs.Cursors.{Answers};
 ghost use Rattle.pf_eval.specs.inner.Cursors.{end_of};
@@ -32,25 +32,6 @@ fn has_ports(protocol: u8) -> bool
     protocol == 6 || protocol == 17
 }
 
-/// Whether the ends have ports just where the protocol has.
-fn ports_agree(protocol: u8, source: End, destination: End) -> bool
-    ensures { result ≡ (is_there_if (has_ports protocol) source.port &&
-        is_there_if (has_ports protocol) destination.port) }
-{
-    source.port.is_some() == has_ports(protocol)
-        && destination.port.is_some() == has_ports(protocol)
-}
-
-/// The flags that are set.
-fn said_flags(flags: Option<TcpFlags>) -> TcpFlags
-    ensures { result ≡ said_flags flags }
-{
-    match flags {
-        None => TcpFlags::NONE,
-        Some(flags) => flags,
-    }
-}
-
 /// Whether the parts of a packet go together.
 #[tactic(auto, unfolding(crate::specs::PacketTexts::agrees))]
 fn agrees(
@@ -65,7 +46,8 @@ fn agrees(
 {
     groups.len() <= GROUPS_MAX
         && same_family(source.addr, destination.addr)
-        && ports_agree(protocol, source, destination)
+        && source.port.is_some() == has_ports(protocol)
+        && destination.port.is_some() == has_ports(protocol)
         && (protocol == 6 || flags.is_none())
         && (protocol == 1 || icmp_type.is_none())
 }
@@ -76,28 +58,14 @@ fn packet(alloc: Global, text: &[u8]) -> Result<Packet, PacketFault>
     ensures { Answers result (packet_at (words text.now)) }
 {
     let mut cursor = Cursor::new(text);
-    let Some(direction) = cursor.direction() else {
-        return Err(PacketFault::BadPacket);
-    };
-    let Some(interface) = cursor.name_after(b"on") else {
-        return Err(PacketFault::BadPacket);
-    };
+    let direction = cursor.direction().ok_or(PacketFault::BadPacket)?;
+    let interface = cursor.name_after(b"on").ok_or(PacketFault::BadPacket)?;
     let groups = cursor.groups(alloc)?;
-    let Some(protocol) = cursor.protocol() else {
-        return Err(PacketFault::BadPacket);
-    };
-    let Some(source) = cursor.end(b"from") else {
-        return Err(PacketFault::BadPacket);
-    };
-    let Some(destination) = cursor.end(b"to") else {
-        return Err(PacketFault::BadPacket);
-    };
-    let Some(flags) = cursor.flags() else {
-        return Err(PacketFault::BadPacket);
-    };
-    let Some(icmp_type) = cursor.icmp_type() else {
-        return Err(PacketFault::BadPacket);
-    };
+    let protocol = cursor.protocol().ok_or(PacketFault::BadPacket)?;
+    let source = cursor.end(b"from").ok_or(PacketFault::BadPacket)?;
+    let destination = cursor.end(b"to").ok_or(PacketFault::BadPacket)?;
+    let flags = cursor.flags().ok_or(PacketFault::BadPacket)?;
+    let icmp_type = cursor.icmp_type().ok_or(PacketFault::BadPacket)?;
     if !cursor.is_empty() || !agrees(&groups, protocol, source, destination, flags, icmp_type) {
         return Err(PacketFault::BadPacket);
     }
@@ -111,7 +79,7 @@ fn packet(alloc: Global, text: &[u8]) -> Result<Packet, PacketFault>
         source_port: source.port,
         destination: destination.addr,
         destination_port: destination.port,
-        flags: said_flags(flags),
+        flags: flags.unwrap_or(TcpFlags::NONE),
         icmp_type,
         stem,
     })

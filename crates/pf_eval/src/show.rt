@@ -1,9 +1,9 @@
 //! Verdicts as text.
 
 ghost use Rattle.std.specs.Prelude.{◌≡◌, IfOk, Some, option_map, string_bytes};
-ghost use Rattle.pf_eval.specs.Seen.{judgement_of, path_text, shown_spot, spot_of, verdict_text, verdict_for};
+ghost use Rattle.pf_eval.specs.Seen.{judgement_of, path_text, verdict_text, verdict_for};
 
-use crate::answer::{Spot, Verdict};
+use crate::answer::Verdict;
 use crate::decide::verdict;
 use crate::fault::PacketFault;
 use crate::reading::parse_packet;
@@ -11,24 +11,6 @@ use pf_config::Config;
 use pf_rules::Name;
 use std::alloc::{AllocError, Global};
 use std::fmt;
-
-/// Names, each behind a slash.
-#[derive(Clone, Copy)]
-struct MoreNames<'a>(&'a [Name]);
-
-impl fmt::Display for MoreNames<'_> {
-    ghost use Rattle.std.specs.Prelude.{◌∷◌};
-    ghost use Rattle.std.specs.List.{flat_map};
-
-    ghost output = { λ n. Some (flat_map (λ name. 47 ∷ name) n.0.now) };
-
-    fn fmt<W: fmt::Write>(&self, f: &mut fmt::Formatter<W>) -> fmt::Result {
-        for name in self.0 {
-            write!(f, "/{}", name.as_str())?;
-        }
-        Ok(())
-    }
-}
 
 /// A path, a slash between its names.
 #[derive(Clone, Copy)]
@@ -42,25 +24,12 @@ impl fmt::Display for PathText<'_> {
             [] => Ok(()),
             [first, others @ ..] => {
                 f.write_str(first.as_str())?;
-                MoreNames(others).fmt(f)
+                for name in others {
+                    write!(f, "/{}", name.as_str())?;
+                }
+                Ok(())
             }
         }
-    }
-}
-
-/// The place of a rule, behind a blank.
-#[derive(Clone, Copy)]
-struct Place<'a>(Spot<'a>);
-
-impl fmt::Display for Place<'_> {
-    ghost use Rattle.pf_rules.specs.declared.rule.Action.TheVariants.{Pass};
-
-    ghost output = { λ p. Some (shown_spot (spot_of Pass p.0)) };
-
-    fn fmt<W: fmt::Write>(&self, f: &mut fmt::Formatter<W>) -> fmt::Result {
-        f.write_str(" ")?;
-        PathText(self.0.names).fmt(f)?;
-        write!(f, "@{}", self.0.index)
     }
 }
 
@@ -71,18 +40,14 @@ impl fmt::Display for Verdict<'_> {
         match *self {
             Verdict::Skip => f.write_str("pass skip"),
             Verdict::Default => f.write_str("pass default"),
-            Verdict::Pass(spot) => {
-                f.write_str("pass")?;
-                Place(spot).fmt(f)
-            }
-            Verdict::Drop(spot) => {
-                f.write_str("block drop")?;
-                Place(spot).fmt(f)
-            }
-            Verdict::Return(spot) => {
-                f.write_str("block return")?;
-                Place(spot).fmt(f)
-            }
+            Verdict::Pass(spot) => write!(f, "pass {}@{}", PathText(spot.names), spot.index),
+            Verdict::Drop(spot) => write!(f, "block drop {}@{}", PathText(spot.names), spot.index),
+            Verdict::Return(spot) => write!(
+                f,
+                "block return {}@{}",
+                PathText(spot.names),
+                spot.index
+            ),
         }
     }
 }
@@ -106,8 +71,7 @@ pub fn verdict_for(
 {
     match parse_packet(alloc, packet) {
         Ok(packet) => {
-            let found = verdict(config, &packet);
-            let shown = show_verdict(alloc, &found)?;
+            let shown = show_verdict(alloc, &verdict(config, &packet))?;
             Ok(Some(shown))
         }
         Err(PacketFault::Memory) => Err(AllocError),

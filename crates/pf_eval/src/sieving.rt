@@ -13,10 +13,7 @@ use pf_config::{Candidate, Search, Sieve, front_bits, is_within};
 fn port_or_0(port: Option<u16>) -> u32
     ensures { result ≡ port_or_0 port }
 {
-    match port {
-        None => 0,
-        Some(port) => port as u32,
-    }
+    port.map_or(0, |port| port as u32)
 }
 
 /// What the sieves ask of a packet.

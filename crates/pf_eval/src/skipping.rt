@@ -13,12 +13,7 @@ use pf_rules::InterfaceName;
 fn any_skipped(config: &Config, names: &[InterfaceName]) -> bool
     ensures { result ≡ list_any (λ m. is_listed m config.now.skip) names.now }
 {
-    for name in names {
-        if config.is_skipped(name.as_bytes()) {
-            return true;
-        }
-    }
-    false
+    names.iter().any(|name| config.is_skipped(name.as_bytes()))
 }
 
 /// Whether the packet is on an interface that is skipped: each name of its interface is looked for at the logarithm of

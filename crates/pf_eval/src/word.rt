@@ -104,20 +104,16 @@ pub(crate) fn behind<'a>(text: &'a [u8], key: &[u8]) -> Option<&'a [u8]>
     ensures { option_map (λ rest. words rest.now) result ≡ (if begins key.now (words text.now) then
         Some (drop 1 (words text.now)) else None) }
 {
-    match cut_key(text, key) {
-        Some(rest) => Some(rest),
-        None => behind_blanks(text, key),
-    }
+    cut_key(text, key).or_else(|| behind_blanks(text, key))
 }
 
 /// Appends the token to those that were found, unless it is empty.
 fn put_word<'a>(found: &mut Vec<&'a [u8]>, word: &'a [u8]) -> Result<(), AllocError>
     ensures { OnOk result (map (λ w. w.now) found.new.items ≡ map (λ w. w.now) found.old.items ++ ended word.now) }
 {
-    if word.is_empty() {
-        return Ok(());
+    if !word.is_empty() {
+        found.push(word)?;
     }
-    found.push(word)?;
     Ok(())
 }
 

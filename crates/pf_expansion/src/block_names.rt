@@ -4,11 +4,12 @@ ghost use Rattle.std.specs.Prelude.{◌≡◌, ◌<◌, ◌^◌, IfOk, option_ma
 ghost use Rattle.pf_rules.specs.Seen.{item_of, items_of, target_of};
 ghost use Rattle.pf_statements.specs.Seen.{item_text_of, item_texts_of};
 ghost use Rattle.pf_expansion.specs.Anchors.{given_name, is_given, is_given_alone, is_misnamed};
-ghost use Rattle.pf_expansion.specs.Blocks.{block_misnamed, given_target, is_reserved_name, is_unnamed};
+ghost use Rattle.pf_expansion.specs.Blocks.{block_misnamed, is_reserved_name, is_unnamed};
 ghost use Rattle.pf_expansion.specs.Blocks.{item_misnamed, next_unnamed, target_or_given, unnamed_after};
 ghost use Rattle.pf_expansion.specs.Blocks.{unnamed_in, unnamed_with};
 
 use crate::anchors::is_reserved;
+use crate::cause::Made;
 use pf_rules::{Item, Name, Target, parse_decimal};
 use pf_statements::WrittenItem;
 use std::alloc::{AllocError, Global};
@@ -17,18 +18,13 @@ use std::alloc::{AllocError, Global};
 const MOST_UNNAMED: u16 = 65_535;
 
 /// One more unnamed block.
-fn next_unnamed(unnamed: u32) -> u32
-    ensures { result ≡ next_unnamed unnamed }
+fn next_unnamed(count: u32) -> u32
+    ensures { result ≡ next_unnamed count }
 {
-    if unnamed < 65_535 {
-        unnamed + 1
-    } else {
-        65_535
-    }
+    if count < 65_535 { count + 1 } else { 65_535 }
 }
 
 /// The name of the k-th unnamed block of a ruleset.
-
 fn given_name(alloc: Global, k: u32) -> Result<Name, AllocError>
     ensures { IfOk result (λ name. name ≡ given_name k) }
 {
@@ -37,31 +33,16 @@ fn given_name(alloc: Global, k: u32) -> Result<Name, AllocError>
     Ok(name.unwrap())
 }
 
-/// The target of the k-th unnamed block of a ruleset.
-fn given_target(alloc: Global, k: u32) -> Result<Target, AllocError>
-    ensures { IfOk result (λ target. target_of target ≡ given_target k) }
-{
-    let name = given_name(alloc, k)?;
-    let mut names = Vec::new(alloc);
-    names.push(name)?;
-    Ok(Target {
-        names,
-        children: false,
-    })
-}
-
 /// The target of a block behind that many unnamed ones: the one that is written, or the one that it is given.
-pub(crate) fn target_or_given(
-    alloc: Global,
-    unnamed: u32,
-    target: &Option<Target>,
-) -> Result<Target, AllocError>
+pub(crate) fn target_or_given(alloc: Global, unnamed: u32, target: &Option<Target>) -> Made<Target>
     ensures { IfOk result (λ found. target_of found ≡ target_or_given unnamed (option_map target_of target.now)) }
 {
-    match target {
-        Some(target) => target.copied(alloc),
-        None => given_target(alloc, next_unnamed(unnamed)),
+    if let Some(target) = target {
+        return target.copied(alloc);
     }
+    let names = vec![in alloc; given_name(alloc, next_unnamed(unnamed))?]?;
+    let children = false;
+    Ok(Target { names, children })
 }
 
 /// How many unnamed blocks there are with this rule.
@@ -69,11 +50,8 @@ pub(crate) fn unnamed_after(unnamed: u32, item: &WrittenItem) -> u32
     ensures { result ≡ unnamed_after unnamed (item_text_of item.now) }
 {
     match item {
-        WrittenItem::Block(heading, _) => match heading.target {
-            Some(_) => unnamed,
-            None => next_unnamed(unnamed),
-        },
-        WrittenItem::Rule(_) | WrittenItem::Anchor(_) => unnamed,
+        WrittenItem::Block(heading, _) if heading.target.is_none() => next_unnamed(unnamed),
+        WrittenItem::Rule(_) | WrittenItem::Anchor(_) | WrittenItem::Block(..) => unnamed,
     }
 }
 
@@ -81,10 +59,7 @@ pub(crate) fn unnamed_after(unnamed: u32, item: &WrittenItem) -> u32
 fn is_unnamed(names: &[Name]) -> bool
     ensures { result ≡ is_unnamed names.now }
 {
-    match names {
-        [name] => name.is_unnamed(),
-        _ => false,
-    }
+    matches!(names, [name] if name.is_unnamed())
 }
 
 /// How many unnamed blocks there are with this rule, which is before.
@@ -124,11 +99,7 @@ fn is_given(alloc: Global, unnamed: u32, name: &Name) -> Result<bool, AllocError
         return Ok(false);
     };
     let k = u32::from(k);
-    if k < 1 || k > unnamed {
-        return Ok(false);
-    }
-    let given = given_name(alloc, k)?;
-    Ok(name.as_bytes() == given.as_bytes())
+    Ok(k >= 1 && k <= unnamed && name.as_bytes() == given_name(alloc, k)?.as_bytes())
 }
 
 /// Whether it is that name, and nothing else.
@@ -149,40 +120,26 @@ pub(crate) fn is_misnamed(alloc: Global, unnamed: u32, target: &Target) -> Resul
     if !is_reserved(target) {
         return Ok(false);
     }
-    if target.children {
-        return Ok(true);
-    }
-    let given = is_given_alone(alloc, unnamed, &target.names)?;
-    Ok(!given)
+    Ok(target.children || !is_given_alone(alloc, unnamed, &target.names)?)
 }
 
 /// Whether a name of a block, if it has one, begins with `_`.
 fn is_reserved_name(target: &Option<Target>) -> bool
     ensures { result ≡ is_reserved_name (option_map target_of target.now) }
 {
-    match target {
-        Some(target) => is_reserved(target),
-        None => false,
-    }
+    target.as_ref().is_some_and(|target| is_reserved(target))
 }
 
 /// Whether a name in a rule, or in its block, begins with `_` where none may.
 #[cycle(misnamed)]
-pub(crate) fn item_misnamed(
-    alloc: Global,
-    unnamed: u32,
-    item: &WrittenItem,
-) -> Result<bool, AllocError>
+pub(crate) fn item_misnamed(alloc: Global, unnamed: u32, item: &WrittenItem) -> Made<bool>
     ensures { IfOk result (λ misnamed. misnamed ≡ item_misnamed unnamed (item_text_of item.now)) }
 {
     match item {
         WrittenItem::Rule(_) => Ok(false),
         WrittenItem::Anchor(anchor) => is_misnamed(alloc, unnamed, &anchor.target),
         WrittenItem::Block(heading, items) => {
-            if is_reserved_name(&heading.target) {
-                return Ok(true);
-            }
-            items_misnamed(alloc, items)
+            Ok(is_reserved_name(&heading.target) || items_misnamed(alloc, items)?)
         }
     }
 }
@@ -194,8 +151,7 @@ fn items_misnamed(alloc: Global, items: &[WrittenItem]) -> Result<bool, AllocErr
 {
     let mut unnamed = 0u32;
     for item in items {
-        let misnamed = item_misnamed(alloc, unnamed, item)?;
-        if misnamed {
+        if item_misnamed(alloc, unnamed, item)? {
             return Ok(true);
         }
         unnamed = unnamed_after(unnamed, item);

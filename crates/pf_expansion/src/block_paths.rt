@@ -11,6 +11,7 @@ ghost use Rattle.pf_expansion.specs.Blocks.{Path, block_paths, is_twice, item_pa
 ghost use Rattle.pf_expansion.specs.inner.Numbers.{AreNumbered, has_again, is_marked};
 
 use crate::block_names::{target_or_given, unnamed_after, unnamed_in};
+use crate::cause::Made;
 use crate::numbers::Numbers;
 use pf_rules::{AnchorHeading, Item};
 use pf_statements::WrittenItem;
@@ -20,23 +21,17 @@ use std::collections::BTreeSet;
 /// Appends the numbers of the paths of the blocks in a written rule behind that many unnamed ones, which is at the
 /// path of this number.
 #[cycle(paths)]
-fn push_item_numbers(
-    alloc: Global,
-    numbers: &mut Numbers,
-    from: usize,
-    unnamed: u32,
-    item: &WrittenItem,
-    found: &mut Vec<usize>,
-) -> Result<(), AllocError>
-    ensures { OnOk result (AreNumbered numbers.old.steps numbers.new.steps from found.old.items found.new.items
+fn push_item_paths(numbers: &mut Numbers, from: usize, unnamed: u32, item: &WrittenItem) -> Made<()>
+    ensures { OnOk result (AreNumbered numbers.old.steps numbers.new.steps from numbers.old.found.items
+        numbers.new.found.items
         (λ (path : Path). item_paths path unnamed (item_text_of item.now)) (λ (path : Path). [])) }
 {
     match item {
         WrittenItem::Block(heading, items) => {
-            let target = target_or_given(alloc, unnamed, &heading.target)?;
-            let at = numbers.push_walk(alloc, from, &target.names)?;
-            push_block_numbers(alloc, numbers, at, items, found)?;
-            found.push(at)?;
+            let target = target_or_given(numbers.alloc, unnamed, &heading.target)?;
+            let at = numbers.push_walk(from, &target.names)?;
+            push_block_paths(numbers, at, items)?;
+            numbers.found.push(at)?;
             Ok(())
         }
         WrittenItem::Rule(_) => Ok(()),
@@ -46,19 +41,13 @@ fn push_item_numbers(
 
 /// Appends the numbers of the paths of the blocks in the rules of a block, which is at the path of this number.
 #[cycle(paths)]
-fn push_block_numbers(
-    alloc: Global,
-    numbers: &mut Numbers,
-    from: usize,
-    items: &[WrittenItem],
-    found: &mut Vec<usize>,
-) -> Result<(), AllocError>
-    ensures { OnOk result (AreNumbered numbers.old.steps numbers.new.steps from found.old.items found.new.items
-        (λ (path : Path). block_paths path 0 (item_texts_of items.now)) (λ (path : Path). [])) }
+fn push_block_paths(numbers: &mut Numbers, from: usize, items: &[WrittenItem]) -> Made<()>
+    ensures { OnOk result (AreNumbered numbers.old.steps numbers.new.steps from numbers.old.found.items
+        numbers.new.found.items (λ (path : Path). block_paths path 0 (item_texts_of items.now)) (λ (path : Path). [])) }
 {
     let mut unnamed = 0u32;
     for item in items {
-        push_item_numbers(alloc, numbers, from, unnamed, item, found)?;
+        push_item_paths(numbers, from, unnamed, item)?;
         unnamed = unnamed_after(unnamed, item);
     }
     Ok(())
@@ -83,13 +72,7 @@ fn as_set(alloc: Global, numbers: &[usize]) -> Result<Option<BTreeSet<usize>>, A
 
 /// Whether a path of a block in the rule, which is at the path of this number, has a number of the set.
 #[cycle(values)]
-fn is_in(
-    alloc: Global,
-    numbers: &Numbers,
-    set: &BTreeSet<usize>,
-    from: usize,
-    item: &Item,
-) -> Result<bool, AllocError>
+fn is_in(numbers: &Numbers, set: &BTreeSet<usize>, from: usize, item: &Item) -> Made<bool>
     ensures { IfOk result (λ found. found ≡
         list_any (is_marked numbers.now.steps set.now (Some from)) (paths_in [] (item_of item.now))) }
 {
@@ -97,7 +80,7 @@ fn is_in(
         Item::Filter(_) => Ok(false),
         Item::Anchor(anchor) => match &anchor.block {
             None => Ok(false),
-            Some(block) => is_carried(alloc, numbers, set, from, &anchor.heading, block.as_slice()),
+            Some(block) => is_carried(numbers, set, from, &anchor.heading, block.as_slice()),
         },
     }
 }
@@ -106,7 +89,6 @@ fn is_in(
 /// one of a block in it.
 #[cycle(values)]
 fn is_carried(
-    alloc: Global,
     numbers: &Numbers,
     set: &BTreeSet<usize>,
     from: usize,
@@ -117,31 +99,24 @@ fn is_carried(
         (paths_within heading.now.target.names.items (values_of (items_of items.now)) ++
         heading.now.target.names.items ∷ [])) }
 {
-    let Some(at) = numbers.walk(alloc, from, &heading.target.names)? else {
+    let Some(at) = numbers.walk(from, &heading.target.names)? else {
         return Ok(false);
     };
     if set.contains(&at) {
         return Ok(true);
     }
-    let found = any_in(alloc, numbers, set, at, items)?;
+    let found = any_in(numbers, set, at, items)?;
     Ok(found)
 }
 
 /// Whether a path of a block in the rules, which are at the path of this number, has a number of the set.
 #[cycle(values)]
-fn any_in(
-    alloc: Global,
-    numbers: &Numbers,
-    set: &BTreeSet<usize>,
-    from: usize,
-    items: &[Item],
-) -> Result<bool, AllocError>
+fn any_in(numbers: &Numbers, set: &BTreeSet<usize>, from: usize, items: &[Item]) -> Made<bool>
     ensures { IfOk result (λ found. found ≡ list_any (is_marked numbers.now.steps set.now (Some from))
         (paths_within [] (values_of (items_of items.now)))) }
 {
     for item in items {
-        let found = is_in(alloc, numbers, set, from, item)?;
-        if found {
+        if is_in(numbers, set, from, item)? {
             return Ok(true);
         }
     }
@@ -152,19 +127,14 @@ fn any_in(
 /// in this rule are numbered, and those before are looked for among them: a block that no path in this rule leads to is
 /// passed over with all that it holds.
 #[tactic(auto, unfolding(crate::specs::Blocks::is_twice))]
-pub(crate) fn is_twice(
-    alloc: Global,
-    before: &[Item],
-    item: &WrittenItem,
-) -> Result<bool, AllocError>
+pub(crate) fn is_twice(alloc: Global, before: &[Item], item: &WrittenItem) -> Made<bool>
     ensures { IfOk result (λ twice. twice ≡ is_twice (items_of before.now) (item_text_of item.now)) }
 {
     let mut numbers = Numbers::new(alloc);
-    let mut found = Vec::new(alloc);
-    push_item_numbers(alloc, &mut numbers, 0, unnamed_in(before), item, &mut found)?;
-    let Some(set) = as_set(alloc, &found)? else {
+    push_item_paths(&mut numbers, 0, unnamed_in(before), item)?;
+    let Some(set) = as_set(alloc, &numbers.found)? else {
         return Ok(true);
     };
-    let twice = any_in(alloc, &numbers, &set, 0, before)?;
+    let twice = any_in(&numbers, &set, 0, before)?;
     Ok(twice)
 }

@@ -3,26 +3,23 @@
 ghost use Rattle.std.specs.Prelude.{◌≡◌, ◌++◌, map, IfErr, IfOk, None, OnOk, Some};
 ghost use Rattle.pf_rules.specs.declared.rule.Rule.{Rule as IRule};
 ghost use Rattle.pf_rules.specs.Items.{Anchors, Filters, Heading as IHeading, values_of};
-ghost use Rattle.pf_rules.specs.Seen.{heading_of, item_of, items_of};
+ghost use Rattle.pf_rules.specs.Seen.{heading_of, items_of};
 ghost use Rattle.pf_statements.specs.Seen.{anchor_text_of, heading_text_of, item_text_of, item_texts_of, text_of};
 ghost use Rattle.pf_expansion.specs.Anchors.{headings};
 ghost use Rattle.pf_expansion.specs.Blocks.{block_causes, block_values, carried, item_values, named, unnamed_in};
 ghost use Rattle.pf_expansion.specs.Causes.{lowest};
 ghost use Rattle.pf_expansion.specs.Expansion.{expanded};
 
-use crate::anchors::headings_with;
+use crate::anchors::headings_of;
 use crate::block_names::{item_misnamed, target_or_given, unnamed_after, unnamed_in};
 use crate::block_paths::is_twice;
-use crate::cause::Cause;
+use crate::cause::{Cause, Made};
 use crate::expand::combined;
 use crate::judged::item_judged;
 use crate::rules::{rule_flags, rules_with, tested_flags};
 use pf_rules::{AnchorHeading, Item, Policy, Rule};
 use pf_statements::{WrittenAnchor, WrittenHeading, WrittenItem, WrittenRule};
 use std::alloc::{AllocError, Global};
-
-/// The most rules that a ruleset may give.
-const MOST_RULES: usize = 1_024;
 
 /// Appends the rules. A growth that is refused is the error.
 #[tactic(auto, using(crate::proofs::Pushed::items_push))]
@@ -50,12 +47,7 @@ pub fn push_anchors(items: &mut Vec<Item>, headings: Vec<AnchorHeading>) -> Resu
 
 /// Appends the anchor rules, of which the first carries the block.
 #[tactic(auto, using(crate::proofs::Pushed::items_push))]
-fn push_carried(
-    alloc: Global,
-    items: &mut Vec<Item>,
-    headings: Vec<AnchorHeading>,
-    block: Vec<Item>,
-) -> Result<(), AllocError>
+fn push_carried(items: &mut Vec<Item>, headings: Vec<AnchorHeading>, block: Vec<Item>) -> Made<()>
     ensures { OnOk result (items_of items.new.items ≡ items_of items.old.items ++
         carried (map heading_of headings.items) (values_of (items_of block.items))) }
 {
@@ -64,7 +56,8 @@ fn push_carried(
         return Ok(());
     }
     let first = headings.remove(0);
-    items.push(Item::block(alloc, first, block)?)?;
+    let carrying = Item::block(*items.allocator(), first, block)?;
+    items.push(carrying)?;
     push_anchors(items, headings)
 }
 
@@ -74,7 +67,7 @@ fn expanded(alloc: Global, policy: Policy, rule: &WrittenRule) -> Result<Vec<Rul
     ensures { IfOk result (λ rules. rules.items ≡ expanded policy (text_of rule.now)) }
 {
     let found = combined(alloc, rule_flags(rule), &rule.conditions)?;
-    rules_with(alloc, policy, rule, found)
+    rules_with(policy, rule, found)
 }
 
 /// The anchor rules of a written one.
@@ -84,96 +77,51 @@ fn headings(alloc: Global, anchor: &WrittenAnchor) -> Result<Vec<AnchorHeading>,
 {
     let test = tested_flags(false, anchor.conditions.flags);
     let found = combined(alloc, test, &anchor.conditions)?;
-    headings_with(alloc, &anchor.target, anchor.quick, found)
+    headings_of(&anchor.target, anchor.quick, found)
 }
 
 /// The anchor rules of one with a block, behind that many unnamed blocks.
 #[tactic(auto, unfolding(crate::specs::Anchors::headings))]
-fn named_headings(
-    alloc: Global,
-    unnamed: u32,
-    heading: &WrittenHeading,
-) -> Result<Vec<AnchorHeading>, AllocError>
+fn named_headings(alloc: Global, unnamed: u32, heading: &WrittenHeading) -> Made<Vec<AnchorHeading>>
     ensures { IfOk result (λ hs. map heading_of hs.items ≡
         headings (named unnamed (heading_text_of heading.now))) }
 {
     let test = tested_flags(false, heading.conditions.flags);
     let found = combined(alloc, test, &heading.conditions)?;
     let target = target_or_given(alloc, unnamed, &heading.target)?;
-    headings_with(alloc, &target, heading.quick, found)
+    headings_of(&target, heading.quick, found)
 }
 
 /// Appends the rules of a written one behind that many unnamed blocks of its ruleset.
 #[cycle(values)]
-fn push_item(
-    alloc: Global,
-    policy: Policy,
-    unnamed: u32,
-    item: &WrittenItem,
-    items: &mut Vec<Item>,
-) -> Result<(), AllocError>
+fn push_item(policy: Policy, unnamed: u32, item: &WrittenItem, items: &mut Vec<Item>) -> Made<()>
     ensures { OnOk result (items_of items.new.items ≡ items_of items.old.items ++
         item_values policy unnamed (item_text_of item.now)) }
 {
+    let alloc = *items.allocator();
     match item {
         WrittenItem::Rule(rule) => push_rules(items, expanded(alloc, policy, rule)?),
         WrittenItem::Anchor(anchor) => push_anchors(items, headings(alloc, anchor)?),
         WrittenItem::Block(heading, within) => {
             let block = block_items(alloc, policy, within)?;
             let headings = named_headings(alloc, unnamed, heading)?;
-            push_carried(alloc, items, headings, block)
+            push_carried(items, headings, block)
         }
     }
 }
 
 /// The rules of a block.
 #[cycle(values)]
-fn block_items(
-    alloc: Global,
-    policy: Policy,
-    items: &[WrittenItem],
-) -> Result<Vec<Item>, AllocError>
+fn block_items(alloc: Global, policy: Policy, items: &[WrittenItem]) -> Made<Vec<Item>>
     ensures { IfOk result (λ found. items_of found.items ≡ block_values policy 0 (item_texts_of items.now)) }
 {
     let mut found = Vec::new(alloc);
     let mut unnamed = 0u32;
     for item in items {
-        push_item(alloc, policy, unnamed, item, &mut found)?;
+        push_item(policy, unnamed, item, &mut found)?;
         unnamed = unnamed_after(unnamed, item);
     }
     Ok(found)
-}
-
-/// Why a written rule with a block is refused behind these rules, the lowest cause.
-fn block_cause(
-    alloc: Global,
-    before: &[Item],
-    item: &WrittenItem,
-) -> Result<Option<Cause>, AllocError>
-    ensures { IfOk result (λ cause. cause ≡ lowest (block_causes (items_of before.now) (item_text_of item.now))) }
-{
-    let judged = item_judged(item);
-    if judged.ports {
-        return Ok(Some(Cause::Ports));
-    }
-    if judged.combination {
-        return Ok(Some(Cause::NoCombination));
-    }
-    let misnamed = item_misnamed(alloc, unnamed_in(before), item)?;
-    if misnamed {
-        return Ok(Some(Cause::Reserved));
-    }
-    let twice = is_twice(alloc, before, item)?;
-    if twice {
-        return Ok(Some(Cause::Twice));
-    }
-    if judged.many || before.len().saturating_add(judged.rules) > MOST_RULES {
-        return Ok(Some(Cause::TooMany));
-    }
-    if judged.types {
-        return Ok(Some(Cause::IcmpType));
-    }
-    Ok(None)
 }
 
 /// The rules of an anchor rule with its block behind others, a plain `block` being the policy's, or the lowest cause
@@ -191,10 +139,13 @@ pub fn judge_block(
     ensures refused { IfOk result (λ judged. IfErr judged (λ cause.
         lowest (block_causes (items_of before.now) (item_text_of item.now)) ≡ Some cause)) }
 {
-    if let Some(cause) = block_cause(alloc, before, item)? {
+    let unnamed = unnamed_in(before);
+    let misnamed = item_misnamed(alloc, unnamed, item)?;
+    let twice = is_twice(alloc, before, item)?;
+    if let Some(cause) = item_judged(item).cause(before.len(), misnamed, twice) {
         return Ok(Err(cause));
     }
     let mut items = Vec::new(alloc);
-    push_item(alloc, policy, unnamed_in(before), item, &mut items)?;
+    push_item(policy, unnamed, item, &mut items)?;
     Ok(Ok(items))
 }

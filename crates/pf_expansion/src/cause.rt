@@ -2,6 +2,11 @@
 
 ghost use Rattle.std.specs.Prelude.{◌≡◌};
 
+use std::alloc::AllocError;
+
+/// What was made; the error is out of memory.
+pub(crate) type Made<T> = Result<T, AllocError>;
+
 /// What is wrong with a statement. The numbers are those of the refusals; where several hold the lowest counts, after
 /// the faults that come up while the statement is read.
 #[derive(Clone, Copy, Debug, PartialEq, Eq)]

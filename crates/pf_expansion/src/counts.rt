@@ -17,24 +17,16 @@ use pf_tokens::Listed;
 pub(crate) fn count_of<E: Drop>(list: &Option<Listed<E>>) -> usize
     ensures { result ≡ count_of (list_of list.now) }
 {
-    match list {
-        Some(list) => list.items.len(),
-        None => 1,
-    }
+    list.as_ref().map_or(1, |list| list.items.len())
 }
 
 /// Whether a combination with these hosts is of one family.
 fn is_of_one(text: &WrittenConditions, source: &Host, destination: &Host) -> bool
     ensures { result ≡ is_of_one (conditions_of text.now) source.now destination.now }
 {
-    let icmp = match &text.types {
-        Some(_) => Some(Some(Family::Inet)),
-        None => Some(None),
-    };
-    let hosts = with_family(
-        host_family(source),
-        with_family(host_family(destination), icmp),
-    );
+    let icmp = text.types.is_some().then_some(Family::Inet);
+    let hosts = with_family(host_family(destination), Some(icmp));
+    let hosts = with_family(host_family(source), hosts);
     with_family(text.common.family, hosts).is_some()
 }
 

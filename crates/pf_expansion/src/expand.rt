@@ -3,14 +3,15 @@
 ghost use Rattle.std.specs.Prelude.{◌≡◌, ◌++◌, OnOk, IfOk};
 ghost use Rattle.std.specs.Option.{option_copied};
 ghost use Rattle.pf_expansion.specs.inner.Chosen.{combination_of, given_by};
-ghost use Rattle.pf_expansion.specs.Expansion.{addresses_family, host_family, type_family, with_family, occurring};
-ghost use Rattle.pf_expansion.specs.Expansion.{families, number_in, test_in, type_in, conditions_with, conditions_at};
+ghost use Rattle.pf_expansion.specs.Expansion.{addresses_family, host_family, with_family, occurring};
+ghost use Rattle.pf_expansion.specs.Expansion.{families, conditions_with, conditions_at};
 ghost use Rattle.pf_expansion.specs.Expansion.{by_type, by_destination_port, by_destination, by_source_port, by_source};
 ghost use Rattle.pf_expansion.specs.Expansion.{by_protocol, by_interface, nothing_chosen, combined};
 ghost use Rattle.pf_statements.specs.ConditionsSeen.{conditions_of};
 
+use crate::cause::Made;
 use pf_addr::Family;
-use pf_rules::{Addresses, Conditions, FlagTest, Host, Interface, PortTest};
+use pf_rules::{Addresses, Conditions, FlagTest, Host, Interface};
 use pf_statements::{Protocol, WrittenConditions, WrittenPort, WrittenType};
 use std::alloc::{AllocError, Global};
 
@@ -45,89 +46,36 @@ pub(crate) fn host_family(host: &Host) -> Option<Family>
 {
     match host {
         Host::Any => None,
-        Host::In(set) => addresses_family(set),
-        Host::NotIn(set) => addresses_family(set),
-    }
-}
-
-/// The family of a rule with a type of ICMP.
-fn type_family(icmp_type: Option<WrittenType>) -> Option<Family>
-    ensures { result ≡ type_family icmp_type }
-{
-    match icmp_type {
-        Some(_) => Some(Family::Inet),
-        None => None,
+        Host::In(set) | Host::NotIn(set) => addresses_family(set),
     }
 }
 
 /// The family of this one and of others, none where two occur.
-pub(crate) fn with_family(
-    one: Option<Family>,
-    others: Option<Option<Family>>,
-) -> Option<Option<Family>>
+pub fn with_family(one: Option<Family>, others: Option<Option<Family>>) -> Option<Option<Family>>
     ensures { result ≡ with_family one others }
 {
-    match (one, others) {
-        (_, None) => None,
-        (None, Some(found)) => Some(found),
-        (Some(family), Some(None)) => Some(Some(family)),
-        (Some(Family::Inet), Some(Some(Family::Inet))) => Some(Some(Family::Inet)),
-        (Some(Family::Inet6), Some(Some(Family::Inet6))) => Some(Some(Family::Inet6)),
-        _ => None,
-    }
+    let found = others?;
+    (one.is_none() || found.is_none() || one == found).then_some(one.or(found))
 }
 
 /// The family that occurs in a combination, if one does; none where two do.
 fn occurring(chosen: &Chosen<'_>) -> Option<Option<Family>>
     ensures { result ≡ occurring (families (conditions_of chosen.now.text.now) (combination_of chosen.now)) }
 {
-    let icmp = with_family(type_family(chosen.icmp_type), Some(None));
-    let destination = with_family(host_family(chosen.destination), icmp);
+    let icmp = chosen.icmp_type.is_some().then_some(Family::Inet);
+    let destination = with_family(host_family(chosen.destination), Some(icmp));
     let source = with_family(host_family(chosen.source), destination);
     with_family(chosen.text.common.family, source)
-}
-
-/// The number of the protocol.
-fn number_in(protocol: Option<Protocol>) -> Option<u8>
-    ensures { result ≡ number_in protocol }
-{
-    match protocol {
-        Some(protocol) => Some(protocol.number),
-        None => None,
-    }
-}
-
-/// The test on ports.
-fn test_in(port: Option<WrittenPort>) -> Option<PortTest>
-    ensures { result ≡ test_in port }
-{
-    match port {
-        Some(port) => port.test,
-        None => None,
-    }
-}
-
-/// The number of the type of ICMP.
-fn type_in(icmp_type: Option<WrittenType>) -> Option<u8>
-    ensures { result ≡ type_in icmp_type }
-{
-    match icmp_type {
-        Some(icmp_type) => icmp_type.number,
-        None => None,
-    }
 }
 
 /// The interface once more.
 fn copied(interface: Option<&Interface>) -> Option<Interface>
     ensures { result ≡ option_copied interface.entry }
 {
-    match interface {
-        Some(interface) => Some(Interface {
-            negated: interface.negated,
-            name: interface.name.copied(),
-        }),
-        None => None,
-    }
+    let interface = interface?;
+    let negated = interface.negated;
+    let name = interface.name.copied();
+    Some(Interface { negated, name })
 }
 
 /// The addresses once more.
@@ -153,11 +101,7 @@ fn copied_host(alloc: Global, host: &Host) -> Result<Host, AllocError>
 }
 
 /// The conditions of what is chosen, in which this family occurs.
-fn conditions_with(
-    alloc: Global,
-    chosen: &Chosen<'_>,
-    family: Option<Family>,
-) -> Result<Conditions, AllocError>
+fn conditions_with(alloc: Global, chosen: &Chosen<'_>, family: Option<Family>) -> Made<Conditions>
     ensures { IfOk result (λ c. c ≡ conditions_with chosen.now.test (conditions_of chosen.now.text.now)
         (combination_of chosen.now) family) }
 {
@@ -165,13 +109,13 @@ fn conditions_with(
         direction: chosen.text.direction,
         interface: copied(chosen.interface),
         family,
-        protocol: number_in(chosen.protocol),
+        protocol: chosen.protocol.map(|protocol| protocol.number),
         source: copied_host(alloc, chosen.source)?,
-        source_port: test_in(chosen.source_port),
+        source_port: chosen.source_port.and_then(|port| port.test),
         destination: copied_host(alloc, chosen.destination)?,
-        destination_port: test_in(chosen.destination_port),
+        destination_port: chosen.destination_port.and_then(|port| port.test),
         flags: chosen.test,
-        icmp_type: type_in(chosen.icmp_type),
+        icmp_type: chosen.icmp_type.and_then(|found| found.number),
     })
 }
 
@@ -180,14 +124,11 @@ fn conditions_with(
 fn push_chosen(found: &mut Vec<Conditions>, chosen: &Chosen<'_>) -> Result<(), AllocError>
     ensures { OnOk result (found.new.items ≡ found.old.items ++ given_by conditions_at chosen.now) }
 {
-    match occurring(chosen) {
-        Some(family) => {
-            let conditions = conditions_with(*found.allocator(), chosen, family)?;
-            found.push(conditions)?;
-            Ok(())
-        }
-        None => Ok(()),
-    }
+    let Some(family) = occurring(chosen) else {
+        return Ok(());
+    };
+    let conditions = conditions_with(*found.allocator(), chosen, family)?;
+    Ok(found.push(conditions)?)
 }
 
 /// The conditions with each type of ICMP.
@@ -211,10 +152,7 @@ fn push_types(found: &mut Vec<Conditions>, chosen: &Chosen<'_>) -> Result<(), Al
 /// The conditions with each port of the destination.
 #[inline(always)]
 #[tactic(auto, unfolding(crate::specs::Expansion::by_destination_port))]
-fn push_destination_ports(
-    found: &mut Vec<Conditions>,
-    chosen: &Chosen<'_>,
-) -> Result<(), AllocError>
+fn push_destination_ports(found: &mut Vec<Conditions>, chosen: &Chosen<'_>) -> Made<()>
     ensures { OnOk result (found.new.items ≡ found.old.items ++ given_by by_destination_port chosen.now) }
 {
     let mut next = *chosen;
@@ -337,11 +275,7 @@ fn push_all<'a>(
 /// The conditions of all combinations, the interface outermost and the type of ICMP innermost (pf.conf(5), lists),
 /// where this is asked of the flags. A combination of two families gives none.
 #[tactic(auto, unfolding(crate::specs::Expansion::combined))]
-pub(crate) fn combined(
-    alloc: Global,
-    test: FlagTest,
-    text: &WrittenConditions,
-) -> Result<Vec<Conditions>, AllocError>
+pub fn combined(alloc: Global, test: FlagTest, text: &WrittenConditions) -> Made<Vec<Conditions>>
     ensures { IfOk result (λ found. found.items ≡ combined test (conditions_of text.now)) }
 {
     // Most rules have no list.

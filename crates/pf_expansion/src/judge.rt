@@ -1,19 +1,20 @@
 //! Why a written rule is refused, the lowest cause first.
 
-ghost use Rattle.std.specs.Prelude.{◌≡◌, ◌≤◌, ◌+◌, ◌*◌, ◌-◌, ◌^◌, length, min, IfOk, IfErr};
+ghost use Rattle.std.specs.Prelude.{◌≡◌, ◌≤◌, ◌+◌, length, IfOk, IfErr};
 ghost use Rattle.std.specs.Prelude.{None, Some};
 ghost use Rattle.std.specs.List.{list_any, list_all};
 ghost use Rattle.pf_expansion.specs.Causes.{is_bad_port, has_ports, is_bad_type, is_icmp, any_listed, all_listed};
-ghost use Rattle.pf_expansion.specs.Causes.{is_deep, is_deep_list, names_ports, bad_ports, is_too_wide, has_deep_list};
+ghost use Rattle.pf_expansion.specs.Causes.{is_deep, is_deep_list, bad_ports, is_too_wide, has_deep_list};
 ghost use Rattle.pf_expansion.specs.Causes.{bad_types, lowest, condition_causes};
-ghost use Rattle.pf_expansion.specs.Expansion.{combinations, combined};
+ghost use Rattle.pf_expansion.specs.Expansion.{combined};
 ghost use Rattle.pf_statements.specs.ConditionsSeen.{list_of, conditions_of};
 ghost use Rattle.pf_tokens.specs.Lists.{elements_of};
 ghost use Rattle.pf_expansion.specs.declared.judge.TheConstants.{MOST_RULES};
 
 use crate::cause::Cause;
-use crate::counts::{count_combined, count_of};
+use crate::counts::count_of;
 use crate::expand::combined;
+use crate::judged::conditions_judged;
 use pf_rules::{Conditions, FlagTest};
 use pf_statements::{Protocol, WrittenConditions, WrittenPort, WrittenType};
 use pf_tokens::Listed;
@@ -26,7 +27,7 @@ const MOST_COMBINATIONS: usize = 65_536;
 const MOST_NESTED: u64 = 8;
 
 /// The most rules that a ruleset may give.
-const MOST_RULES: usize = 1_024;
+pub(crate) const MOST_RULES: usize = 1_024;
 
 /// The number of tcp.
 const TCP: u8 = 6;
@@ -37,59 +38,32 @@ const UDP: u8 = 17;
 /// The number of icmp.
 const ICMP: u8 = 1;
 
-/// Whether the port is neither number nor name.
-fn is_bad_port(port: &WrittenPort) -> bool
-    ensures { result ≡ is_bad_port port.now }
-{
-    port.test.is_none()
-}
-
 /// Whether one of the ports is neither number nor name.
 fn any_bad_port(ports: &[WrittenPort]) -> bool
     ensures { result ≡ list_any is_bad_port ports.now }
 {
-    ports.iter().any(|port| is_bad_port(port))
+    ports.iter().any(|port| port.test.is_none())
 }
 
 /// Whether a port in the list is neither number nor name.
 fn has_bad_port(ports: &Option<Listed<WrittenPort>>) -> bool
     ensures { result ≡ any_listed is_bad_port (list_of ports.now) }
 {
-    match ports {
-        Some(list) => any_bad_port(&list.items),
-        None => false,
-    }
-}
-
-/// Whether the protocol has ports.
-fn has_ports(protocol: &Protocol) -> bool
-    ensures { result ≡ has_ports protocol.now }
-{
-    protocol.number == TCP || protocol.number == UDP
+    ports.as_ref().is_some_and(|list| any_bad_port(&list.items))
 }
 
 /// Whether each of the protocols has ports.
-fn each_has_ports(protocols: &[Protocol]) -> bool
+fn have_ports(protocols: &[Protocol]) -> bool
     ensures { result ≡ list_all has_ports protocols.now }
 {
-    protocols.iter().all(|protocol| has_ports(protocol))
+    protocols.iter().all(|protocol| protocol.number == TCP || protocol.number == UDP)
 }
 
 /// Whether there is a list of protocols, and all have ports.
-fn all_have_ports(protocols: &Option<Listed<Protocol>>) -> bool
-    ensures { result ≡ all_listed has_ports (list_of protocols.now) }
+fn all_have_ports(list: &Option<Listed<Protocol>>) -> bool
+    ensures { result ≡ all_listed has_ports (list_of list.now) }
 {
-    match protocols {
-        Some(list) => each_has_ports(&list.items),
-        None => false,
-    }
-}
-
-/// Whether ports are written at either end.
-fn names_ports(text: &WrittenConditions) -> bool
-    ensures { result ≡ names_ports (conditions_of text.now) }
-{
-    text.common.source.ports.is_some() || text.common.destination.ports.is_some()
+    list.as_ref().is_some_and(|list| have_ports(&list.items))
 }
 
 /// Whether a port is neither number nor name, or the protocols don't all have ports.
@@ -97,31 +71,26 @@ fn names_ports(text: &WrittenConditions) -> bool
 pub(crate) fn bad_ports(text: &WrittenConditions) -> bool
     ensures { result ≡ bad_ports (conditions_of text.now) }
 {
-    has_bad_port(&text.common.source.ports)
-        || has_bad_port(&text.common.destination.ports)
-        || (names_ports(text) && !all_have_ports(&text.common.protocols))
+    let source = &text.common.source.ports;
+    let destination = &text.common.destination.ports;
+    has_bad_port(source)
+        || has_bad_port(destination)
+        || ((source.is_some() || destination.is_some()) && !all_have_ports(&text.common.protocols))
 }
 
-/// How many combinations there are, the greatest number of the type where they are more.
-#[tactic(auto, using(crate::proofs::Products::capped), unfolding(crate::specs::Expansion::combinations))]
-fn combinations(text: &WrittenConditions) -> usize
-    ensures { result ≡ min (combinations (conditions_of text.now)) (2 ^ 64 - 1) }
+/// Whether the lists have more combinations than there may be, counted up to the greatest number of the type.
+#[tactic(auto, using(crate::proofs::Products::capped, crate::proofs::Products::below_cap), unfolding(crate::specs::Causes::is_too_wide, crate::specs::Expansion::combinations))]
+pub(crate) fn is_too_wide(text: &WrittenConditions) -> bool
+    ensures { result ≡ is_too_wide (conditions_of text.now) }
 {
-    count_of(&text.common.interfaces)
+    let combinations = count_of(&text.common.interfaces)
         .saturating_mul(count_of(&text.common.protocols))
         .saturating_mul(text.common.source.hosts.items.len())
         .saturating_mul(count_of(&text.common.source.ports))
         .saturating_mul(text.common.destination.hosts.items.len())
         .saturating_mul(count_of(&text.common.destination.ports))
-        .saturating_mul(count_of(&text.types))
-}
-
-/// Whether the lists have more combinations than there may be.
-#[tactic(auto, using(crate::proofs::Products::below_cap), unfolding(crate::specs::Causes::is_too_wide))]
-pub(crate) fn is_too_wide(text: &WrittenConditions) -> bool
-    ensures { result ≡ is_too_wide (conditions_of text.now) }
-{
-    combinations(text) > MOST_COMBINATIONS
+        .saturating_mul(count_of(&text.types));
+    combinations > MOST_COMBINATIONS
 }
 
 /// Whether too many lists are in one another.
@@ -135,10 +104,7 @@ pub fn is_deep<E: Drop>(list: &Listed<E>) -> bool
 fn is_deep_list<E: Drop>(list: &Option<Listed<E>>) -> bool
     ensures { result ≡ is_deep_list (list_of list.now) }
 {
-    match list {
-        Some(list) => is_deep(list),
-        None => false,
-    }
+    list.as_ref().is_some_and(|list| is_deep(list))
 }
 
 /// Whether too many lists are in one another anywhere in the rule.
@@ -155,52 +121,32 @@ pub(crate) fn has_deep_list(text: &WrittenConditions) -> bool
         || is_deep_list(&text.types)
 }
 
-/// Whether the type is neither number nor name.
-fn is_bad_type(icmp_type: &WrittenType) -> bool
-    ensures { result ≡ is_bad_type icmp_type.now }
-{
-    icmp_type.number.is_none()
-}
-
 /// Whether one of the types is neither number nor name.
 fn any_bad_type(types: &[WrittenType]) -> bool
     ensures { result ≡ list_any is_bad_type types.now }
 {
-    types.iter().any(|icmp_type| is_bad_type(icmp_type))
+    types.iter().any(|icmp_type| icmp_type.number.is_none())
 }
 
 /// Whether a type in the list is neither number nor name.
 fn has_bad_type(types: &Option<Listed<WrittenType>>) -> bool
     ensures { result ≡ any_listed is_bad_type (list_of types.now) }
 {
-    match types {
-        Some(list) => any_bad_type(&list.items),
-        None => false,
-    }
-}
-
-/// Whether the protocol is icmp.
-fn is_icmp(protocol: &Protocol) -> bool
-    ensures { result ≡ is_icmp protocol.now }
-{
-    protocol.number == ICMP
+    types.as_ref().is_some_and(|list| any_bad_type(&list.items))
 }
 
 /// Whether each of the protocols is icmp.
-fn each_is_icmp(protocols: &[Protocol]) -> bool
+fn are_icmp(protocols: &[Protocol]) -> bool
     ensures { result ≡ list_all is_icmp protocols.now }
 {
-    protocols.iter().all(|protocol| is_icmp(protocol))
+    protocols.iter().all(|protocol| protocol.number == ICMP)
 }
 
 /// Whether there is a list of protocols, and all are icmp.
-fn all_are_icmp(protocols: &Option<Listed<Protocol>>) -> bool
-    ensures { result ≡ all_listed is_icmp (list_of protocols.now) }
+fn all_are_icmp(list: &Option<Listed<Protocol>>) -> bool
+    ensures { result ≡ all_listed is_icmp (list_of list.now) }
 {
-    match protocols {
-        Some(list) => each_is_icmp(&list.items),
-        None => false,
-    }
+    list.as_ref().is_some_and(|list| are_icmp(&list.items))
 }
 
 /// Whether a type is neither number nor name, or the protocols aren't all icmp.
@@ -213,7 +159,6 @@ pub(crate) fn bad_types(text: &WrittenConditions) -> bool
 
 /// The conditions of all combinations behind that many rules, or the lowest cause that refuses them, where a name is
 /// reserved or not.
-#[tactic(auto, using(crate::proofs::Capped::empty_is), unfolding(crate::specs::Causes::has_no_combination, crate::specs::Causes::has_too_many))]
 pub(crate) fn judge_conditions(
     alloc: Global,
     test: FlagTest,
@@ -230,29 +175,8 @@ pub(crate) fn judge_conditions(
         IfErr judged (λ cause. lowest (condition_causes test before reserved (conditions_of text.now)) ≡
         Some cause)) }
 {
-    if bad_ports(text) {
-        return Ok(Err(Cause::Ports));
+    if let Some(cause) = conditions_judged(text).cause(before, reserved, false) {
+        return Ok(Err(cause));
     }
-    if is_too_wide(text) {
-        return Ok(Err(if reserved {
-            Cause::Reserved
-        } else {
-            Cause::TooMany
-        }));
-    }
-    let count = count_combined(text);
-    if count == 0 {
-        return Ok(Err(Cause::NoCombination));
-    }
-    if reserved {
-        return Ok(Err(Cause::Reserved));
-    }
-    if has_deep_list(text) || before.saturating_add(count) > MOST_RULES {
-        return Ok(Err(Cause::TooMany));
-    }
-    if bad_types(text) {
-        return Ok(Err(Cause::IcmpType));
-    }
-    let found = combined(alloc, test, text)?;
-    Ok(Ok(found))
+    Ok(Ok(combined(alloc, test, text)?))
 }

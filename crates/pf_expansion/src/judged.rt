@@ -6,16 +6,19 @@ ghost use Rattle.pf_statements.specs.ConditionsSeen.{conditions_of};
 ghost use Rattle.pf_statements.specs.Seen.{item_text_of, item_texts_of};
 ghost use Rattle.pf_expansion.specs.Blocks.{both, conditions_judged, item_judged, block_judged, nothing_wrong};
 ghost use Rattle.pf_expansion.specs.Blocks.{rule_count, ruleset_judged};
+ghost use Rattle.pf_expansion.specs.Causes.{lowest};
+ghost use Rattle.pf_expansion.specs.inner.Judged.{judged_causes};
 
+use crate::cause::Cause;
 use crate::counts::count_combined;
-use crate::judge::{bad_ports, bad_types, has_deep_list, is_too_wide};
+use crate::judge::{MOST_RULES, bad_ports, bad_types, has_deep_list, is_too_wide};
 use pf_statements::{WrittenConditions, WrittenItem};
 
 /// One rule more than a ruleset may have.
 const TOO_MANY_RULES: usize = 1_025;
 
 /// What is wrong with rules, and how many they give, of which no more than 1,025 are distinguished.
-#[derive(Clone, Copy, PartialEq, Eq)]
+#[derive(Clone, Copy, PartialEq, Eq, Default)]
 pub struct Judged {
     /// A port is no port, or is in a rule without protocols that have ports.
     pub ports: bool,
@@ -30,19 +33,6 @@ pub struct Judged {
 }
 
 impl Judged {
-    /// Of no rule.
-    fn nothing() -> Judged
-        ensures { result ≡ nothing_wrong }
-    {
-        Judged {
-            ports: false,
-            combination: false,
-            many: false,
-            types: false,
-            rules: 0,
-        }
-    }
-
     /// What is wrong with either.
     #[tactic(auto, using(crate::proofs::Capped::twice_capped))]
     fn and(self, other: Judged) -> Judged
@@ -57,17 +47,30 @@ impl Judged {
         }
     }
 
+    /// The lowest cause that refuses what is judged behind that many rules, where a name is reserved or not, and a path
+    /// comes again or not.
+    #[tactic(auto, using(crate::proofs::Capped::first_chosen, crate::proofs::Products::below_cap))]
+    pub(crate) fn cause(self, before: usize, reserved: bool, twice: bool) -> Option<Cause>
+        ensures { result ≡ lowest (judged_causes self before reserved twice) }
+    {
+        let many = self.many || before.saturating_add(self.rules) > MOST_RULES;
+        self.ports
+            .then_some(Cause::Ports)
+            .or(self.combination.then_some(Cause::NoCombination))
+            .or(reserved.then_some(Cause::Reserved))
+            .or(twice.then_some(Cause::Twice))
+            .or(many.then_some(Cause::TooMany))
+            .or(self.types.then_some(Cause::IcmpType))
+    }
+
     /// The same of a ruleset of its own.
     fn of_ruleset(self) -> Judged
         ensures { result ≡ ruleset_judged self }
     {
-        Judged {
-            ports: self.ports,
-            combination: self.combination,
-            many: self.many || self.rules >= TOO_MANY_RULES,
-            types: self.types,
-            rules: 0,
-        }
+        let mut judged = self;
+        judged.many = self.many || self.rules >= TOO_MANY_RULES;
+        judged.rules = 0;
+        judged
     }
 }
 
@@ -84,7 +87,7 @@ fn rule_count(text: &WrittenConditions) -> usize
 
 /// What is wrong with the conditions of a rule, whatever is asked of the flags.
 #[tactic(auto, unfolding(crate::specs::Blocks::conditions_judged), using(crate::proofs::Capped::none_counted))]
-fn conditions_judged(text: &WrittenConditions) -> Judged
+pub(crate) fn conditions_judged(text: &WrittenConditions) -> Judged
     ensures { (test : FlagTest) → result ≡ conditions_judged test (conditions_of text.now) }
 {
     let rules = rule_count(text);
@@ -106,8 +109,7 @@ pub(crate) fn item_judged(item: &WrittenItem) -> Judged
         WrittenItem::Rule(rule) => conditions_judged(&rule.conditions),
         WrittenItem::Anchor(anchor) => conditions_judged(&anchor.conditions),
         WrittenItem::Block(heading, items) => {
-            let own = conditions_judged(&heading.conditions);
-            own.and(items_judged(items).of_ruleset())
+            conditions_judged(&heading.conditions).and(items_judged(items).of_ruleset())
         }
     }
 }
@@ -117,7 +119,7 @@ pub(crate) fn item_judged(item: &WrittenItem) -> Judged
 fn items_judged(items: &[WrittenItem]) -> Judged
     ensures { result ≡ block_judged nothing_wrong (item_texts_of items.now) }
 {
-    let mut judged = Judged::nothing();
+    let mut judged = Judged::default();
     for item in items {
         judged = judged.and(item_judged(item));
     }

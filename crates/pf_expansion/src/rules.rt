@@ -6,7 +6,7 @@ ghost use Rattle.pf_expansion.specs.Expansion.{resolved, keeps_state, tested_fla
 ghost use Rattle.pf_statements.specs.Seen.{text_of};
 ghost use Rattle.pf_expansion.specs.declared.judge.TheConstants.{MOST_RULES};
 
-use crate::cause::Cause;
+use crate::cause::{Cause, Made};
 use crate::judge::judge_conditions;
 use pf_rules::{Action, Conditions, FlagTest, Policy, Rule};
 use pf_statements::{WrittenAction, WrittenRule};
@@ -29,11 +29,7 @@ fn resolved(policy: Policy, action: WrittenAction) -> Action
 fn keeps_state(action: WrittenAction, state: Option<bool>) -> bool
     ensures { result ≡ keeps_state action state }
 {
-    match (action, state) {
-        (WrittenAction::Block(_), _) => false,
-        (WrittenAction::Pass, None) => true,
-        (WrittenAction::Pass, Some(keep)) => keep,
-    }
+    matches!(action, WrittenAction::Pass) && state.unwrap_or(true)
 }
 
 /// The flags that are asked for.
@@ -54,31 +50,19 @@ pub(crate) fn rule_flags(text: &WrittenRule) -> FlagTest
     tested_flags(keeps_state(text.action, text.state), text.conditions.flags)
 }
 
-/// The rule with these conditions.
-fn rule_with(policy: Policy, text: &WrittenRule, conditions: Conditions) -> Rule
-    ensures { result ≡ rule_with policy (text_of text.now) conditions }
-{
-    Rule {
-        action: resolved(policy, text.action),
-        quick: text.quick,
-        conditions,
-        keeps_state: keeps_state(text.action, text.state),
-    }
-}
-
 /// The rules with these conditions.
 #[inline(always)]
-pub(crate) fn rules_with(
-    alloc: Global,
-    policy: Policy,
-    text: &WrittenRule,
-    found: Vec<Conditions>,
-) -> Result<Vec<Rule>, AllocError>
+pub fn rules_with(policy: Policy, text: &WrittenRule, found: Vec<Conditions>) -> Made<Vec<Rule>>
     ensures { IfOk result (λ rules. rules.items ≡ map (rule_with policy (text_of text.now)) found.items) }
 {
-    let mut rules = Vec::with_capacity(alloc, found.len())?;
+    let mut rules = Vec::with_capacity(*found.allocator(), found.len())?;
     for conditions in found {
-        rules.push(rule_with(policy, text, conditions))?;
+        rules.push(Rule {
+            action: resolved(policy, text.action),
+            quick: text.quick,
+            conditions,
+            keeps_state: keeps_state(text.action, text.state),
+        })?;
     }
     Ok(rules)
 }
@@ -101,7 +85,7 @@ pub fn judge_rule(
         Some cause)) }
 {
     match judge_conditions(alloc, rule_flags(text), before, false, &text.conditions)? {
-        Ok(found) => Ok(Ok(rules_with(alloc, policy, text, found)?)),
+        Ok(found) => Ok(Ok(rules_with(policy, text, found)?)),
         Err(cause) => Ok(Err(cause)),
     }
 }

@@ -1,27 +1,36 @@
 //! Tables that a ruleset defines.
 
-ghost use Rattle.std.specs.Prelude.{◌≡◌, option_map, IfOk, IfErr, OnOk, None, Some};
+ghost use Rattle.std.specs.Prelude.{◌≡◌, option_map, IfOk, IfErr, OnOk, None, Some, false, true};
 ghost use Rattle.pf_rules.specs.Rulesets.{table_of};
 ghost use Rattle.pf_statements.specs.Seen.{table_text_of};
+ghost use Rattle.pf_statements.specs.ConditionsSeen.{list_of};
+ghost use Rattle.pf_expansion.specs.declared.cause.Cause.TheVariants.{TooMany};
 ghost use Rattle.pf_expansion.specs.Causes.{lowest};
 ghost use Rattle.pf_expansion.specs.Defined.{tables_of};
-ghost use Rattle.pf_expansion.specs.Tables.{table_causes, table_value, with_first};
+ghost use Rattle.pf_expansion.specs.Tables.{first_of_each, is_too_long, table_causes, table_value, with_first};
 ghost use Rattle.pf_expansion.specs.inner.Tables.{AreKeys, kept, key_of};
 
-use crate::cause::Cause;
+use crate::cause::{Cause, Made};
 use crate::defined_tables::DefinedTables;
 use crate::judge::is_deep;
 use pf_addr::{Addr, Prefix};
 use pf_rules::{TableDef, TableEntry};
 use pf_statements::WrittenTable;
+use pf_tokens::Listed;
 use std::alloc::{AllocError, Global};
 use std::collections::BTreeSet;
 
 /// The most different prefixes that a table may have.
 const MOST_ENTRIES: usize = 4_096;
 
-/// The prefix as numbers: the version of IP, the length, and the address.
-fn key_of(prefix: &Prefix) -> (u8, (u8, u128))
+/// The entries of a table, if they are listed.
+type Entries = Option<Vec<TableEntry>>;
+
+/// A prefix as numbers: the version of IP, the length, and the address.
+type Key = (u8, (u8, u128));
+
+/// The prefix as numbers.
+fn key_of(prefix: &Prefix) -> Key
     ensures { result ≡ key_of prefix.now }
 {
     match prefix.base() {
@@ -31,30 +40,20 @@ fn key_of(prefix: &Prefix) -> (u8, (u8, u128))
 }
 
 /// Appends the entry to those that were found, whose prefixes these are, unless its prefix is among them.
-fn push_first(
-    found: &mut Vec<TableEntry>,
-    prefixes: &mut BTreeSet<(u8, (u8, u128))>,
-    entry: &TableEntry,
-) -> Result<(), AllocError>
-    requires { AreKeys prefixes.old found.old.items }
-    ensures prefixes { OnOk result (AreKeys prefixes.new found.new.items) }
+fn push_first(found: &mut Vec<TableEntry>, keys: &mut BTreeSet<Key>, entry: &TableEntry) -> Made<()>
+    requires { AreKeys keys.old found.old.items }
+    ensures prefixes { OnOk result (AreKeys keys.new found.new.items) }
     ensures found { OnOk result (found.new.items ≡ with_first found.old.items entry.now) }
 {
-    match prefixes.insert(key_of(&entry.prefix)) {
-        Ok(true) => {
-            found.push(*entry)?;
-            Ok(())
-        }
+    match keys.insert(key_of(&entry.prefix)) {
+        Ok(true) => Ok(found.push(*entry)?),
         Ok(false) => Ok(()),
         Err(_) => Err(AllocError),
     }
 }
 
 /// The first entry of each prefix, none where they are too many.
-fn kept_entries(
-    alloc: Global,
-    entries: &[TableEntry],
-) -> Result<Option<Vec<TableEntry>>, AllocError>
+fn kept_entries(alloc: Global, entries: &[TableEntry]) -> Made<Option<Vec<TableEntry>>>
     ensures { IfOk result (λ found. option_map (λ v. v.items) found ≡ kept entries.now) }
 {
     let mut found = Vec::new(alloc);
@@ -66,6 +65,23 @@ fn kept_entries(
         }
     }
     Ok(Some(found))
+}
+
+/// The first entry of each prefix in the list, if there is one, or the cause that refuses it.
+fn listed_entries(alloc: Global, list: &Option<Listed<TableEntry>>) -> Made<Result<Entries, Cause>>
+    ensures kept { IfOk result (λ judged. IfOk judged (λ found. (is_too_long (list_of list.now) ≡ false) ×
+        (option_map (λ v. v.items) found ≡ option_map (λ l. first_of_each l.items) (list_of list.now)))) }
+    ensures refused { IfOk result (λ judged. IfErr judged (λ cause. (is_too_long (list_of list.now) ≡ true) ×
+        (cause ≡ TooMany))) }
+{
+    let Some(list) = list else {
+        return Ok(Ok(None));
+    };
+    if is_deep(list) {
+        return Ok(Err(Cause::TooMany));
+    }
+    let found = kept_entries(alloc, &list.items)?;
+    Ok(found.ok_or(Cause::TooMany).map(|found| Some(found)))
 }
 
 /// The table of a statement behind others, with the first entry of each prefix, or the lowest cause that refuses it
@@ -86,30 +102,13 @@ pub fn judge_table(
     if tables.is_defined(&text.name) {
         return Ok(Err(Cause::Twice));
     }
-    let WrittenTable {
-        name,
-        persist,
-        is_const,
-        entries,
-    } = text;
-    let Some(list) = entries else {
-        return Ok(Ok(TableDef {
-            name,
-            persist,
-            is_const,
-            entries: None,
-        }));
-    };
-    if is_deep(&list) {
-        return Ok(Err(Cause::TooMany));
-    }
-    match kept_entries(alloc, &list.items)? {
-        Some(kept) => Ok(Ok(TableDef {
-            name,
-            persist,
-            is_const,
-            entries: Some(kept),
+    match listed_entries(alloc, &text.entries)? {
+        Ok(entries) => Ok(Ok(TableDef {
+            name: text.name,
+            persist: text.persist,
+            is_const: text.is_const,
+            entries,
         })),
-        None => Ok(Err(Cause::TooMany)),
+        Err(cause) => Ok(Err(cause)),
     }
 }

@@ -9,21 +9,15 @@ use pf_rules::{AnchorHeading, InterfaceName, Item, Policy, Rule, TableDef};
 use pf_tokens::{Macro, Macros};
 use std::alloc::{AllocError, Global};
 
-/// The ruleset that the statements so far give.
-#[derive(Drop)]
-pub(crate) struct GatheredRuleset {
-    pub(crate) skip: Vec<InterfaceName>,
-    pub(crate) tables: DefinedTables,
-    pub(crate) items: Vec<Item>,
-}
-
 /// What the statements so far give: what is the text's alone, and the ruleset.
 #[derive(Drop)]
 pub(crate) struct Gathered {
     pub(crate) macros: Macros,
     /// What a plain `block` does.
     pub(crate) policy: Policy,
-    pub(crate) content: GatheredRuleset,
+    pub(crate) skip: Vec<InterfaceName>,
+    pub(crate) tables: DefinedTables,
+    pub(crate) items: Vec<Item>,
 }
 
 /// What a statement that isn't refused changes.
@@ -53,11 +47,9 @@ impl Gathered {
         Gathered {
             macros: Macros::new(alloc),
             policy: Policy::Drop,
-            content: GatheredRuleset {
-                skip: Vec::new(alloc),
-                tables: DefinedTables::new(alloc),
-                items: Vec::new(alloc),
-            },
+            skip: Vec::new(alloc),
+            tables: DefinedTables::new(alloc),
+            items: Vec::new(alloc),
         }
     }
 
@@ -69,11 +61,11 @@ impl Gathered {
         match change {
             Change::Defines(made) => self.macros.push(alloc, made)?,
             Change::Sets(policy) => self.policy = policy,
-            Change::Skips(mut names) => self.content.skip.append(&mut names)?,
-            Change::Tables(table) => self.content.tables.push(alloc, table)?,
-            Change::Adds(rules) => push_rules(&mut self.content.items, rules)?,
-            Change::AddsAnchors(headings) => push_anchors(&mut self.content.items, headings)?,
-            Change::AddsItems(mut items) => self.content.items.append(&mut items)?,
+            Change::Skips(mut names) => self.skip.append(&mut names)?,
+            Change::Tables(table) => self.tables.push(alloc, table)?,
+            Change::Adds(rules) => push_rules(&mut self.items, rules)?,
+            Change::AddsAnchors(headings) => push_anchors(&mut self.items, headings)?,
+            Change::AddsItems(mut items) => self.items.append(&mut items)?,
         }
         Ok(())
     }

@@ -8,8 +8,8 @@
 //! - Of the layers below: [`show`] and [`show_items`] write a ruleset or its rules in one form; [`Rule`] and the types
 //!   of its parts; [`reads_the_grammar`], a statement is read exactly as the grammar spells it.
 //!
-//! Within: `reading` goes from statement to statement, `gathered` has what those so far give, `settings` why a `set` is
-//! refused, `fault` why a source is.
+//! Within: `reading` goes from statement to statement, `gathered` has what those so far give, `fault` why a source is
+//! refused.
 //!
 //! # Why
 //!
@@ -47,7 +47,6 @@ mod gathered;
 mod laws;
 mod place;
 mod reading;
-mod settings;
 
 pub use fault::{ParseFault, Refusal};
 pub use laws::reading_again;

@@ -17,17 +17,18 @@
 -- - `strip_prefix("!")` has the simpler clause than `strip_prefix('!')`.
 -- - Scripts: the definition goes line by line with what waits as an argument; the loop carries `out ++ printed_from config
 --   waiting (lines left)`.
--- - Lists in order: the definition puts one element after the other in its place, the code merges halves. One law for any
---   order (`Merging`): what is put into a merged list could be put into the second list before, by cases of three
---   comparisons, without that either list is in order. Of two elements that tie the first list's stands and both lists go
---   on; where none may go, the order is strict (`strict`).
+-- - Lists in order: the definition puts one element after the other in its place, the code sorts. Two lists in order are
+--   one where they hold the same, which both do: lines, each once (`SortedLines`), by whether a line is in the list, which
+--   `dedup` and a permutation keep; entries (`SortedEntries`) by the entries that tie with one, which a stable sort keeps
+--   and of which a table has one at most.
 --
 -- Traps: a struct and a function whose names differ in case only (`Applied`, `applied`) are refused; a module may not have
 -- the name of a function that lib.rt hands out (`apply`, `ctl`); an empty slice as one arm of a `match` inside a struct
 -- isn't covered: choose in a function; `Vec` and `String` have their allocator as a last argument in antt; a function in a
 -- `where` can't use one behind it.
 pub mod LinesCut
-pub mod Merging
+pub mod SortedEntries
+pub mod SortedLines
 pub mod Listed
 pub mod Acted
 pub mod Rows

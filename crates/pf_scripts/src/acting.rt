@@ -16,10 +16,10 @@ use crate::printing::Printed;
 use crate::reading::read_matches;
 use crate::words_read::WordsRead;
 use clap::ArgMatches;
-use pf_arguments::{Command, CommandView, EncodeFault, Entry, decode, encode};
+use pf_arguments::{Command, CommandView, EncodeFault, decode};
 use pf_command::{Applied, ApplyFault, apply};
 use pf_config::Config;
-use pf_entry::BadEntry;
+use pf_entry::{BadEntry, encode_asked};
 use std::alloc::{AllocError, Global};
 
 /// Whether a command's counts are printed: it changes one table.
@@ -27,14 +27,11 @@ pub fn is_counted(command: &CommandView) -> bool
     ensures { result ≡ is_counted (command_of command.now) }
 {
     match command {
-        CommandView::Load { .. } => false,
-        CommandView::FlushRules { .. } => false,
-        CommandView::FlushTables { .. } => false,
-        CommandView::FlushAll { .. } => false,
-        CommandView::Add { .. } => true,
-        CommandView::Delete { .. } => true,
-        CommandView::Replace { .. } => true,
-        CommandView::FlushTable { .. } => true,
+        CommandView::Load { .. }
+        | CommandView::FlushRules { .. }
+        | CommandView::FlushTables { .. }
+        | CommandView::FlushAll { .. } => false,
+        _ => true,
     }
 }
 
@@ -50,15 +47,6 @@ pub fn push_counts(out: &mut String, counts: bool, applied: Applied) -> Result<(
     }
 }
 
-/// What is printed of a change that was made.
-fn made(alloc: Global, counts: bool, applied: Applied) -> Result<Printed, AllocError>
-    ensures { IfOk result (λ p. printed_value p ≡ Lines (counts_line counts applied.added applied.removed)) }
-{
-    let mut line = String::new(alloc);
-    push_counts(&mut line, counts, applied)?;
-    Ok(Printed::Lines(line))
-}
-
 /// Applies a command as it is in an entry's bytes.
 #[tactic(auto, using(crate::proofs::Acted::applied_does, crate::proofs::Acted::refused_does))]
 fn run_view(
@@ -71,7 +59,11 @@ fn run_view(
         config.new (printed_value p)) }
 {
     match apply(alloc, config, command) {
-        Ok(applied) => made(alloc, is_counted(command), applied),
+        Ok(applied) => {
+            let mut line = String::new(alloc);
+            push_counts(&mut line, is_counted(command), applied)?;
+            Ok(Printed::Lines(line))
+        }
         Err(ApplyFault::Memory) => Err(AllocError),
         Err(ApplyFault::Refused(code, at)) => Ok(Printed::Refused(code, at)),
     }
@@ -84,12 +76,7 @@ fn run_change(alloc: Global, config: &mut Config, command: Command) -> Result<Pr
         (change_printed (is_counted (command_value command)) (effect config.old (command_value command))))
         config.new (printed_value p)) }
 {
-    let entry = Entry {
-        origin: 0,
-        number: 0,
-        command,
-    };
-    let bytes = match encode(alloc, &entry) {
+    let bytes = match encode_asked(alloc, 0, 0, &command) {
         Ok(bytes) => bytes,
         Err(EncodeFault::Memory) => return Err(AllocError),
         Err(EncodeFault::TooLong) => unreachable!(),

@@ -9,9 +9,9 @@
 //!   after a line of pfctl's arguments, [`matches_in`], [`file_in`] and [`is_standard`] of those arguments;
 //!   [`push_line`], [`push_counts`], [`push_refusal`] and [`test_packet`] print.
 //!
-//! Within: `lines` cuts scripts and lines, `order` and `listing` are what is listed, `pfctl` is a line of pfctl's
-//! arguments as `clap` reads it, `reading` what it asks for, a value of `words_read`, `acting` what it does, `stepping`
-//! a line of a script, `waiting` one whose ruleset follows, `running` all of them, `printing` what they print.
+//! Within: `lines` cuts scripts and lines, `listing` is what is listed, `pfctl` a line of pfctl's arguments as `clap`
+//! reads it, `reading` what it asks for, a value of `words_read`, `acting` what it does, `stepping` a line of a script,
+//! `waiting` one whose ruleset follows, `running` all of them, `printing` what they print.
 //!
 //! # Why
 //!
@@ -30,7 +30,6 @@
 mod acting;
 mod lines;
 mod listing;
-mod order;
 mod pfctl;
 mod printing;
 mod reading;

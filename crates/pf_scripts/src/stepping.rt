@@ -72,14 +72,12 @@ fn run_line<'a>(
     };
     match words.as_slice() {
         [] => Ok(None),
-        [first, rest @ ..] => {
-            if *first == "pfctl" {
-                return run_pfctl(alloc, config, words, out);
-            }
-            if *first == "test" {
-                out.push(test_packet(alloc, config, rest)?)?;
-                return Ok(None);
-            }
+        [first, ..] if *first == "pfctl" => run_pfctl(alloc, config, words, out),
+        [first, rest @ ..] if *first == "test" => {
+            out.push(test_packet(alloc, config, rest)?)?;
+            Ok(None)
+        }
+        [_, ..] => {
             out.push(Printed::Refused(USAGE, 0))?;
             Ok(None)
         }

@@ -11,13 +11,21 @@ use Rattle.pf_tokens.specs.Tokens.{Token, Mark, is_newline}
 use Rattle.pf_tokens.specs.Productions.{Read, ◌>>=◌, begins, begins_symbol, option_at, symbol_at, starts, accepted_if}
 use Rattle.pf_tokens.specs.inner.Shorter.{begins_shorter, symbol_shorter}
 use Rattle.pf_tokens.specs.Parsing.{Parses}
+use Rattle.pf_statements.specs.declared.written.WrittenHeading.{WrittenHeading}
 use Rattle.pf_statements.specs.declared.written.WrittenItem.{WrittenItem}
+use Rattle.pf_statements.specs.declared.written.WrittenItem.TheVariants.{Block, rolls-Block}
+use Rattle.pf_statements.specs.declared.written.WrittenItem.TheOpen.{WrittenItem-F}
+use Rattle.pf_statements.specs.declared.written.WrittenItem.TheFolds.{fold-roll-WrittenItem}
 use Rattle.pf_statements.specs.Options.{is_over}
 use Rattle.pf_statements.specs.Anchors.{HeadingText, heading_at}
 use Rattle.pf_statements.specs.Statements.{ItemText, BlockItem, ItemTexts, no_texts, one_text, is_wild, anchor_item, block_item, anchor_behind, as_rule, item_with, put_text, items_at, item_at, rule_at}
-use Rattle.pf_statements.specs.Seen.{item_text_of, item_texts_of}
+use Rattle.pf_statements.specs.Seen.{heading_text_of, item_step as seen_step, item_text_of, item_texts_of}
 use Rattle.pf_statements.proofs.AnchorsSpelled.{heading_no_longer}
 use Rattle.pf_statements.proofs.BlocksSpelled.{item_took, item_word, items_took}
+
+-- a block as it is seen
+pub block_text : (h : WrittenHeading) (items : Vec WrittenItem Global) → item_text_of (Block h items) ≡ BlockItem (heading_text_of h) (item_texts_of items.items)
+block_text h items = ap item_text_of (sym (rolls-Block h items)) ∙ fold-roll-WrittenItem ItemText seen_step (WrittenItem-F.Block h items)
 
 -- ---- what was taken, or left
 

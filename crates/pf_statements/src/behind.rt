@@ -6,27 +6,25 @@ ghost use Rattle.pf_tokens.specs.Parsing.{left, later, Parses};
 ghost use Rattle.pf_statements.specs.Conditions.{behind_word};
 ghost use Rattle.pf_statements.specs.ConditionsSeen.{list_of};
 
-use pf_rules::Profile;
-use pf_tokens::{Element, Listed, Parser, Stop, some};
+use crate::common::{Context, Read};
+use pf_tokens::{Element, Listed, Parser, some};
 use std::alloc::{AllocError, Global};
 
 /// The list after the keyword, if the keyword comes next.
 #[tactic(auto, unfolding(pf_tokens::specs::Productions::option_at))]
 pub(crate) fn read_behind<'t: 's, 's, E: Element>(
-    alloc: Global,
-    profile: Profile,
+    cx: Context,
     word: &[u8],
     parser: &mut Parser<'t, 's>,
-) -> Result<Option<Listed<E::Value>>, Stop>
-    ensures read { Parses list_of result (left parser.new) (behind_word word.now (some_at (E.read profile))
+) -> Read<Option<Listed<E::Value>>>
+    ensures read { Parses list_of result (left parser.new) (behind_word word.now (some_at (E.read cx.profile))
         (left parser.old)) }
     ensures later { later parser.new ≡ later parser.old }
 {
     if !parser.accept(word) {
         return Ok(None);
     }
-    let list = some::<E>(alloc, profile, parser)?;
-    Ok(Some(list))
+    Ok(Some(some::<E>(cx.alloc, cx.profile, parser)?))
 }
 
 /// The list of one element, without braces.

@@ -11,17 +11,6 @@ pub struct Protocol {
     pub number: u8,
 }
 
-/// An operator before a port (pf.conf(5), `port`).
-#[derive(Clone, Copy, PartialEq, Eq)]
-pub(crate) enum Comparison {
-    Equal,
-    NotEqual,
-    Less,
-    LessEqual,
-    Greater,
-    GreaterEqual,
-}
-
 /// A test on ports, none where a port is neither number nor name.
 #[derive(Clone, Copy, PartialEq, Eq)]
 pub struct WrittenPort {

@@ -14,10 +14,7 @@ pub(crate) fn read_direction<'t: 's, 's>(parser: &mut Parser<'t, 's>) -> Option<
     ensures later { later parser.new ≡ later parser.old }
 {
     if parser.accept(b"in") {
-        Some(Direction::In)
-    } else if parser.accept(b"out") {
-        Some(Direction::Out)
-    } else {
-        None
+        return Some(Direction::In);
     }
+    parser.accept(b"out").then_some(Direction::Out)
 }

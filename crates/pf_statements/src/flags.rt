@@ -39,13 +39,12 @@ fn read_letters<'t: 's, 's>(parser: &mut Parser<'t, 's>) -> Option<TcpFlags>
     if parser.begins_symbol(Symbol::Slash) {
         return Some(TcpFlags::NONE);
     }
-    let word = parser.word()?;
-    parse_flags(word)
+    parse_flags(parser.word()?)
 }
 
 /// What is asked of the flags of TCP, behind `flags` (pf.conf(5), `flags`).
 #[tactic(auto, unfolding(pf_tokens::specs::Productions::option_at, pf_tokens::specs::Productions::symbol_at, crate::specs::Conditions::flags_at))]
-pub fn read_flags<'t: 's, 's>(parser: &mut Parser<'t, 's>) -> Option<FlagTest>
+pub(crate) fn read_flags<'t: 's, 's>(parser: &mut Parser<'t, 's>) -> Option<FlagTest>
     ensures read { Reads result (left parser.new) (flags_at (left parser.old)) }
     ensures later { later parser.new ≡ later parser.old }
 {
@@ -53,14 +52,7 @@ pub fn read_flags<'t: 's, 's>(parser: &mut Parser<'t, 's>) -> Option<FlagTest>
         return Some(FlagTest::Any);
     }
     let set = read_letters(parser)?;
-    if !parser.accept_symbol(Symbol::Slash) {
-        return None;
-    }
-    let word = parser.word()?;
-    let of = parse_flags(word)?;
-    if is_within(set, of) {
-        Some(FlagTest::Just { set, of })
-    } else {
-        None
-    }
+    parser.accept_symbol(Symbol::Slash).then_some(())?;
+    let of = parse_flags(parser.word()?)?;
+    is_within(set, of).then_some(FlagTest::Just { set, of })
 }

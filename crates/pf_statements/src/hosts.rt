@@ -3,13 +3,12 @@
 ghost use Rattle.std.specs.Prelude.{◌≡◌, IfOk, MatchOption};
 ghost use Rattle.pf_tokens.specs.Lists.{elements_of};
 ghost use Rattle.pf_tokens.specs.Parsing.{left, later, Reads, Parses};
-ghost use Rattle.pf_statements.specs.Conditions.{any_host, in_or_not, prefix_behind, prefix_at, range_behind};
+ghost use Rattle.pf_statements.specs.Conditions.{any_host, in_or_not, prefix_behind, prefix_at};
 ghost use Rattle.pf_statements.specs.Conditions.{addresses_at, table_at, set_at, host_at};
 ghost use Rattle.pf_statements.specs.inner.Shorter.{host_shorter};
-ghost use Rattle.pf_rules.specs.Words.{is_table_name};
-ghost use Rattle.pf_rules.specs.Names.{name_if};
 
 use crate::behind::lone;
+use crate::common::{Context, Read, expect};
 use pf_addr::{Prefix, Range, parse_bytes, parse_words};
 use pf_rules::{Addresses, Host, Profile, TableName, is_table_name};
 use pf_tokens::{Element, Listed, Parser, Stop, Symbol};
@@ -49,7 +48,7 @@ fn prefix_behind<'t: 's, 's>(addr: &[u8], parser: &mut Parser<'t, 's>) -> Option
 
 /// A prefix: an address, with its length behind a slash or not (pf.conf(5), host forms).
 #[tactic(auto, unfolding(crate::specs::Conditions::prefix_at))]
-pub fn read_prefix<'t: 's, 's>(parser: &mut Parser<'t, 's>) -> Option<Prefix>
+pub(crate) fn read_prefix<'t: 's, 's>(parser: &mut Parser<'t, 's>) -> Option<Prefix>
     ensures read { Reads result (left parser.new) (prefix_at (left parser.old)) }
     ensures later { later parser.new ≡ later parser.old }
 {
@@ -57,87 +56,45 @@ pub fn read_prefix<'t: 's, 's>(parser: &mut Parser<'t, 's>) -> Option<Prefix>
     prefix_behind(addr, parser)
 }
 
-/// The rest of a range behind its first address and the hyphen.
-#[tactic(auto, unfolding(crate::specs::Conditions::range_behind))]
-fn read_range<'t: 's, 's>(first: &[u8], parser: &mut Parser<'t, 's>) -> Option<Addresses>
-    ensures read { Reads result (left parser.new) (range_behind first.now (left parser.old)) }
-    ensures later { later parser.new ≡ later parser.old }
-{
-    let last = parser.word()?;
-    let first = parse_bytes(first).ok()?;
-    let last = parse_bytes(last).ok()?;
-    let range = Range::new(first, last)?;
-    Some(Addresses::Range(range))
-}
-
 /// A prefix or a range.
-#[tactic(auto, unfolding(pf_tokens::specs::Productions::option_at, crate::specs::Conditions::addresses_at))]
+#[tactic(auto, unfolding(pf_tokens::specs::Productions::option_at, crate::specs::Conditions::addresses_at, crate::specs::Conditions::range_behind))]
 fn read_addresses<'t: 's, 's>(parser: &mut Parser<'t, 's>) -> Option<Addresses>
     ensures read { Reads result (left parser.new) (addresses_at (left parser.old)) }
     ensures later { later parser.new ≡ later parser.old }
 {
     let addr = parser.word()?;
     if parser.accept(b"-") {
-        return read_range(addr, parser);
+        let last = parser.word()?;
+        let range = Range::new(parse_bytes(addr).ok()?, parse_bytes(last).ok()?)?;
+        return Some(Addresses::Range(range));
     }
-    let prefix = prefix_behind(addr, parser)?;
-    Some(Addresses::Prefix(prefix))
-}
-
-/// The table name that the token spells, none where it is no table name in the profile. The error is out of memory.
-#[tactic(auto, using(pf_rules::proofs::Reserved::table_names_alike))]
-fn table_name(alloc: Global, profile: Profile, word: &[u8]) -> Result<Option<TableName>, AllocError>
-    ensures { IfOk result (λ name. name ≡ name_if (is_table_name profile) word.now) }
-{
-    if !is_table_name(profile, word) {
-        return Ok(None);
-    }
-    TableName::new(alloc, word)
+    Some(Addresses::Prefix(prefix_behind(addr, parser)?))
 }
 
 /// The name of a table between `<` and `>` (pf.conf(5), TABLES).
-#[tactic(auto, unfolding(pf_tokens::specs::Productions::symbol_at, crate::specs::Conditions::table_at))]
-pub fn read_table<'t: 's, 's>(
-    alloc: Global,
-    profile: Profile,
-    parser: &mut Parser<'t, 's>,
-) -> Result<TableName, Stop>
-    ensures read { Parses (λ x. x) result (left parser.new) (table_at profile (left parser.old)) }
+#[tactic(auto, using(pf_rules::proofs::Reserved::table_names_alike), unfolding(pf_tokens::specs::Productions::symbol_at, crate::specs::Conditions::table_at))]
+pub(crate) fn read_table<'t: 's, 's>(cx: Context, parser: &mut Parser<'t, 's>) -> Read<TableName>
+    ensures read { Parses (λ x. x) result (left parser.new) (table_at cx.profile (left parser.old)) }
     ensures later { later parser.new ≡ later parser.old }
 {
-    if !parser.accept_symbol(Symbol::Less) {
-        return Err(Stop::Syntax);
-    }
-    let Some(word) = parser.word() else {
-        return Err(Stop::Syntax);
-    };
-    let Some(name) = table_name(alloc, profile, word)? else {
-        return Err(Stop::Syntax);
-    };
-    if !parser.accept_symbol(Symbol::Greater) {
-        return Err(Stop::Syntax);
-    }
+    expect(parser.accept_symbol(Symbol::Less))?;
+    let word = parser.word().ok_or(Stop::Syntax)?;
+    expect(is_table_name(cx.profile, word))?;
+    let name = TableName::new(cx.alloc, word)?.ok_or(Stop::Syntax)?;
+    expect(parser.accept_symbol(Symbol::Greater))?;
     Ok(name)
 }
 
 /// A prefix, a range, or the addresses of a table.
 #[tactic(auto, unfolding(crate::specs::Conditions::set_at))]
-fn read_set<'t: 's, 's>(
-    alloc: Global,
-    profile: Profile,
-    parser: &mut Parser<'t, 's>,
-) -> Result<Addresses, Stop>
-    ensures read { Parses (λ x. x) result (left parser.new) (set_at profile (left parser.old)) }
+fn read_set<'t: 's, 's>(cx: Context, parser: &mut Parser<'t, 's>) -> Read<Addresses>
+    ensures read { Parses (λ x. x) result (left parser.new) (set_at cx.profile (left parser.old)) }
     ensures later { later parser.new ≡ later parser.old }
 {
     if parser.begins_symbol(Symbol::Less) {
-        let name = read_table(alloc, profile, parser)?;
-        return Ok(Addresses::Table(name));
+        return Ok(Addresses::Table(read_table(cx, parser)?));
     }
-    match read_addresses(parser) {
-        Some(set) => Ok(set),
-        None => Err(Stop::Syntax),
-    }
+    read_addresses(parser).ok_or(Stop::Syntax)
 }
 
 /// A host in a rule: `any`, or a set of addresses behind `!` or not.
@@ -158,7 +115,7 @@ impl Element for HostProduction {
             return Ok(Host::Any);
         }
         let negated = parser.accept_symbol(Symbol::Not);
-        let set = read_set(alloc, profile, parser)?;
+        let set = read_set(Context { alloc, profile }, parser)?;
         Ok(host_of(negated, Some(set)))
     }
 

@@ -1,49 +1,30 @@
 //! Names of interfaces, and interfaces in rules.
 
-ghost use Rattle.std.specs.Prelude.{◌≡◌};
-ghost use Rattle.pf_tokens.specs.Parsing.{left, later, Parses};
 ghost use Rattle.pf_statements.specs.Conditions.{interface_name_at, interface_at};
 ghost use Rattle.pf_statements.specs.inner.Shorter.{interface_name_shorter, interface_shorter};
 
+use crate::common::{Read, expect};
 use pf_rules::{Interface, InterfaceName, Profile, is_reserved};
 use pf_tokens::{Element, Parser, Stop, Symbol};
 use std::alloc::Global;
 
-/// The name of an interface or of a group of them: a word token or a string.
-#[tactic(auto, unfolding(pf_rules::specs::Words::is_interface_name, crate::specs::Conditions::interface_name_at))]
-fn read_interface_name<'t: 's, 's>(
-    profile: Profile,
-    parser: &mut Parser<'t, 's>,
-) -> Result<InterfaceName, Stop>
-    ensures read { Parses (λ x. x) result (left parser.new) (interface_name_at profile (left parser.old)) }
-    ensures later { later parser.new ≡ later parser.old }
-{
-    let Some(text) = parser.name() else {
-        return Err(Stop::Syntax);
-    };
-    if is_reserved(profile, text) {
-        return Err(Stop::Syntax);
-    }
-    match InterfaceName::new(text) {
-        Some(name) => Ok(name),
-        None => Err(Stop::Syntax),
-    }
-}
-
-/// The name of an interface, which may be in a list.
-pub struct InterfaceNameProduction;
+/// The name of an interface or of a group of them, which may be in a list: a word token or a string.
+pub(crate) struct InterfaceNameProduction;
 
 impl Element for InterfaceNameProduction {
     type Value = InterfaceName;
 
     ghost read = { interface_name_at };
 
+    #[tactic(auto, unfolding(pf_rules::specs::Words::is_interface_name, crate::specs::Conditions::interface_name_at))]
     fn read<'t: 's, 's>(
-        alloc: Global,
+        _alloc: Global,
         profile: Profile,
         parser: &mut Parser<'t, 's>,
-    ) -> Result<InterfaceName, Stop> {
-        read_interface_name(profile, parser)
+    ) -> Read<InterfaceName> {
+        let text = parser.name().ok_or(Stop::Syntax)?;
+        expect(!is_reserved(profile, text))?;
+        InterfaceName::new(text).ok_or(Stop::Syntax)
     }
 
     ghost shorter = { interface_name_shorter };
@@ -62,9 +43,9 @@ impl Element for InterfaceProduction {
         alloc: Global,
         profile: Profile,
         parser: &mut Parser<'t, 's>,
-    ) -> Result<Interface, Stop> {
+    ) -> Read<Interface> {
         let negated = parser.accept_symbol(Symbol::Not);
-        let name = read_interface_name(profile, parser)?;
+        let name = InterfaceNameProduction::read(alloc, profile, parser)?;
         Ok(Interface { negated, name })
     }
 

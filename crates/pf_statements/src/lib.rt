@@ -7,22 +7,21 @@
 //!   [`WrittenItem`]s.
 //! - [`WrittenConditions`]: the conditions of a rule or an anchor rule on packets, with [`Common`], [`End`],
 //!   [`Protocol`], [`WrittenPort`] and [`WrittenType`].
-//! - [`read_common`], [`read_flags`] and [`read_types`] read its parts; [`read_prefix`] and [`read_table`], prefixes
-//!   and names of tables; [`read_target`], the names of an anchor. [`InterfaceNameProduction`] may be in a list.
 //! - [`reads_the_grammar`]: a statement is read exactly as the grammar spells it; [`elements_of_lists`] and
 //!   [`entries_of_tables`]: what may be in a list or a table is an element as the law of lists asks for one.
 //!
-//! Within: `blocks` reads rules of any kind, by `anchors`, `directions`, `protocols`, `ends`, `ports` and `options`;
-//! `tables` reads table statements, `behind` a list after its keyword, `cut` cuts a string at a mark.
+//! Within: `blocks` reads rules of any kind, by `common`, `anchors`, `directions`, `protocols`, `ends`, `ports`,
+//! `flags`, `types`, `targets` and `options`; `tables` reads table statements, `behind` a list after its keyword, `cut`
+//! cuts a string at a mark.
 //!
 //! # Why
 //!
 //! - The readers of productions are free functions over `&mut Parser`, one for each production, in files by subject
 //!   (`interfaces`, `protocols`, `hosts`, `ports`, `ends`, `options`, `statements`), so that a contract cites its
 //!   production and needs no struct of its own. `Element::read` takes the allocator and the profile: names take
-//!   memory, and a word can be reserved in one profile alone.
-//! - Operators before a port are an enum `Comparison` in the code; the definition speaks of the test itself (a
-//!   function from ports to tests). `compared` joins them.
+//!   memory, and a word can be reserved in one profile alone. The readers have both in a `Context`.
+//! - Operators before a port are their symbols in the code; the definition speaks of the test itself (a function from
+//!   ports to tests). `compared` joins them.
 //! - A port range is cut at its colon by a function of this crate, since the one of pf_addr is private there.
 //! - A statement is kept as it is written: its lists are expanded by `pf_expansion`, which reads nothing.
 //! - **A rule is read straight into its statement.** What is called once a rule is one function of machine code.
@@ -52,16 +51,10 @@ mod targets;
 mod types;
 mod written;
 
-pub use common::read_common;
 pub use condition_laws::elements_of_lists;
 pub use conditions::{Common, End, Protocol, WrittenConditions, WrittenPort, WrittenType};
-pub use flags::read_flags;
-pub use hosts::{read_prefix, read_table};
-pub use interfaces::InterfaceNameProduction;
 pub use laws::{entries_of_tables, reads_the_grammar};
 pub use statements::read_statement;
-pub use targets::{may_begin_target, read_target};
-pub use types::read_types;
 pub use written::{
     RuleOptions, Setting, Statement, WrittenAction, WrittenAnchor, WrittenHeading, WrittenItem,
     WrittenRule, WrittenTable,

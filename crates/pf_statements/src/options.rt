@@ -2,129 +2,45 @@
 
 ghost use Rattle.std.specs.Prelude.{◌≡◌, suc, length};
 ghost use Rattle.pf_tokens.specs.Parsing.{left, later, Parses};
-ghost use Rattle.pf_statements.specs.Statements.{has_types, no_options, flags_option, state_option, types_option};
+ghost use Rattle.pf_statements.specs.Statements.{no_options};
 ghost use Rattle.pf_statements.specs.Statements.{option_with, options_at};
 ghost use Rattle.pf_statements.specs.Options.{is_over};
 ghost use Rattle.pf_statements.specs.inner.Seen.{options_of};
 
+use crate::common::{Context, Read, expect};
 use crate::flags::read_flags;
 use crate::types::read_types;
 use crate::written::RuleOptions;
 use pf_rules::Profile;
 use pf_tokens::{Lexeme, Parser, Stop, Symbol};
-use std::alloc::Global;
 
-/// The flags, if they weren't given before.
-#[tactic(auto, unfolding(crate::specs::Statements::flags_option))]
-fn flags_option<'t: 's, 's>(
-    options: RuleOptions,
-    parser: &mut Parser<'t, 's>,
-) -> Result<RuleOptions, Stop>
-    ensures read { Parses options_of result (left parser.new) (flags_option (options_of options) (left parser.old)) }
-    ensures later { later parser.new ≡ later parser.old }
-{
-    if options.flags.is_some() {
-        return Err(Stop::Syntax);
-    }
-    let Some(test) = read_flags(parser) else {
-        return Err(Stop::Syntax);
-    };
-    let RuleOptions {
-        flags: _,
-        state,
-        types,
-    } = options;
-    Ok(RuleOptions {
-        flags: Some(test),
-        state,
-        types,
-    })
-}
-
-/// Whether state is kept, if that wasn't given before.
-#[tactic(auto, unfolding(pf_tokens::specs::Productions::option_at, crate::specs::Statements::state_option))]
-fn state_option<'t: 's, 's>(
-    options: RuleOptions,
-    keep: bool,
-    parser: &mut Parser<'t, 's>,
-) -> Result<RuleOptions, Stop>
-    ensures read { Parses options_of result (left parser.new) (state_option (options_of options) keep
-        (left parser.old)) }
-    ensures later { later parser.new ≡ later parser.old }
-{
-    if options.state.is_some() || !parser.accept(b"state") {
-        return Err(Stop::Syntax);
-    }
-    let RuleOptions {
-        flags,
-        state: _,
-        types,
-    } = options;
-    Ok(RuleOptions {
-        flags,
-        state: Some(keep),
-        types,
-    })
-}
-
-/// The types of ICMP, if they weren't given before.
-#[tactic(auto, unfolding(crate::specs::Statements::types_option))]
-fn types_option<'t: 's, 's>(
-    alloc: Global,
-    profile: Profile,
-    options: RuleOptions,
-    parser: &mut Parser<'t, 's>,
-) -> Result<RuleOptions, Stop>
-    ensures read { Parses options_of result (left parser.new) (types_option profile (options_of options)
-        (left parser.old)) }
-    ensures later { later parser.new ≡ later parser.old }
-{
-    if options.types.is_some() {
-        return Err(Stop::Syntax);
-    }
-    let types = read_types(alloc, profile, parser)?;
-    let RuleOptions {
-        flags,
-        state,
-        types: _,
-    } = options;
-    Ok(RuleOptions {
-        flags,
-        state,
-        types: Some(types),
-    })
-}
-
-/// Whether the profile has types of ICMP.
-fn has_types(profile: Profile) -> bool
-    ensures { result ≡ has_types profile }
-{
-    match profile {
-        Profile::One => false,
-        Profile::Two => true,
-    }
-}
-
-/// The next option, beside those before it.
-#[tactic(auto, unfolding(pf_tokens::specs::Productions::option_at, crate::specs::Statements::option_with))]
+/// The next option, beside those before it: each may be given once.
+#[tactic(auto, unfolding(pf_tokens::specs::Productions::option_at, crate::specs::Statements::option_with, crate::specs::Statements::flags_option, crate::specs::Statements::state_option, crate::specs::Statements::types_option))]
 fn read_option<'t: 's, 's>(
-    alloc: Global,
-    profile: Profile,
+    cx: Context,
     options: RuleOptions,
     parser: &mut Parser<'t, 's>,
-) -> Result<RuleOptions, Stop>
-    ensures read { Parses options_of result (left parser.new) (option_with profile (options_of options)
+) -> Read<RuleOptions>
+    ensures read { Parses options_of result (left parser.new) (option_with cx.profile (options_of options)
         (left parser.old)) }
     ensures later { later parser.new ≡ later parser.old }
 {
     if parser.accept(b"flags") {
-        flags_option(options, parser)
+        expect(options.flags.is_none())?;
+        let flags = Some(read_flags(parser).ok_or(Stop::Syntax)?);
+        Ok(RuleOptions { flags, ..options })
     } else if parser.accept(b"no") {
-        state_option(options, false, parser)
+        expect(options.state.is_none() && parser.accept(b"state"))?;
+        let state = Some(false);
+        Ok(RuleOptions { state, ..options })
     } else if parser.accept(b"keep") {
-        state_option(options, true, parser)
-    } else if has_types(profile) && parser.accept(b"icmp-type") {
-        types_option(alloc, profile, options, parser)
+        expect(options.state.is_none() && parser.accept(b"state"))?;
+        let state = Some(true);
+        Ok(RuleOptions { state, ..options })
+    } else if matches!(cx.profile, Profile::Two) && parser.accept(b"icmp-type") {
+        expect(options.types.is_none())?;
+        let types = Some(read_types(cx, parser)?);
+        Ok(RuleOptions { types, ..options })
     } else {
         Err(Stop::Syntax)
     }
@@ -134,31 +50,19 @@ fn read_option<'t: 's, 's>(
 pub(crate) fn is_over(parser: &Parser<'_, '_>) -> bool
     ensures { result ≡ is_over (left parser.now) }
 {
-    match parser.peek() {
-        None => true,
-        Some(Lexeme::Newline) => true,
-        Some(Lexeme::Mark(found)) => found == Symbol::Close,
-        Some(_) => false,
-    }
+    let newline = matches!(parser.peek(), Some(Lexeme::Newline));
+    newline || parser.at_end() || parser.begins_symbol(Symbol::Close)
 }
 
 /// The options up to where the rule is over.
-pub(crate) fn read_options<'t: 's, 's>(
-    alloc: Global,
-    profile: Profile,
-    parser: &mut Parser<'t, 's>,
-) -> Result<RuleOptions, Stop>
-    ensures read { Parses options_of result (left parser.new) (options_at (suc (length (left parser.old))) profile
+pub fn read_options<'t: 's, 's>(cx: Context, parser: &mut Parser<'t, 's>) -> Read<RuleOptions>
+    ensures read { Parses options_of result (left parser.new) (options_at (suc (length (left parser.old))) cx.profile
         no_options (left parser.old)) }
     ensures later { later parser.new ≡ later parser.old }
 {
-    let mut options = RuleOptions {
-        flags: None,
-        state: None,
-        types: None,
-    };
+    let mut options = RuleOptions::default();
     'options: while !is_over(parser) {
-        options = read_option(alloc, profile, options, parser)?;
+        options = read_option(cx, options, parser)?;
     }
     Ok(options)
 }

@@ -4,66 +4,44 @@ ghost use Rattle.std.specs.Prelude.{◌≡◌, option_map};
 ghost use Rattle.std.specs.Option.{option_copied};
 ghost use Rattle.pf_addr.specs.Spelling.{cut_at};
 ghost use Rattle.pf_tokens.specs.Parsing.{left, later, Reads};
-ghost use Rattle.pf_rules.specs.declared.parts.PortTest.TheVariants as tests;
 ghost use Rattle.pf_rules.specs.Words.{port_of};
-ghost use Rattle.pf_statements.specs.Conditions.{colon_parts, one_port, two_ports, lone_test, port_word_at};
-ghost use Rattle.pf_statements.specs.Conditions.{operator_at, compared_at, port_behind, port_at};
-ghost use Rattle.pf_statements.specs.inner.ConditionsSeen.{compared};
+ghost use Rattle.pf_statements.specs.Conditions.{colon_parts, two_ports, lone_test, port_word_at};
+ghost use Rattle.pf_statements.specs.Conditions.{operator_at, port_at};
+ghost use Rattle.pf_statements.specs.inner.ConditionsSeen.{compared, joining};
 ghost use Rattle.pf_statements.specs.inner.Shorter.{port_shorter};
 
-use crate::conditions::{Comparison, WrittenPort};
+use crate::common::{Context, Read};
+use crate::conditions::WrittenPort;
 use crate::cut::cut;
 use pf_rules::{PortTest, Profile, is_reserved, parse_port};
-use pf_tokens::{Element, Parser, Stop, Symbol};
+use pf_tokens::{Element, Lexeme, Parser, Stop, Symbol};
 use std::alloc::Global;
 
 /// The test of the operator with this port.
-fn compared(comparison: Comparison, port: u16) -> PortTest
-    ensures { result ≡ compared comparison port }
+fn compared(operator: Symbol, port: u16) -> PortTest
+    ensures { result ≡ compared operator port }
 {
-    match comparison {
-        Comparison::Equal => PortTest::Equal(port),
-        Comparison::NotEqual => PortTest::NotEqual(port),
-        Comparison::Less => PortTest::Less(port),
-        Comparison::LessEqual => PortTest::LessEqual(port),
-        Comparison::Greater => PortTest::Greater(port),
-        Comparison::GreaterEqual => PortTest::GreaterEqual(port),
+    match operator {
+        Symbol::NotEqual => PortTest::NotEqual(port),
+        Symbol::Less => PortTest::Less(port),
+        Symbol::LessEqual => PortTest::LessEqual(port),
+        Symbol::Greater => PortTest::Greater(port),
+        Symbol::GreaterEqual => PortTest::GreaterEqual(port),
+        _ => PortTest::Equal(port),
     }
 }
 
-/// The test for the port that the token names.
-fn equal(word: &[u8]) -> Option<PortTest>
-    ensures { result ≡ one_port tests.Equal (port_of word.now) }
-{
-    let port = parse_port(word)?;
-    Some(PortTest::Equal(port))
-}
-
-/// The ports from one to another.
-fn from_to(first: &[u8], last: &[u8]) -> Option<PortTest>
-    ensures { result ≡ two_ports tests.FromTo (port_of first.now) (port_of last.now) }
+/// The test of the operator with these ports: those from one to another where it isn't `><` or `<>`.
+fn two_ports(operator: Symbol, first: &[u8], last: &[u8]) -> Option<PortTest>
+    ensures { result ≡ two_ports (joining operator) (port_of first.now) (port_of last.now) }
 {
     let first = parse_port(first)?;
     let last = parse_port(last)?;
-    Some(PortTest::FromTo(first, last))
-}
-
-/// The ports between one and another.
-fn between(first: &[u8], last: &[u8]) -> Option<PortTest>
-    ensures { result ≡ two_ports tests.Between (port_of first.now) (port_of last.now) }
-{
-    let first = parse_port(first)?;
-    let last = parse_port(last)?;
-    Some(PortTest::Between(first, last))
-}
-
-/// The ports outside one and another.
-fn outside(first: &[u8], last: &[u8]) -> Option<PortTest>
-    ensures { result ≡ two_ports tests.Outside (port_of first.now) (port_of last.now) }
-{
-    let first = parse_port(first)?;
-    let last = parse_port(last)?;
-    Some(PortTest::Outside(first, last))
+    Some(match operator {
+        Symbol::Between => PortTest::Between(first, last),
+        Symbol::Outside => PortTest::Outside(first, last),
+        _ => PortTest::FromTo(first, last),
+    })
 }
 
 /// The two parts of a token with exactly one colon, and something on both sides.
@@ -72,10 +50,7 @@ fn colon_parts(word: &[u8]) -> Option<(&[u8], &[u8])>
 {
     let (first, rest) = cut(word, b':');
     let last = rest?;
-    if first.is_empty() || last.is_empty() || last.contains(&b':') {
-        return None;
-    }
-    Some((first, last))
+    (!first.is_empty() && !last.is_empty() && !last.contains(&b':')).then_some((first, last))
 }
 
 /// The test that a token alone spells: a range where it has two parts, else a port.
@@ -84,105 +59,59 @@ fn lone_test(word: &[u8]) -> Option<PortTest>
     ensures { result ≡ lone_test word.now }
 {
     match colon_parts(word) {
-        Some((first, last)) => from_to(first, last),
-        None => equal(word),
+        Some((first, last)) => two_ports(Symbol::Comma, first, last),
+        None => parse_port(word).map(|port| PortTest::Equal(port)),
     }
 }
 
 /// A word token that isn't reserved.
 #[tactic(auto, unfolding(crate::specs::Conditions::port_word_at))]
-pub(crate) fn read_port_word<'t: 's, 's>(
-    profile: Profile,
-    parser: &mut Parser<'t, 's>,
-) -> Option<&'s [u8]>
-    ensures read { Reads (option_copied result) (left parser.new) (port_word_at profile (left parser.old)) }
+pub fn read_port_word<'t: 's, 's>(cx: Context, parser: &mut Parser<'t, 's>) -> Option<&'s [u8]>
+    ensures read { Reads (option_copied result) (left parser.new) (port_word_at cx.profile (left parser.old)) }
     ensures later { later parser.new ≡ later parser.old }
 {
     let word = parser.word()?;
-    if is_reserved(profile, word) {
-        return None;
-    }
-    Some(word)
+    (!is_reserved(cx.profile, word)).then_some(word)
 }
 
 /// The operator that comes next, if one does.
 #[tactic(auto, unfolding(crate::specs::Conditions::operator_at))]
-fn operator<'t: 's, 's>(parser: &Parser<'t, 's>) -> Option<Comparison>
+fn operator(parser: &Parser<'_, '_>) -> Option<Symbol>
     ensures { option_map compared result ≡ operator_at (left parser.now) }
 {
-    if parser.begins_symbol(Symbol::Equals) {
-        Some(Comparison::Equal)
-    } else if parser.begins_symbol(Symbol::NotEqual) {
-        Some(Comparison::NotEqual)
-    } else if parser.begins_symbol(Symbol::Less) {
-        Some(Comparison::Less)
-    } else if parser.begins_symbol(Symbol::LessEqual) {
-        Some(Comparison::LessEqual)
-    } else if parser.begins_symbol(Symbol::Greater) {
-        Some(Comparison::Greater)
-    } else if parser.begins_symbol(Symbol::GreaterEqual) {
-        Some(Comparison::GreaterEqual)
-    } else {
-        None
-    }
-}
-
-/// A port behind its operator.
-fn read_compared<'t: 's, 's>(
-    profile: Profile,
-    comparison: Comparison,
-    parser: &mut Parser<'t, 's>,
-) -> Option<WrittenPort>
-    ensures read { Reads result (left parser.new) (compared_at profile (compared comparison) (left parser.old)) }
-    ensures later { later parser.new ≡ later parser.old }
-{
-    let word = read_port_word(profile, parser)?;
-    let test = match parse_port(word) {
-        Some(port) => Some(compared(comparison, port)),
-        None => None,
+    let Some(Lexeme::Mark(symbol)) = parser.peek() else {
+        return None;
     };
-    Some(WrittenPort { test })
-}
-
-/// What follows the first token of a test without an operator before it.
-#[tactic(auto, unfolding(pf_tokens::specs::Productions::symbol_at, crate::specs::Conditions::port_behind))]
-fn read_port_rest<'t: 's, 's>(
-    profile: Profile,
-    first: &[u8],
-    parser: &mut Parser<'t, 's>,
-) -> Option<WrittenPort>
-    ensures read { Reads result (left parser.new) (port_behind profile first.now (left parser.old)) }
-    ensures later { later parser.new ≡ later parser.old }
-{
-    if parser.accept_symbol(Symbol::Between) {
-        let last = read_port_word(profile, parser)?;
-        return Some(WrittenPort {
-            test: between(first, last),
-        });
+    match symbol {
+        Symbol::Equals | Symbol::NotEqual | Symbol::Less | Symbol::LessEqual => Some(symbol),
+        Symbol::Greater | Symbol::GreaterEqual => Some(symbol),
+        _ => None,
     }
-    if parser.accept_symbol(Symbol::Outside) {
-        let last = read_port_word(profile, parser)?;
-        return Some(WrittenPort {
-            test: outside(first, last),
-        });
-    }
-    Some(WrittenPort {
-        test: lone_test(first),
-    })
 }
 
 /// A test on ports.
-#[tactic(auto, unfolding(crate::specs::Conditions::port_at))]
-fn read_port<'t: 's, 's>(profile: Profile, parser: &mut Parser<'t, 's>) -> Option<WrittenPort>
-    ensures read { Reads result (left parser.new) (port_at profile (left parser.old)) }
+#[tactic(auto, unfolding(pf_tokens::specs::Productions::symbol_at, crate::specs::Conditions::port_at, crate::specs::Conditions::port_behind))]
+fn read_port<'t: 's, 's>(cx: Context, parser: &mut Parser<'t, 's>) -> Option<WrittenPort>
+    ensures read { Reads result (left parser.new) (port_at cx.profile (left parser.old)) }
     ensures later { later parser.new ≡ later parser.old }
 {
-    if let Some(comparison) = operator(parser) {
+    if let Some(operator) = operator(parser) {
         parser.skip();
-        return read_compared(profile, comparison, parser);
+        let port = parse_port(read_port_word(cx, parser)?);
+        let test = port.map(|port| compared(operator, port));
+        return Some(WrittenPort { test });
     }
-    let first = read_port_word(profile, parser)?;
-    read_port_rest(profile, first, parser)
+    let first = read_port_word(cx, parser)?;
+    if parser.accept_symbol(Symbol::Between) {
+        let test = two_ports(Symbol::Between, first, read_port_word(cx, parser)?);
+        return Some(WrittenPort { test });
+    }
+    if parser.accept_symbol(Symbol::Outside) {
+        let test = two_ports(Symbol::Outside, first, read_port_word(cx, parser)?);
+        return Some(WrittenPort { test });
+    }
+    let test = lone_test(first);
+    Some(WrittenPort { test })
 }
 
 impl Element for WrittenPort {
@@ -191,14 +120,11 @@ impl Element for WrittenPort {
     ghost read = { port_at };
 
     fn read<'t: 's, 's>(
-        _alloc: Global,
+        alloc: Global,
         profile: Profile,
         parser: &mut Parser<'t, 's>,
-    ) -> Result<WrittenPort, Stop> {
-        match read_port(profile, parser) {
-            Some(port) => Ok(port),
-            None => Err(Stop::Syntax),
-        }
+    ) -> Read<WrittenPort> {
+        read_port(Context { alloc, profile }, parser).ok_or(Stop::Syntax)
     }
 
     ghost shorter = { port_shorter };

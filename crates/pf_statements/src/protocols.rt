@@ -5,6 +5,7 @@ ghost use Rattle.pf_tokens.specs.Parsing.{left, later};
 ghost use Rattle.pf_statements.specs.Conditions.{family_at, protocol_at};
 ghost use Rattle.pf_statements.specs.inner.Shorter.{protocol_shorter};
 
+use crate::common::Read;
 use crate::conditions::Protocol;
 use pf_addr::Family;
 use pf_rules::{Profile, parse_protocol};
@@ -18,12 +19,9 @@ pub(crate) fn read_family<'t: 's, 's>(parser: &mut Parser<'t, 's>) -> Option<Fam
     ensures later { later parser.new ≡ later parser.old }
 {
     if parser.accept(b"inet") {
-        Some(Family::Inet)
-    } else if parser.accept(b"inet6") {
-        Some(Family::Inet6)
-    } else {
-        None
+        return Some(Family::Inet);
     }
+    parser.accept(b"inet6").then_some(Family::Inet6)
 }
 
 impl Element for Protocol {
@@ -32,18 +30,10 @@ impl Element for Protocol {
     ghost read = { protocol_at };
 
     #[tactic(auto, unfolding(crate::specs::Conditions::protocol_at))]
-    fn read<'t: 's, 's>(
-        _alloc: Global,
-        _profile: Profile,
-        parser: &mut Parser<'t, 's>,
-    ) -> Result<Protocol, Stop> {
-        let Some(text) = parser.word() else {
-            return Err(Stop::Syntax);
-        };
-        match parse_protocol(text) {
-            Some(number) => Ok(Protocol { number }),
-            None => Err(Stop::Syntax),
-        }
+    fn read<'t: 's, 's>(_: Global, _: Profile, parser: &mut Parser<'t, 's>) -> Read<Protocol> {
+        let text = parser.word().ok_or(Stop::Syntax)?;
+        let number = parse_protocol(text).ok_or(Stop::Syntax)?;
+        Ok(Protocol { number })
     }
 
     ghost shorter = { protocol_shorter };

@@ -9,8 +9,9 @@ ghost use Rattle.pf_tokens.specs.Lexed.{token_of};
 ghost use Rattle.pf_tokens.specs.Productions.{starts};
 ghost use Rattle.pf_statements.specs.Targets.{is_star, may_name, target_at, target_of, target_text, target_with};
 
+use crate::common::{Context, Read};
 use crate::cut::cut;
-use pf_rules::{Name, PATH_MAX, Profile, Target, is_reserved};
+use pf_rules::{Name, PATH_MAX, Target, is_reserved};
 use pf_tokens::{Lexeme, Parser, Stop};
 use std::alloc::{AllocError, Global};
 
@@ -19,20 +20,14 @@ use std::alloc::{AllocError, Global};
 fn is_star(piece: &[u8], others: Option<&[u8]>) -> bool
     ensures { result ≡ is_star (piece.now ∷ pieces_left 47 (option_copied others.entry)) }
 {
-    match others {
-        Some(_) => false,
-        None => piece == b"*".as_slice(),
-    }
+    others.is_none() && piece == b"*".as_slice()
 }
 
 /// The target of these names, of which there may be 1 to 8.
 fn target_with(names: Vec<Name>, children: bool) -> Option<Target>
     ensures { option_map seen.target_of result ≡ target_with (names.items, children) }
 {
-    if names.is_empty() || names.len() > PATH_MAX {
-        return None;
-    }
-    Some(Target { names, children })
+    (!names.is_empty() && names.len() <= PATH_MAX).then_some(Target { names, children })
 }
 
 /// The target that the text names, none where it has another form. A growth that is refused is the error.
@@ -57,46 +52,33 @@ fn target_of(alloc: Global, text: &[u8]) -> Result<Option<Target>, AllocError>
 }
 
 /// The text of a string, or of a word token that isn't reserved.
-fn target_text<'s>(profile: Profile, lexeme: Lexeme<'s>) -> Option<&'s [u8]>
-    ensures { option_copied result ≡ target_text profile (token_of lexeme.entry) }
+fn target_text<'s>(cx: Context, lexeme: Lexeme<'s>) -> Option<&'s [u8]>
+    ensures { option_copied result ≡ target_text cx.profile (token_of lexeme.entry) }
 {
     match lexeme {
-        Lexeme::Word(text) if !is_reserved(profile, text) => Some(text),
+        Lexeme::Word(text) if !is_reserved(cx.profile, text) => Some(text),
         Lexeme::Quoted(text) => Some(text),
         _ => None,
     }
 }
 
 /// Whether the next token may be the name of an anchor: a string, or a word token that isn't reserved.
-pub fn may_begin_target(profile: Profile, parser: &Parser<'_, '_>) -> bool
-    ensures { result ≡ starts (may_name profile) (left parser.now) }
+pub(crate) fn may_begin_target(cx: Context, parser: &Parser<'_, '_>) -> bool
+    ensures { result ≡ starts (may_name cx.profile) (left parser.now) }
 {
-    match parser.peek() {
-        Some(lexeme) => target_text(profile, lexeme).is_some(),
-        None => false,
-    }
+    let next = parser.peek();
+    next.is_some_and(|next| target_text(cx, next).is_some())
 }
 
 /// The anchors that an anchor rule evaluates: 1 to 8 names joined by `/` in a string or a word token that isn't
 /// reserved, then possibly `/*` (pf.conf(5), ANCHORS).
 #[tactic(auto, unfolding(crate::specs::Targets::target_at))]
-pub fn read_target<'t: 's, 's>(
-    alloc: Global,
-    profile: Profile,
-    parser: &mut Parser<'t, 's>,
-) -> Result<Target, Stop>
-    ensures read { Parses seen.target_of result (left parser.new) (target_at profile (left parser.old)) }
+pub(crate) fn read_target<'t: 's, 's>(cx: Context, parser: &mut Parser<'t, 's>) -> Read<Target>
+    ensures read { Parses seen.target_of result (left parser.new) (target_at cx.profile (left parser.old)) }
     ensures later { later parser.new ≡ later parser.old }
 {
-    let Some(lexeme) = parser.peek() else {
-        return Err(Stop::Syntax);
-    };
-    let Some(text) = target_text(profile, lexeme) else {
-        return Err(Stop::Syntax);
-    };
+    let lexeme = parser.peek().ok_or(Stop::Syntax)?;
+    let text = target_text(cx, lexeme).ok_or(Stop::Syntax)?;
     parser.skip();
-    match target_of(alloc, text)? {
-        Some(target) => Ok(target),
-        None => Err(Stop::Syntax),
-    }
+    target_of(cx.alloc, text)?.ok_or(Stop::Syntax)
 }

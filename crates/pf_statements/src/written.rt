@@ -1,10 +1,5 @@
 //! Statements as they are written, before lists are expanded.
 
-ghost use Rattle.std.specs.Prelude.{◌≡◌};
-ghost use Rattle.pf_statements.specs.Statements.{AnchorItem, BlockItem, RuleItem, statement_with};
-ghost use Rattle.pf_statements.specs.Seen.{anchor_text_of, heading_text_of, item_text_of, item_texts_of};
-ghost use Rattle.pf_statements.specs.Seen.{statement_of, text_of};
-
 use crate::conditions::{WrittenConditions, WrittenType};
 use pf_rules::{FlagTest, InterfaceName, Policy, TableEntry, TableName, Target};
 use pf_tokens::Listed;
@@ -19,7 +14,7 @@ pub enum WrittenAction {
 }
 
 /// The options behind a rule's hosts.
-#[derive(Drop)]
+#[derive(Drop, Default)]
 pub struct RuleOptions {
     /// The test of a TCP packet's flags, if it is given.
     pub flags: Option<FlagTest>,
@@ -75,29 +70,6 @@ pub enum WrittenItem {
     Block(WrittenHeading, Vec<WrittenItem>),
 }
 
-impl WrittenItem {
-    /// A filter rule.
-    pub(crate) fn rule(rule: WrittenRule) -> WrittenItem
-        ensures { item_text_of result ≡ RuleItem (text_of rule) }
-    {
-        WrittenItem::Rule(rule)
-    }
-
-    /// An anchor rule without a block.
-    pub(crate) fn anchor(anchor: WrittenAnchor) -> WrittenItem
-        ensures { item_text_of result ≡ AnchorItem (anchor_text_of anchor) }
-    {
-        WrittenItem::Anchor(anchor)
-    }
-
-    /// An anchor rule with the rules of its block.
-    pub(crate) fn block(heading: WrittenHeading, items: Vec<WrittenItem>) -> WrittenItem
-        ensures { item_text_of result ≡ BlockItem (heading_text_of heading) (item_texts_of items.items) }
-    {
-        WrittenItem::Block(heading, items)
-    }
-}
-
 /// A table statement as it is written (pf.conf(5), TABLES).
 #[derive(Drop)]
 pub struct WrittenTable {
@@ -133,17 +105,4 @@ pub enum Statement {
     Anchors(WrittenAnchor),
     /// An anchor rule with the rules of its block.
     Blocks(WrittenHeading, Vec<WrittenItem>),
-}
-
-impl Statement {
-    /// A rule of any kind as a statement.
-    pub(crate) fn of_item(item: WrittenItem) -> Statement
-        ensures { statement_of result ≡ statement_with (item_text_of item) }
-    {
-        match item {
-            WrittenItem::Rule(rule) => Statement::Rules(rule),
-            WrittenItem::Anchor(anchor) => Statement::Anchors(anchor),
-            WrittenItem::Block(heading, items) => Statement::Blocks(heading, items),
-        }
-    }
 }

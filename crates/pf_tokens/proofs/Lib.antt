@@ -11,7 +11,7 @@
 --   and `skip` close. The stream of tokens is a struct of its own below the parser, since a call on the whole parser would
 --   want the ghost facts in mid-step.
 -- - `skip` asks nothing: at the end it does nothing, and `drop 1 [] = []`. So no production needs a `requires`.
--- - Loops in the form 'with what is left it gives all' closed with no answer (`collect_items`: seven facts, one
+-- - Loops in the form 'with what is left it gives all' closed with no answer (`collect`: seven facts, one
 --   answer).
 -- - **The token at hand.** What ends a statement is a newline, no word and no symbol: so `begins` and `begins_symbol` ask
 --   the token at hand and not whether the statement ends (`Skipping.begins_at_hand`). A word at the front of a source is

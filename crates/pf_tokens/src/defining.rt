@@ -77,28 +77,18 @@ fn is_macro_name(profile: Profile, name: &[u8]) -> bool
     !is_reserved(profile, name) && are_name_bytes(name)
 }
 
-/// Whether the byte may not be in a string of a macro statement.
-fn is_refused_byte(b: u8) -> bool
-    ensures { result ≡ is_refused_byte b }
-{
-    b == b'$' || b == b'#'
-}
-
 /// Whether a byte may not be in a string of a macro statement.
 fn has_refused_byte(text: &[u8]) -> bool
     ensures { result ≡ list_any is_refused_byte text.now }
 {
-    text.iter().any(|b| is_refused_byte(*b))
+    text.iter().any(|b| *b == b'$' || *b == b'#')
 }
 
 /// Whether it is a string that may not be in a macro statement.
 fn is_refused_string(lexeme: Lexeme<'_>) -> bool
     ensures { result ≡ is_refused_string (token_of lexeme.entry) }
 {
-    match lexeme {
-        Lexeme::Quoted(text) => has_refused_byte(text),
-        _ => false,
-    }
+    matches!(lexeme, Lexeme::Quoted(text) if has_refused_byte(text))
 }
 
 /// How many bytes the text has with one more item.
@@ -117,15 +107,11 @@ fn append(text: &mut Vec<u8>, some: bool, item: &[u8]) -> Result<(), AllocError>
     if some {
         text.push(b' ')?;
     }
-    text.extend_from_slice(item)?;
-    Ok(())
+    Ok(text.extend_from_slice(item)?)
 }
 
 /// The items up to the end of the statement.
-fn collect_items<'t: 's, 's>(
-    alloc: Global,
-    parser: &mut Parser<'t, 's>,
-) -> Result<Items, DefinitionFault>
+fn collect<'t: 's, 's>(alloc: Global, parser: &mut Parser<'t, 's>) -> Result<Items, DefinitionFault>
     ensures items { Collects result (definitions parser.old) (left parser.old) }
     ensures later { later parser.new ≡ later parser.old }
 {
@@ -162,21 +148,18 @@ pub fn definition<'t: 's, 's>(
     ensures value { Defines result (definition_at profile (definitions parser.old) (left parser.old)) }
     ensures later { later parser.new ≡ later parser.old }
 {
-    let Some(name) = parser.word() else {
-        return Err(DefinitionFault::Syntax);
-    };
+    let name = parser.word().ok_or(DefinitionFault::Syntax)?;
     if !parser.accept_symbol(Symbol::Equals) {
         return Err(DefinitionFault::Syntax);
     }
     if !is_macro_name(profile, name) {
         return Err(DefinitionFault::Macro);
     }
-    let Items { some, text, all } = collect_items(alloc, parser)?;
+    let Items { some, text, all } = collect(alloc, parser)?;
     if !all || !some {
         return Err(DefinitionFault::Syntax);
     }
-    let name = name.to_vec(alloc)?;
-    Ok(Macro::new(name, text))
+    Ok(Macro::new(name.to_vec(alloc)?, text))
 }
 
 /// A macro statement defines a macro exactly where the grammar spells that macro so and its name, its strings and the

@@ -32,14 +32,7 @@ impl Lexeme<'_> {
     pub fn is_newline(self) -> bool
         ensures { result ≡ is_newline (token_of self.entry) }
     {
-        match self {
-            Lexeme::Newline => true,
-            Lexeme::Word(_)
-            | Lexeme::Quoted(_)
-            | Lexeme::Macro(_)
-            | Lexeme::Mark(_)
-            | Lexeme::Bad => false,
-        }
+        matches!(self, Lexeme::Newline)
     }
 }
 
@@ -60,34 +53,14 @@ impl Lexed<'_> {
     }
 }
 
-/// For each byte whether it may be in a word token: a look-up is quicker than ten comparisons.
-const WORD_BYTES: [bool; 256] = [
-    false, false, false, false, false, false, false, false, false, false, false, false, false,
-    false, false, false, false, false, false, false, false, false, false, false, false, false,
-    false, false, false, false, false, false, false, false, false, false, false, true, false,
-    false, false, false, true, true, false, true, true, false, true, true, true, true, true, true,
-    true, true, true, true, true, false, false, false, false, false, true, true, true, true, true,
-    true, true, true, true, true, true, true, true, true, true, true, true, true, true, true, true,
-    true, true, true, true, true, true, false, false, false, false, true, false, true, true, true,
-    true, true, true, true, true, true, true, true, true, true, true, true, true, true, true, true,
-    true, true, true, true, true, true, true, false, false, false, false, false, false, false,
-    false, false, false, false, false, false, false, false, false, false, false, false, false,
-    false, false, false, false, false, false, false, false, false, false, false, false, false,
-    false, false, false, false, false, false, false, false, false, false, false, false, false,
-    false, false, false, false, false, false, false, false, false, false, false, false, false,
-    false, false, false, false, false, false, false, false, false, false, false, false, false,
-    false, false, false, false, false, false, false, false, false, false, false, false, false,
-    false, false, false, false, false, false, false, false, false, false, false, false, false,
-    false, false, false, false, false, false, false, false, false, false, false, false, false,
-    false, false, false, false, false, false, false, false, false, false, false, false, false,
-    false, false, false, false, false, false, false, false, false,
-];
+/// For each ASCII character a bit, whether it may be in a word token: a shift is quicker than ten comparisons.
+const WORD_BYTES: u128 = 0x07ff_fffe_87ff_ffff_07ff_6c20_0000_0000;
 
 /// Whether the byte may be in a word token.
 pub(crate) fn is_word_byte(b: u8) -> bool
     ensures { result ≡ is_word_byte b }
 {
-    WORD_BYTES[usize::from(b)]
+    b < 128 && (WORD_BYTES >> b) % 2 == 1
 }
 
 /// How many bytes the word token at the front has.
@@ -157,29 +130,18 @@ fn macro_name(bytes: &[u8]) -> (Option<Lexeme<'_>>, usize)
     if len == 0 {
         return (Some(Lexeme::Bad), 1);
     }
-    let (name, _) = bytes.split_at(len);
-    (Some(Lexeme::Macro(name)), len + 1)
-}
-
-/// The symbol of two letters that begins with this one.
-fn longer_symbol(b: u8, others: &[u8]) -> Option<Symbol>
-    ensures { result ≡ longer_symbol b others.now }
-{
-    let next = others.first()?;
-    symbol_of_two(b, *next)
+    (Some(Lexeme::Macro(&bytes[..len])), len + 1)
 }
 
 /// The longest symbol that begins with the byte.
 fn symbol_front<'a>(b: u8, others: &[u8]) -> (Option<Lexeme<'a>>, usize)
     ensures { front_of result ≡ longest (longer_symbol b others.now) (symbol_of b) }
 {
-    if let Some(symbol) = longer_symbol(b, others) {
+    if let Some(symbol) = others.first().and_then(|next| symbol_of_two(b, *next)) {
         return (Some(Lexeme::Mark(symbol)), 2);
     }
-    match symbol_of(b) {
-        Some(symbol) => (Some(Lexeme::Mark(symbol)), 1),
-        None => (Some(Lexeme::Bad), 1),
-    }
+    let lexeme = symbol_of(b).map_or(Lexeme::Bad, |symbol| Lexeme::Mark(symbol));
+    (Some(lexeme), 1)
 }
 
 /// What is at the front: a token, or none where it is a blank or a comment, and how many bytes it takes.

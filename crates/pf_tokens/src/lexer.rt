@@ -156,11 +156,7 @@ impl<'a> Lexer<'a> {
     {
         self.pass_steps();
         let (first, _) = self.rest.split_first()?;
-        if is_word_byte(*first) {
-            Some(self.line)
-        } else {
-            None
-        }
+        is_word_byte(*first).then_some(self.line)
     }
 
     /// Goes past empty statements. Answers the line of the first token behind them, none where no token is left.

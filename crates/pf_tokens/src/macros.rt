@@ -61,17 +61,14 @@ impl Macros {
     pub(crate) fn text_of(&self, name: &[u8]) -> Option<&[u8]>
         ensures { option_copied result ≡ text_of (definitions_of self.now) name.now }
     {
-        let at = self.last.get(name)?;
-        let one = self.all.get(*at)?;
-        Some(one.text.as_slice())
+        Some(self.all.get(*self.last.get(name)?)?.text.as_slice())
     }
 
     /// A value with the tokens of the last macro of that name, with no byte where there is none of them.
     pub(crate) fn tokens_of(&self, name: &[u8]) -> Option<&[u8]>
         ensures { HasTokensOf (option_copied result) (text_of (definitions_of self.now) name.now) }
     {
-        let at = self.last.get(name)?;
-        let one = self.all.get(*at)?;
+        let one = self.all.get(*self.last.get(name)?)?;
         if one.is_blank() {
             Some(&[])
         } else {

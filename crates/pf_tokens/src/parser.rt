@@ -70,7 +70,7 @@ where
     {
         Parser {
             stream: Stream::begin(text, macros),
-            passed: Passed::nothing(),
+            passed: Passed::default(),
             depth: 0,
             braces: 0,
         }
@@ -99,16 +99,8 @@ where
     pub fn peek(&self) -> Option<Lexeme<'s>>
         ensures { option_map token_of result ≡ first (left self.now) }
     {
-        match self.stream.next {
-            None => None,
-            Some(token) => {
-                if ends(self.depth, token) {
-                    None
-                } else {
-                    Some(token.lexeme)
-                }
-            }
-        }
+        let token = self.stream.next?;
+        (!ends(self.depth, token)).then_some(token.lexeme)
     }
 
     /// Takes the token at hand, behind which that many braces of the list are open.
@@ -177,10 +169,8 @@ where
         ensures { result ≡ begins word.now (left self.now) }
     {
         // A word token ends no statement.
-        match self.stream.next {
-            Some(token) => is_word(token.lexeme, word),
-            None => false,
-        }
+        let next = self.stream.next;
+        next.is_some_and(|token| is_word(token.lexeme, word))
     }
 
     /// Consumes this keyword, if it comes next.
@@ -245,8 +235,7 @@ where
         ensures later { later self.new ≡ later self.old }
         ensures definitions { definitions self.new ≡ definitions self.old }
     {
-        let token = self.stream.next?;
-        let text = word_in(token.lexeme)?;
+        let text = word_in(self.stream.next?.lexeme)?;
         self.pass();
         Some(text)
     }
@@ -258,8 +247,7 @@ where
         ensures later { later self.new ≡ later self.old }
         ensures definitions { definitions self.new ≡ definitions self.old }
     {
-        let token = self.stream.next?;
-        let text = name_in(token.lexeme)?;
+        let text = name_in(self.stream.next?.lexeme)?;
         self.pass();
         Some(text)
     }
@@ -322,10 +310,7 @@ where
 fn is_word(lexeme: Lexeme<'_>, word: &[u8]) -> bool
     ensures { result ≡ is_word word.now (token_of lexeme.entry) }
 {
-    match lexeme {
-        Lexeme::Word(text) => is_same_word(text, word),
-        _ => false,
-    }
+    matches!(lexeme, Lexeme::Word(text) if is_same_word(text, word))
 }
 
 /// The text of a word token.
@@ -355,10 +340,7 @@ fn name_in<'s>(lexeme: Lexeme<'s>) -> Option<&'s [u8]>
 fn is_symbol(lexeme: Lexeme<'_>, symbol: Symbol) -> bool
     ensures { result ≡ is_symbol symbol (token_of lexeme.entry) }
 {
-    match lexeme {
-        Lexeme::Mark(found) => found == symbol,
-        _ => false,
-    }
+    matches!(lexeme, Lexeme::Mark(found) if found == symbol)
 }
 
 /// Whether the statement ends with the token.

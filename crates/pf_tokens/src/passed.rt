@@ -1,11 +1,10 @@
 //! What was passed of a statement.
 
-ghost use Rattle.std.specs.Prelude.{◌≡◌, ◌∷◌, List, None, map};
+ghost use Rattle.std.specs.Prelude.{◌≡◌, ◌∷◌, List};
 ghost use Rattle.pf_tokens.specs.Tokens.{Token};
 ghost use Rattle.pf_tokens.specs.Lexed.{token_of};
-ghost use Rattle.pf_tokens.specs.Macros.{Definition, depth_after};
+ghost use Rattle.pf_tokens.specs.Macros.{depth_after};
 ghost use Rattle.pf_tokens.specs.Known.{definitions_of};
-ghost use Rattle.pf_tokens.specs.Faults.{is_bad, is_unknown, reading_fault};
 ghost use Rattle.pf_tokens.specs.Carried.{carried};
 
 use crate::fault::ReadingFault;
@@ -20,27 +19,10 @@ const TOKENS_MAX: u32 = 65536;
 const OPEN_MAX: u8 = 64;
 
 /// How many tokens of a statement were passed, and the first fault among them, behind which none is counted.
-#[derive(Clone, Copy)]
+#[derive(Clone, Copy, Default)]
 pub(crate) struct Passed {
     count: u32,
     pub fault: Option<ReadingFault>,
-}
-
-/// Whether it is no token.
-fn is_bad(lexeme: Lexeme<'_>) -> bool
-    ensures { result ≡ is_bad (token_of lexeme.entry) }
-{
-    matches!(lexeme, Lexeme::Bad)
-}
-
-/// Whether it is a macro that isn't known.
-fn is_unknown(macros: &Macros, lexeme: Lexeme<'_>) -> bool
-    ensures { result ≡ is_unknown (definitions_of macros.now) (token_of lexeme.entry) }
-{
-    match lexeme {
-        Lexeme::Macro(name) => macros.text_of(name).is_none(),
-        _ => false,
-    }
 }
 
 /// How many braces are open behind the token; no more than 65 are distinguished.
@@ -55,17 +37,6 @@ pub(crate) fn depth_after(depth: u8, lexeme: Lexeme<'_>) -> u8
 }
 
 impl Passed {
-    /// At the start of a statement.
-    pub(crate) fn nothing() -> Passed
-        ensures { (ts : List Token) (macros : List Definition) → carried macros result 0 ts ≡
-            reading_fault macros 0 0 ts }
-    {
-        Passed {
-            count: 0,
-            fault: None,
-        }
-    }
-
     /// With one token more, before which that many braces were open.
     pub(crate) fn with(self, macros: &Macros, depth: u8, lexeme: Lexeme<'_>) -> Passed
         ensures { let t = token_of lexeme.entry in let ds = definitions_of macros.now in (ts : List Token) →
@@ -74,21 +45,13 @@ impl Passed {
         if self.fault.is_some() {
             return self;
         }
-        let fault = if is_bad(lexeme) {
-            Some(ReadingFault::Lexical)
-        } else if is_unknown(macros, lexeme) {
-            Some(ReadingFault::UnknownMacro)
-        } else if self.count >= TOKENS_MAX || depth_after(depth, lexeme) > OPEN_MAX {
-            Some(ReadingFault::TooMany)
-        } else {
-            return Passed {
-                count: self.count + 1,
-                fault: None,
-            };
-        };
-        Passed {
-            count: self.count,
-            fault,
-        }
+        let unknown = matches!(lexeme, Lexeme::Macro(name) if macros.text_of(name).is_none());
+        let many = self.count >= TOKENS_MAX || depth_after(depth, lexeme) > OPEN_MAX;
+        let fault = matches!(lexeme, Lexeme::Bad)
+            .then_some(ReadingFault::Lexical)
+            .or(unknown.then_some(ReadingFault::UnknownMacro))
+            .or(many.then_some(ReadingFault::TooMany));
+        let count = self.count.saturating_add(1);
+        Passed { count, fault }
     }
 }

@@ -178,10 +178,7 @@ where
     fn at_newline(&self) -> bool
         ensures { result ≡ at_newline self.now.next }
     {
-        match self.next {
-            None => false,
-            Some(token) => token.lexeme.is_newline(),
-        }
+        self.next.is_some_and(|token| token.lexeme.is_newline())
     }
 }
 
@@ -194,8 +191,5 @@ fn begins_with_equals(text: Lexer<'_>) -> bool
     if ahead.word_line().is_some() {
         return false;
     }
-    let Some(token) = ahead.next_token() else {
-        return false;
-    };
-    matches!(token.lexeme, Lexeme::Mark(Symbol::Equals))
+    ahead.next_token().is_some_and(|token| matches!(token.lexeme, Lexeme::Mark(Symbol::Equals)))
 }

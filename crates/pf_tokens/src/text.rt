@@ -71,16 +71,12 @@ impl<'a> Text<'a> {
         ensures { IfOk result (λ t. text_tokens t ≡ tokens text.now) }
     {
         if !is_continued(text) {
-            return Ok(Text {
-                bytes: CowSlice::Borrowed(text),
-                steps: Vec::new(alloc),
-            });
+            let (bytes, steps) = (CowSlice::Borrowed(text), Vec::new(alloc));
+            return Ok(Text { bytes, steps });
         }
         let (bytes, steps) = joined(alloc, text)?;
-        Ok(Text {
-            bytes: CowSlice::Owned(bytes),
-            steps,
-        })
+        let bytes = CowSlice::Owned(bytes);
+        Ok(Text { bytes, steps })
     }
 
     /// Its tokens from the first on.

@@ -82,14 +82,14 @@ abbrev pub Makes : Change → List AnyRule → List (Name × TableValue) → Lis
 Makes (Entry name e edit) rules tables rules' tables' = (rules' ≡ rules) ×
     Takes (edited_in edit e.now (named name.now tables)) name.now tables tables'
 Makes (Whole name t) rules tables rules' tables' = (rules' ≡ rules) × (tables' ≡ with_table tables name.now t.now)
-Makes (Own own held) rules tables rules' tables' = IsGiven (map rule_of own.now.items.value.items) held.now rules
+Makes (Own own) rules tables rules' tables' = IsGiven (map rule_of own.now.items.value.items) own.now.tables rules
     tables rules' tables'
 
 -- a table that it makes may go
 abbrev pub makes_fleeting : Change → Bool
 makes_fleeting (Entry name e edit) = false
 makes_fleeting (Whole name t) = not t.now.persist
-makes_fleeting (Own own held) = list_any is_fleeting held.now
+makes_fleeting (Own own) = list_any is_fleeting own.now.tables
 
 -- rules and tables of which there are some are changed, or they are as they were
 abbrev pub OwnChangesIf : Bool → Changing → List AnyRule → List (Name × TableValue) → List AnyRule →

@@ -8,7 +8,6 @@ use Rattle.pf_grammar.specs.declared.fault.Refusal.{Refusal}
 use Rattle.pf_grammar.specs.declared.gathered.Change.{Change}
 use Rattle.pf_grammar.specs.declared.gathered.Change.TheVariants as changes
 use Rattle.pf_grammar.specs.declared.gathered.Gathered.{Gathered}
-use Rattle.pf_grammar.specs.declared.gathered.GatheredRuleset.{GatheredRuleset}
 use Rattle.pf_rules.specs.declared.rule.Rule.{Rule}
 use Rattle.pf_rules.specs.Items.{Anchors, Filters, Heading}
 use Rattle.pf_rules.specs.Seen.{heading_of, items_of}
@@ -16,14 +15,14 @@ use Rattle.pf_grammar.specs.Reading.{Sofar, with_skip, with_table, with_items}
 use Rattle.pf_rules.specs.Rulesets.{RulesetValue, table_of}
 use Rattle.pf_expansion.specs.Defined.{tables_of}
 
-abbrev pub ruleset_in : GatheredRuleset → RulesetValue
+abbrev pub ruleset_in : Gathered → RulesetValue
 ruleset_in g = record { skip = g.skip.items; tables = tables_of g.tables; items = items_of g.items.items }
 
 abbrev pub sofar_of : Gathered → Sofar
 sofar_of g = record {
   macros = definitions_of g.macros;
   policy = g.policy;
-  content = ruleset_in g.content;
+  content = ruleset_in g;
 }
 
 abbrev pub with_change : Sofar → Change → Sofar

@@ -16,8 +16,8 @@ pub change_below-change_kid-requires : goal.change_below-change_kid-requires
 change_below-change_kid-requires t c =
     let own = c.anchor.inside in
     let names : c.deref.result.now ≡ own.names.items = search rules in
-    let kids = subst (λ (p : Path). AreKids p (shared own.kids.items)) (sym names) c.anchor.invariant.1 in
-    let order = kids_in_order own.names.items (shared own.kids.items) c.anchor.invariant.1 in
+    let kids = subst (λ (p : Path). AreKids p (shared own.kids.items)) (sym names) c.anchor.invariant in
+    let order = kids_in_order own.names.items (shared own.kids.items) c.anchor.invariant in
     (search rules, (kids, order))
 
 pub change_kid-index_mut-held-requires : goal.change_kid-index_mut-held-requires
@@ -52,23 +52,23 @@ change_below-invariant_of-anchor-in-len1-up t c =
     let names : c.deref.result.now ≡ own.names.items = search rules in
     let js = shared c.change_kid.new.kids.items in
     let made = subst (λ (p : Path). MatchResult c.change_kid.result (λ done. KidChangesIf done (Makes c.args.change.now) p n more (shared own.kids.items) js) (λ e. js ≡ shared own.kids.items)) names c.change_kid.ensures in
-    let all = kid_changes c.change_kid.result (Makes c.args.change.now) n own.names.items more rest (map rule_of own.items.value.items) own.tables (shared own.kids.items) js c.anchor.invariant.1 cut made in
-    (c.anchor.invariant.0, all.kids, c.anchor.invariant.2)
+    let all = kid_changes c.change_kid.result (Makes c.args.change.now) n own.names.items more rest (map rule_of own.own.items.value.items) own.own.tables (shared own.kids.items) js c.anchor.invariant cut made in
+    all.kids
 
 pub change_below-returns-in-empty : goal.change_below-returns-in-empty
 change_below-returns-in-empty t c =
     let own = c.anchor.inside in
-    let held = map rule_of own.items.value.items in
-    let next = map rule_of c.change_own.new.items.value.items in
+    let held = map rule_of own.own.items.value.items in
+    let next = map rule_of c.change_own.new.own.items.value.items in
     let short : length c.args.rest.now ≡ 0 = search rules in
-    let all = own_changes (Makes c.args.change.now) c.change_own.result own.names.items c.args.rest.now held next own.tables c.change_own.new.tables (shared own.kids.items) c.anchor.invariant.1 c.change_own.ensures.changed (none_is c.args.rest.now short) in
-    let new = tree_with own.names.items (own_entry own.names.items next c.change_own.new.tables ++ below (shared own.kids.items)) in
+    let all = own_changes (Makes c.args.change.now) c.change_own.result own.names.items c.args.rest.now held next own.own.tables c.change_own.new.own.tables (shared own.kids.items) c.anchor.invariant c.change_own.ensures (none_is c.args.rest.now short) in
+    let new = tree_with own.names.items (own_entry own.names.items next c.change_own.new.own.tables ++ below (shared own.kids.items)) in
     subst (λ (x : AnchorTree). MatchResult c.change_own.result (λ done. TreeChangesIf done (Makes c.args.change.now) c.args.rest.now x new) (λ e. new ≡ x)) c.anchor.view_is all
 
 pub change_below-returns-in-len1-up : goal.change_below-returns-in-len1-up
 change_below-returns-in-len1-up t c =
     let own = c.anchor.inside in
-    let held = map rule_of own.items.value.items in
+    let held = map rule_of own.own.items.value.items in
     let rest = c.args.rest.now in
     let n = c.first-item.result in
     let more = take (length rest - 1) (drop 1 rest) in
@@ -76,6 +76,6 @@ change_below-returns-in-len1-up t c =
     let names : c.deref.result.now ≡ own.names.items = search rules in
     let js = shared c.change_kid.new.kids.items in
     let made = subst (λ (p : Path). MatchResult c.change_kid.result (λ done. KidChangesIf done (Makes c.args.change.now) p n more (shared own.kids.items) js) (λ e. js ≡ shared own.kids.items)) names c.change_kid.ensures in
-    let all = kid_changes c.change_kid.result (Makes c.args.change.now) n own.names.items more rest held own.tables (shared own.kids.items) js c.anchor.invariant.1 cut made in
-    let new = tree_with own.names.items (own_entry own.names.items held own.tables ++ below js) in
+    let all = kid_changes c.change_kid.result (Makes c.args.change.now) n own.names.items more rest held own.own.tables (shared own.kids.items) js c.anchor.invariant cut made in
+    let new = tree_with own.names.items (own_entry own.names.items held own.own.tables ++ below js) in
     subst (λ (x : AnchorTree). MatchResult c.change_kid.result (λ done. TreeChangesIf done (Makes c.args.change.now) rest x new) (λ e. new ≡ x)) c.anchor.view_is all.is

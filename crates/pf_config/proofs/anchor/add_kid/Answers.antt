@@ -19,8 +19,8 @@ pub returns : goal.returns
 returns c =
     let ks = c.args.kids.now.items in
     let at = c.args.at in
-    let own = map rule_of c.in-Some.rules.items.value.items in
+    let own = map rule_of c.in-Some.own.items.value.items in
     let new : c.insert.new.self.items ≡ take at ks ++ c.in_ok-kid.kid ∷ drop at ks = search rules in
-    let made : AreNew (Makes c.args.change.now) (Some (own, c.in-Some.tables)) = search rules in
-    let value : c.in_ok-kid.kid.value ≡ placed_in (record { names = c.args.names.now ++ c.args.first.now ∷ []; anchors = [] }) c.args.more.now own c.in-Some.tables = search rules in
-    kid_new (Makes c.args.change.now) c.args.names.now c.args.first.now c.args.more.now own c.in-Some.tables at ks c.insert.new.self.items c.in_ok-kid.kid c.requires.kids c.requires.place c.requires.none new value made.0 made.1
+    let made : AreNew (Makes c.args.change.now) (Some (own, c.in-Some.own.tables)) = search rules in
+    let value : c.in_ok-kid.kid.value ≡ placed_in (record { names = c.args.names.now ++ c.args.first.now ∷ []; anchors = [] }) c.args.more.now own c.in-Some.own.tables = search rules in
+    kid_new (Makes c.args.change.now) c.args.names.now c.args.first.now c.args.more.now own c.in-Some.own.tables at ks c.insert.new.self.items c.in_ok-kid.kid c.requires.kids c.requires.place c.requires.none new value made.0 made.1

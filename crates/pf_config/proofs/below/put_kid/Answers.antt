@@ -4,8 +4,8 @@ use Rattle.pf_config.specs.Trees.{shared}
 use Rattle.pf_config.proofs.KidPlaces.{put_in}
 use Rattle.pf_config.proofs.below.put_kid.Goals as goal
 
-pub returns : goal.returns
-returns c =
+pub returns-in_ok-insert : goal.returns-in_ok-insert
+returns-in_ok-insert c =
     let all = c.args.kids.now.items in
     let some : is_empty c.args.kid.value.anchors ≡ false = search rules in
     let new : c.insert.new.self.items ≡ take c.args.at all ++ c.args.kid ∷ drop c.args.at all = search rules in

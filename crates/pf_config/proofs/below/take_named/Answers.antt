@@ -11,8 +11,8 @@ returns-then-not-is_at-clause-left c =
     let none : is_some (find (is_named c.args.name.now) (shared c.args.kids.now.items)) ≡ false = search rules in
     (left_whole c.args.name.now (shared c.args.kids.now.items) c.requires.order none).1
 
-pub remove-kid-requires : goal.remove-kid-requires
-remove-kid-requires c =
+pub remove-requires : goal.remove-requires
+remove-requires c =
     let some : is_some (find (is_named c.args.name.now) (shared c.args.kids.now.items)) ≡ true = search rules in
     let less = has_place c.args.name.now c.args.at c.args.kids.now.items c.requires.order c.requires.place some in
     search rules
@@ -22,13 +22,13 @@ returns-clause-removed c =
     let all = c.args.kids.now.items in
     let some : is_some (find (is_named c.args.name.now) (shared all)) ≡ true = search rules in
     let less = has_place c.args.name.now c.args.at all c.requires.order c.requires.place some in
-    let next = next_kid all c.args.at c.remove-kid.result less c.remove-kid.ensures.value in
-    (removed_at c.args.name.now c.args.at all (drop (c.args.at + 1) all) c.remove-kid.result c.requires.order c.requires.place some next).0
+    let next = next_kid all c.args.at c.remove.result less c.remove.ensures.value in
+    (removed_at c.args.name.now c.args.at all (drop (c.args.at + 1) all) c.remove.result c.requires.order c.requires.place some next).0
 
 pub returns-clause-left : goal.returns-clause-left
 returns-clause-left c =
     let all = c.args.kids.now.items in
     let some : is_some (find (is_named c.args.name.now) (shared all)) ≡ true = search rules in
     let less = has_place c.args.name.now c.args.at all c.requires.order c.requires.place some in
-    let next = next_kid all c.args.at c.remove-kid.result less c.remove-kid.ensures.value in
-    ap shared c.remove-kid.ensures.by_index.2 ∙ (removed_at c.args.name.now c.args.at all (drop (c.args.at + 1) all) c.remove-kid.result c.requires.order c.requires.place some next).1
+    let next = next_kid all c.args.at c.remove.result less c.remove.ensures.value in
+    ap shared c.remove.ensures.by_index.2 ∙ (removed_at c.args.name.now c.args.at all (drop (c.args.at + 1) all) c.remove.result c.requires.order c.requires.place some next).1

@@ -11,6 +11,6 @@ use Rattle.pf_config.proofs.unused.asked_tables.Goals as goal
 
 pub of-requires : goal.of-requires
 of-requires c =
-    let own : AnchorValue = record { path = c.args.path.now; rules = map rule_of c.args.items.now; tables = [] } in
-    let whole : c.loop-entry.next.items ≡ used_tables c.args.main.now.anchors own c.args.tables.now = grind (arith, common_steps) in
-    subst AreOrdered (sym whole) (ordered_filter (λ (t : Name × TableValue). t.1.persist || is_used c.args.main.now.anchors own t.0) c.args.tables.now c.requires)
+    let own : AnchorValue = record { path = c.args.path.now; rules = map rule_of c.args.own.now.items.value.items; tables = [] } in
+    let whole : c.loop-entry.next.items ≡ used_tables c.args.main.now.anchors own c.args.own.now.tables = grind (arith, common_steps) in
+    subst AreOrdered (sym whole) (ordered_filter (λ (t : Name × TableValue). t.1.persist || is_used c.args.main.now.anchors own t.0) c.args.own.now.tables (subst AreOrdered c.list-entry-items.ensures.value c.list-entry-items.ensures.ordered))

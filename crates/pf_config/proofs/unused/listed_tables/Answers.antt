@@ -9,4 +9,4 @@ use Rattle.pf_config.proofs.unused.listed_tables.Goals as goal
 pub of-requires : goal.of-requires
 of-requires c =
     let whole : c.loop-entry.next.items ≡ filter (stays_by c.args.names.now) c.args.tables.now = grind (arith, common_steps) in
-    subst AreOrdered (sym whole) (ordered_filter (stays_by c.args.names.now) c.args.tables.now c.requires)
+    subst AreOrdered (sym whole) (ordered_filter (stays_by c.args.names.now) c.args.tables.now (subst AreOrdered c.list-entry-items.ensures.value c.list-entry-items.ensures.ordered))

@@ -12,7 +12,7 @@ decreases-read_items l = 2 * length (left l.parser.now) + 1
 
 abbrev pub invariant-read_items-loop-parser : goal.invariant-read_items-loop-parser
 invariant-read_items-loop-parser l = record {
-  going : (n : ℕ) → length (left l.fn.parser) < n → Going l.fn.profile (items_at n l.fn.profile (left l.fn.parser)) l.items.items (left l.parser);
+  going : (n : ℕ) → length (left l.fn.parser) < n → Going l.fn.cx.profile (items_at n l.fn.cx.profile (left l.fn.parser)) l.items.items (left l.parser);
   no_longer : length (left l.parser) ≤ length (left l.fn.parser);
   later : later l.parser ≡ later l.fn.parser;
 }

@@ -7,7 +7,7 @@ use Rattle.pf_statements.proofs.options.read_options.Given as goal
 
 abbrev pub invariant-options : goal.invariant-options
 invariant-options l = record {
-  going : Going (option_with l.fn.profile) (options_at (suc (length (left l.fn.parser))) l.fn.profile no_options (left l.fn.parser)) (options_of l.options) (left l.parser);
+  going : Going (option_with l.fn.cx.profile) (options_at (suc (length (left l.fn.parser))) l.fn.cx.profile no_options (left l.fn.parser)) (options_of l.options) (left l.parser);
   later : later l.parser ≡ later l.fn.parser;
 }
 

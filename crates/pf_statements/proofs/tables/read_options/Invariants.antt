@@ -8,7 +8,7 @@ use Rattle.pf_statements.proofs.tables.read_options.Given as goal
 
 abbrev pub invariant-options : goal.invariant-options
 invariant-options l = record {
-  going : Going (table_option l.fn.profile) (to_end (table_option l.fn.profile) (suc (length (left l.fn.parser))) (new_table l.fn.name) (left l.fn.parser)) (table_text_of l.table) (left l.parser);
+  going : Going (table_option l.fn.cx.profile) (to_end (table_option l.fn.cx.profile) (suc (length (left l.fn.parser))) (new_table l.fn.name) (left l.fn.parser)) (table_text_of l.table) (left l.parser);
   later : later l.parser ≡ later l.fn.parser;
 }
 

@@ -12,9 +12,9 @@ pub returns : goal.returns
 returns t c =
     let own = c.self.inside in
     let whole = c.args.main.now.anchors in
-    let here : list_any (is_idle whole (record { path = own.names.items; rules = map rule_of own.items.value.items; tables = [] })) own.tables ≡ false = grind (arith, common_steps) in
+    let here : list_any (is_idle whole (record { path = own.names.items; rules = map rule_of own.own.items.value.items; tables = [] })) own.own.tables ≡ false = grind (arith, common_steps) in
     let all = c.deref-kid-items.result.now in
     let left : drop c.loop-kid.kid-index all ≡ [] = drop_all c.loop-kid.kid-index all (let m = c.loop-kid-test.false in omega (arith, m)) in
     let there : any_sheds whole (below (shared own.kids.items)) ≡ false = sym (ap (λ ks. any_sheds whole (below (shared ks))) c.deref-kid-items.ensures.value) ∙ sym c.loop-kid.invariant ∙ ap (λ ks. any_sheds whole (below (shared ks))) left in
     subst (λ (x : AnchorTree). false ≡ any_sheds whole x.anchors) c.self.view_is
-    (sym (sheds_own whole own.names.items (map rule_of own.items.value.items) own.tables (shared own.kids.items) ∙ rw (here, there) refl))
+    (sym (sheds_own whole own.names.items (map rule_of own.own.items.value.items) own.own.tables (shared own.kids.items) ∙ rw (here, there) refl))

@@ -14,9 +14,9 @@ loop-kid-preserved t c =
     let i = c.loop-kid.kid-index in
     let k = c.kid-item.result in
     let next = ap shared (next_kid all i k (search rules) c.kid-item.is) in
-    let own : c.in_ok-new.field-0.value ≡ c.in_ok-own.own = search rules in
+    let own : c.in_ok-new.field-0.value ≡ c.in_ok-next.next = search rules in
     let at : c.deref-in-loop-kid-2.result.now ≡ k.value = search rules in
-    let more = walked_some c.in_ok-names.names.items (tidied_of c.args.main.now.anchors) (tidied_cuts c.args.main.now.anchors) (shared c.loop-kid.kids.items) k.value c.in_ok-new.field-0.value (shared (drop i all)) (shared (drop (i + 1) all)) (shared all) c.loop-kid.invariant next (own ∙ c.in_ok-own.ensures ∙ ap {B = AnchorTree} (λ (x : AnchorTree). record { names = x.names; anchors = tidied_of c.args.main.now.anchors x.anchors }) at) in
+    let more = walked_some c.in_ok-names.names.items (tidied_of c.args.main.now.anchors) (tidied_cuts c.args.main.now.anchors) (shared c.loop-kid.kids.items) k.value c.in_ok-new.field-0.value (shared (drop i all)) (shared (drop (i + 1) all)) (shared all) c.loop-kid.invariant next (own ∙ c.in_ok-next.ensures ∙ ap {B = AnchorTree} (λ (x : AnchorTree). record { names = x.names; anchors = tidied_of c.args.main.now.anchors x.anchors }) at) in
     subst (λ r. Walked c.in_ok-names.names.items (tidied_of c.args.main.now.anchors) r (shared (drop (i + 1) all)) (shared all)) (sym c.in_ok-push_some-2.ensures) more
 
 pub loop-kid-preserved-then-not-has_unused : goal.loop-kid-preserved-then-not-has_unused
@@ -36,8 +36,8 @@ returns t c =
     let whole = c.args.main.now.anchors in
     let all = c.deref-kid-items.result.now in
     let names : c.in_ok-names.names.items ≡ own.names.items = grind (arith, common_steps) in
-    let rules : map rule_of c.in_ok-items.items.value.items ≡ map rule_of own.items.value.items = grind (arith, common_steps) in
-    let used : c.in_ok-tables.tables ≡ used_tables whole (record { path = own.names.items; rules = map rule_of own.items.value.items; tables = [] }) own.tables = grind (arith, common_steps) in
+    let rules : map rule_of c.in_ok-own.own.items.value.items ≡ map rule_of own.own.items.value.items = grind (arith, common_steps) in
+    let used : c.in_ok-own.own.tables ≡ used_tables whole (record { path = own.names.items; rules = map rule_of own.own.items.value.items; tables = [] }) own.own.tables = grind (arith, common_steps) in
     let z : length (shared (drop c.loop-kid.kid-index all)) ≡ 0 = length-map (drop c.loop-kid.kid-index all) (λ k. k.value) ∙ (let n = length-drop c.loop-kid.kid-index all in let m = c.loop-kid-test.false in omega (arith, n, m)) in
-    subst (λ (x : AnchorTree). ◌≡◌ {A = AnchorTree} (record { names = c.in_ok-names.names.items; anchors = own_entry c.in_ok-names.names.items (map rule_of c.in_ok-items.items.value.items) c.in_ok-tables.tables ++ below (shared c.loop-kid.kids.items) }) (record { names = x.names; anchors = tidied_of whole x.anchors })) c.self.view_is
-    (tidied_done whole own.names.items c.in_ok-names.names.items (map rule_of own.items.value.items) (map rule_of c.in_ok-items.items.value.items) own.tables c.in_ok-tables.tables (shared c.loop-kid.kids.items) (shared (drop c.loop-kid.kid-index all)) (shared all) (shared own.kids.items) names rules used (ap shared c.deref-kid-items.ensures.value) c.loop-kid.invariant z)
+    subst (λ (x : AnchorTree). ◌≡◌ {A = AnchorTree} (record { names = c.in_ok-names.names.items; anchors = own_entry c.in_ok-names.names.items (map rule_of c.in_ok-own.own.items.value.items) c.in_ok-own.own.tables ++ below (shared c.loop-kid.kids.items) }) (record { names = x.names; anchors = tidied_of whole x.anchors })) c.self.view_is
+    (tidied_done whole own.names.items c.in_ok-names.names.items (map rule_of own.own.items.value.items) (map rule_of c.in_ok-own.own.items.value.items) own.own.tables c.in_ok-own.own.tables (shared c.loop-kid.kids.items) (shared (drop c.loop-kid.kid-index all)) (shared all) (shared own.kids.items) names rules used (ap shared c.deref-kid-items.ensures.value) c.loop-kid.invariant z)

@@ -15,9 +15,9 @@ loop-kid-preserved t c =
     let i = c.loop-kid.kid-index in
     let k = c.kid-item.result in
     let next = ap shared (next_kid all i k (search rules) c.kid-item.is) in
-    let own : c.in_ok-new.field-0.value ≡ c.in_ok-own.own = search rules in
+    let own : c.in_ok-new.field-0.value ≡ c.in_ok-next.next = search rules in
     let at : c.deref-in-loop-kid-2.result.now ≡ k.value = search rules in
-    let more = walked_some c.in_ok-names.names.items (without_unnamed c.args.path.now) (unnamed_cuts c.args.path.now) (shared c.loop-kid.kids.items) k.value c.in_ok-new.field-0.value (shared (drop i all)) (shared (drop (i + 1) all)) (shared all) c.loop-kid.invariant next (own ∙ c.in_ok-own.ensures ∙ ap {B = AnchorTree} (λ (x : AnchorTree). record { names = x.names; anchors = without_unnamed c.args.path.now x.anchors }) at) in
+    let more = walked_some c.in_ok-names.names.items (without_unnamed c.args.path.now) (unnamed_cuts c.args.path.now) (shared c.loop-kid.kids.items) k.value c.in_ok-new.field-0.value (shared (drop i all)) (shared (drop (i + 1) all)) (shared all) c.loop-kid.invariant next (own ∙ c.in_ok-next.ensures ∙ ap {B = AnchorTree} (λ (x : AnchorTree). record { names = x.names; anchors = without_unnamed c.args.path.now x.anchors }) at) in
     subst (λ r. Walked c.in_ok-names.names.items (without_unnamed c.args.path.now) r (shared (drop (i + 1) all)) (shared all)) (sym c.in_ok-push_some-2.ensures) more
 
 pub loop-kid-preserved-then-not-has_unnamed : goal.loop-kid-preserved-then-not-has_unnamed
@@ -39,7 +39,7 @@ returns-then-is_unnamed_below t c =
     let seen : c.deref-2.result.now ≡ own.names.items = grind (arith, common_steps) in
     let u : is_some_unnamed (name_after q own.names.items) ≡ true = subst (λ p. is_some_unnamed (name_after q p) ≡ true) seen (sym c.is_unnamed_below.ensures ∙ c.if-is_unnamed_below.true) in
     subst (λ (x : AnchorTree). c.in_ok-none.none ≡ record { names = x.names; anchors = without_unnamed q x.anchors }) c.self.view_is
-    (c.in_ok-none.ensures ∙ unnamed_gone own.names.items q c.in_ok-names.names.items (map rule_of own.items.value.items) own.tables (shared own.kids.items) c.self.invariant.1 u names)
+    (c.in_ok-none.ensures ∙ unnamed_gone own.names.items q c.in_ok-names.names.items (map rule_of own.own.items.value.items) own.own.tables (shared own.kids.items) c.self.invariant u names)
 
 pub returns : goal.returns
 returns t c =
@@ -48,9 +48,9 @@ returns t c =
     let all = c.deref-kid-items.result.now in
     let names : c.in_ok-names.names.items ≡ own.names.items = grind (arith, common_steps) in
     let seen : c.deref-2.result.now ≡ own.names.items = grind (arith, common_steps) in
-    let rules : map rule_of c.in_ok-items.items.value.items ≡ map rule_of own.items.value.items = grind (arith, common_steps) in
-    let tables : c.in_ok-tables.tables ≡ own.tables = grind (arith, common_steps) in
+    let rules : map rule_of c.in_ok-own.own.items.value.items ≡ map rule_of own.own.items.value.items = grind (arith, common_steps) in
+    let tables : c.in_ok-own.own.tables ≡ own.own.tables = grind (arith, common_steps) in
     let z : length (shared (drop c.loop-kid.kid-index all)) ≡ 0 = length-map (drop c.loop-kid.kid-index all) (λ k. k.value) ∙ (let n = length-drop c.loop-kid.kid-index all in let m = c.loop-kid-test.false in omega (arith, n, m)) in
     let u : is_some_unnamed (name_after q own.names.items) ≡ false = subst (λ p. is_some_unnamed (name_after q p) ≡ false) seen (sym c.is_unnamed_below.ensures ∙ c.if-is_unnamed_below.false) in
-    subst (λ (x : AnchorTree). ◌≡◌ {A = AnchorTree} (record { names = c.in_ok-names.names.items; anchors = own_entry c.in_ok-names.names.items (map rule_of c.in_ok-items.items.value.items) c.in_ok-tables.tables ++ below (shared c.loop-kid.kids.items) }) (record { names = x.names; anchors = without_unnamed q x.anchors })) c.self.view_is
-    (unnamed_done own.names.items q c.in_ok-names.names.items (map rule_of own.items.value.items) (map rule_of c.in_ok-items.items.value.items) own.tables c.in_ok-tables.tables (shared c.loop-kid.kids.items) (shared (drop c.loop-kid.kid-index all)) (shared all) (shared own.kids.items) u names rules tables (ap shared c.deref-kid-items.ensures.value) c.loop-kid.invariant z)
+    subst (λ (x : AnchorTree). ◌≡◌ {A = AnchorTree} (record { names = c.in_ok-names.names.items; anchors = own_entry c.in_ok-names.names.items (map rule_of c.in_ok-own.own.items.value.items) c.in_ok-own.own.tables ++ below (shared c.loop-kid.kids.items) }) (record { names = x.names; anchors = without_unnamed q x.anchors })) c.self.view_is
+    (unnamed_done own.names.items q c.in_ok-names.names.items (map rule_of own.own.items.value.items) (map rule_of c.in_ok-own.own.items.value.items) own.own.tables c.in_ok-own.own.tables (shared c.loop-kid.kids.items) (shared (drop c.loop-kid.kid-index all)) (shared all) (shared own.kids.items) u names rules tables (ap shared c.deref-kid-items.ensures.value) c.loop-kid.invariant z)

@@ -11,6 +11,6 @@ returns-clause-own c =
     let kids = shared own.kids.items in
     let of_items : AreBelow c.args.self.now kids =
     subst (λ (t : AnchorTree). AreBelow t kids) c.self.view_is (λ i k g.
-    sym (kid_found kids i k (kids_in_order own.names.items kids c.self.invariant.1) g)
-    ∙ child_is own.names.items (last_name k.names) (map rule_of own.items.value.items) own.tables kids c.self.invariant.1) in
+    sym (kid_found kids i k (kids_in_order own.names.items kids c.self.invariant) g)
+    ∙ child_is own.names.items (last_name k.names) (map rule_of own.own.items.value.items) own.own.tables kids c.self.invariant) in
     subst (λ ks. AreBelow c.args.self.now (shared ks)) (sym c.deref.ensures.value) of_items

@@ -12,10 +12,10 @@ use Rattle.pf_config.proofs.anchor.Anchor.target.Goals as goal
 pub kid_named-requires : goal.kid_named-requires
 kid_named-requires c =
     let own = c.self.inside in
-    subst (λ ks. AreInOrder (shared ks)) (sym c.deref.ensures.value) (kids_in_order own.names.items (shared own.kids.items) c.self.invariant.1)
+    subst (λ ks. AreInOrder (shared ks)) (sym c.deref.ensures.value) (kids_in_order own.names.items (shared own.kids.items) c.self.invariant)
 
 pub returns : goal.returns
 returns c =
     let own = c.self.inside in
     subst (λ (t : AnchorTree). option_copied c.kid_named.result ≡ child_at t c.args.name.now) c.self.view_is
-    (c.kid_named.ensures ∙ ap (λ ks. find (is_named c.args.name.now) (shared ks)) c.deref.ensures.value ∙ child_is own.names.items c.args.name.now (map rule_of own.items.value.items) own.tables (shared own.kids.items) c.self.invariant.1)
+    (c.kid_named.ensures ∙ ap (λ ks. find (is_named c.args.name.now) (shared ks)) c.deref.ensures.value ∙ child_is own.names.items c.args.name.now (map rule_of own.own.items.value.items) own.own.tables (shared own.kids.items) c.self.invariant)

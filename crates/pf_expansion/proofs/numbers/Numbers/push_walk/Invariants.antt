@@ -7,4 +7,5 @@ abbrev pub invariant-loop-name : goal.invariant-loop-name
 invariant-loop-name l = record {
   grows : Grows l.initial.self.steps l.self.steps;
   found : walk l.self.steps (Some l.fn.from) (take l.name-index l.names) ≡ Some l.at;
+  kept : l.self.found ≡ l.initial.self.found;
 }

@@ -6,7 +6,7 @@ use Rattle.pf_tokens.proofs.text.Text.new.Goals as goal
 
 pub returns-then-not-is_continued : goal.returns-then-not-is_continued
 unfolding text_tokens
-returns-then-not-is_continued c = rw c.new.ensures.items (ap (tokens_behind 0) (letters_given 1 0 c.args.text.now (sym c.is_continued.ensures ∙ c.if-not-is_continued.true)))
+returns-then-not-is_continued c = rw c.new-steps.ensures.items (ap (tokens_behind 0) (letters_given 1 0 c.args.text.now (sym c.is_continued.ensures ∙ c.if-not-is_continued.true)))
 
 pub returns : goal.returns
 unfolding text_tokens
