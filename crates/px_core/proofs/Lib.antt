@@ -8,7 +8,8 @@
 --   `log_in`, which unfold.
 -- - Each case of the step is a function of its own with `unfolding` of its definition, and answers a `Plan` for any log
 --   and volatile part (`plan_of n me log v plan ≡ on_prepare ..`) where it reads none of them, else for the core (`made
---   self.now plan ≡ ..`). Only the answers of `room` at idle plans are written, one line each.
+--   self.now plan ≡ ..`). A plan is made by `Plan::new`, whose contract is one equation, so `room` is
+--   answered only where a callee's clause speaks of any core.
 -- - `plan_event` makes the plan, and `plan` states of its answer what can be spelled: one lemma by cases on the answer
 --   (`answer_fits`), with one return to prove.
 -- - `settle` hands the `Next` to `take_over`, whose clauses are two definitions by cases (`settled`, `learning`); 'nothing
@@ -29,8 +30,7 @@
 --   (`entry.rt`, `state.rt`, `votes.rt`).
 -- - A method's proof folder goes by the module of its type: `proofs/votes/Votes/keep` for an `impl Votes` in `voting.rt`.
 -- - An entry's number: a function of its own over `<[u8; 8]>::try_from` closes; the same inside `EntryView::read` doesn't.
--- - `_ =>` in a `match` whose contract computes by constructors stays open: list the messages. Two borrows chosen by a
---   `match` aren't covered by the borrow checker: choose in a function.
+-- - Two borrows chosen by a `match` aren't covered by the borrow checker: choose in a function.
 -- - The parts of `a × b × c` in antt are `.0`, `.1` and `.2`.
 -- - A constant in place of a literal changes the names of goals (`position-eq1000000` became `position-eq-POSITIONS`).
 pub mod Kept

@@ -9,55 +9,43 @@ ghost use Rattle.px_model.specs.Seen.{proposal_of, slot_of, meta_of};
 ghost use Rattle.px_core.specs.Planning.{IsFor};
 ghost use Rattle.px_core.specs.inner.Seen.{plan_of};
 
-use crate::plan::{Next, Plan, Sends};
+use crate::plan::{Next, Plan, PlanResult, Reported, Sends};
 use px_model::{Change, Entry, EntryView, Message, Meta, Proposal, Slot};
 use std::alloc::{AllocError, Global};
 
 /// A copy of an accepted or reported proposal, which shares the entry's bytes.
-pub(crate) fn share_proposal(
-    accepted: &Option<Proposal<Entry>>,
-) -> Result<Option<Proposal<Entry>>, AllocError>
+pub(crate) fn share_proposal(accepted: &Reported) -> Result<Reported, AllocError>
     ensures { IfOk result (λ x. option_map proposal_of x ≡ option_map proposal_of accepted.now) }
 {
-    match accepted {
-        None => Ok(None),
-        Some(proposal) => {
-            let entry = proposal.entry.share()?;
-            Ok(Some(Proposal {
-                ballot: proposal.ballot,
-                entry,
-            }))
-        }
-    }
+    let Some(proposal) = accepted else {
+        return Ok(None);
+    };
+    let entry = proposal.entry.share()?;
+    Ok(Some(Proposal { entry, ..*proposal }))
 }
 
-/// The acceptor at one position, as it is in the record.
+/// The acceptor at one position, as it is in the record, and the top of the whole record.
 #[derive(Clone, Copy)]
 pub(crate) struct Acceptor<'a> {
     pub(crate) meta: &'a Meta,
     pub(crate) slot: &'a Slot,
+    pub(crate) top: u32,
 }
 
 /// The answer that refuses: the ballot promised already.
-fn refusal(from: u8, ballot: u64, position: u32, promised: u64) -> Plan
+fn refusal(to: u8, ballot: u64, position: u32, promised: u64) -> Plan
     ensures { result ≡ record {
       change = None;
-      sends = Sends.One from (Message.Nack ballot position promised);
+      sends = Sends.One to (Message.Nack ballot position promised);
       next = Next.Same;
     } }
 {
-    Plan {
-        change: None,
-        sends: Sends::One {
-            to: from,
-            message: Message::Nack {
-                ballot,
-                position,
-                promised,
-            },
-        },
-        next: Next::Same,
-    }
+    let message = Message::Nack {
+        ballot,
+        position,
+        promised,
+    };
+    Plan::new(None, Sends::One { to, message }, Next::Same)
 }
 
 impl Acceptor<'_> {
@@ -65,72 +53,53 @@ impl Acceptor<'_> {
     fn promised(&self) -> u64
         ensures { result ≡ promised_at (meta_of self.now.meta.now) (slot_of self.now.slot.now) }
     {
-        if self.meta.floor < self.slot.promised {
-            self.slot.promised
-        } else {
-            self.meta.floor
-        }
+        self.meta.floor.max(self.slot.promised)
     }
 
     /// A prepare request for one position.
     #[tactic(auto, unfolding(px_model::specs::Step::on_prepare))]
-    pub(crate) fn prepare(&self, from: u8, ballot: u64, position: u32) -> Result<Plan, AllocError>
+    pub(crate) fn prepare(&self, to: u8, ballot: u64, position: u32) -> PlanResult
         ensures room { IfOk result (λ plan. (core : Core) → IsFor plan core) }
         ensures step { IfOk result (λ plan. (n me : ℕ) (log : Log Bytes) (v : Volatile Bytes) →
             plan_of n me log v plan ≡
-            on_prepare me (meta_of self.now.meta.now) (slot_of self.now.slot.now) v from ballot position) }
+            on_prepare me (meta_of self.now.meta.now) (slot_of self.now.slot.now) v to ballot position) }
     {
         let promised = self.promised();
         if ballot <= promised {
-            return Ok(refusal(from, ballot, position, promised));
+            return Ok(refusal(to, ballot, position, promised));
         }
         let accepted = share_proposal(&self.slot.accepted)?;
-        Ok(Plan {
-            change: Some(Change::Promised { position, ballot }),
-            sends: Sends::One {
-                to: from,
-                message: Message::Promise {
-                    ballot,
-                    position,
-                    accepted,
-                },
-            },
-            next: Next::Same,
-        })
+        let message = Message::Promise {
+            ballot,
+            position,
+            accepted,
+        };
+        let change = Some(Change::Promised { position, ballot });
+        Ok(Plan::new(change, Sends::One { to, message }, Next::Same))
     }
 
     /// A prepare request for all positions. From the top on nothing is accepted.
     #[tactic(auto, unfolding(px_model::specs::Step::on_prepare_all))]
-    pub(crate) fn prepare_all(
-        &self,
-        top: u32,
-        from: u8,
-        ballot: u64,
-        position: u32,
-    ) -> Result<Plan, AllocError>
+    pub(crate) fn prepare_all(&self, to: u8, ballot: u64, position: u32) -> PlanResult
         ensures room { IfOk result (λ plan. (core : Core) → IsFor plan core) }
         ensures step { IfOk result (λ plan. (n me : ℕ) (log : Log Bytes) (v : Volatile Bytes) →
             plan_of n me log v plan ≡
-            on_prepare_all me (meta_of self.now.meta.now) (slot_of self.now.slot.now) top v from ballot position) }
+            on_prepare_all me (meta_of self.now.meta.now) (slot_of self.now.slot.now) self.now.top v to ballot
+            position) }
     {
         let promised = self.promised();
         if ballot <= promised {
-            return Ok(refusal(from, ballot, position, promised));
+            return Ok(refusal(to, ballot, position, promised));
         }
         let accepted = share_proposal(&self.slot.accepted)?;
-        Ok(Plan {
-            change: Some(Change::Floor { ballot }),
-            sends: Sends::One {
-                to: from,
-                message: Message::PromiseAll {
-                    ballot,
-                    position,
-                    top,
-                    accepted,
-                },
-            },
-            next: Next::Same,
-        })
+        let message = Message::PromiseAll {
+            ballot,
+            position,
+            top: self.top,
+            accepted,
+        };
+        let change = Some(Change::Floor { ballot });
+        Ok(Plan::new(change, Sends::One { to, message }, Next::Same))
     }
 
     /// An accept request.
@@ -138,37 +107,32 @@ impl Acceptor<'_> {
     pub(crate) fn accept(
         &self,
         alloc: Global,
-        from: u8,
+        to: u8,
         ballot: u64,
         position: u32,
         entry: &EntryView,
-    ) -> Result<Plan, AllocError>
+    ) -> PlanResult
         ensures room { IfOk result (λ plan. (core : Core) → IsFor plan core) }
         ensures step { IfOk result (λ plan. (n me : ℕ) (log : Log Bytes) (v : Volatile Bytes) →
             plan_of n me log v plan ≡
-            on_accept n me (meta_of self.now.meta.now) (slot_of self.now.slot.now) v from ballot position
+            on_accept n me (meta_of self.now.meta.now) (slot_of self.now.slot.now) v to ballot position
             (view_of entry.now)) }
     {
         let promised = self.promised();
         if ballot < promised {
-            return Ok(refusal(from, ballot, position, promised));
+            return Ok(refusal(to, ballot, position, promised));
         }
         let accepted = Entry::from_view(alloc, entry)?;
-        let entry = accepted.share()?;
-        Ok(Plan {
-            change: Some(Change::Accepted {
-                position,
-                ballot,
-                entry: accepted,
-            }),
-            sends: Sends::All {
-                message: Message::Vote {
-                    ballot,
-                    position,
-                    entry,
-                },
-            },
-            next: Next::Same,
-        })
+        let message = Message::Vote {
+            ballot,
+            position,
+            entry: accepted.share()?,
+        };
+        let change = Some(Change::Accepted {
+            position,
+            ballot,
+            entry: accepted,
+        });
+        Ok(Plan::new(change, Sends::All { message }, Next::Same))
     }
 }

@@ -15,46 +15,11 @@ ghost use Rattle.px_core.specs.Seen.{front_in, volatile_in, log_in, attempt_of, 
 ghost use Rattle.px_core.specs.inner.Seen.{plan_of, plan_in};
 
 use crate::limits::{NUMBERS, POSITIONS, WAITING};
-use crate::plan::{Attempt, CoreFault, Lead, Next, Phase, Plan, Sends};
-use crate::proposing::idle_plan;
+use crate::plan::{Attempt, CoreFault, Lead, Next, Phase, Plan, PlanResult, Sends};
+use crate::proposing::phase_two_plan;
 use crate::state::Core;
 use px_model::{Change, Entry, EntryView, Message, Meta};
 use std::alloc::AllocError;
-
-/// An accept request by the lead's ballot, which needs no phase 1 here.
-#[tactic(auto, unfolding(px_model::specs::Step::use_lead))]
-fn use_lead_plan(position: u32, entry: &Entry, lead: Lead) -> Result<Plan, AllocError>
-    requires { position < positions }
-    ensures room { IfOk result (λ plan. (core : Core) → IsFor plan core) }
-    ensures step { IfOk result (λ plan. (n me : ℕ) (log : Log Bytes) (v : Volatile Bytes) →
-        plan_of n me log v plan ≡ use_lead n me position v (entry_of entry.now) (lead_of lead)) }
-{
-    let kept = entry.share()?;
-    let shared = entry.share()?;
-    let attempt = Attempt {
-        position,
-        ballot: lead.ballot,
-        phase: Phase::Accepting { entry: kept },
-    };
-    let next = Lead {
-        ballot: lead.ballot,
-        from: position + 1,
-    };
-    Ok(Plan {
-        change: None,
-        sends: Sends::All {
-            message: Message::Accept {
-                ballot: lead.ballot,
-                position,
-                entry: shared,
-            },
-        },
-        next: Next::Leads {
-            attempt: Some(attempt),
-            lead: Some(next),
-        },
-    })
-}
 
 impl Core {
     /// A ballot above each round used or heard of, and a prepare request with it to every member.
@@ -65,11 +30,7 @@ impl Core {
             (new_round self.now.members self.now.me (meta_of meta.now) (front_in self.now) (volatile_in self.now)) }
         ensures enough { result ≢ Err CoreFault.Memory }
     {
-        let highest = if meta.round < self.proposer.seen {
-            self.proposer.seen
-        } else {
-            meta.round
-        };
+        let highest = meta.round.max(self.proposer.seen);
         if highest >= NUMBERS - 1 {
             return Err(CoreFault::BallotsSpent);
         }
@@ -85,19 +46,14 @@ impl Core {
                 best: None,
             },
         };
-        Ok(Plan {
-            change: Some(Change::Round { round }),
-            sends: Sends::All {
-                message: Message::PrepareAll { ballot, position },
-            },
-            next: Next::Leads {
-                attempt: Some(attempt),
-                lead: None,
-            },
-        })
+        let message = Message::PrepareAll { ballot, position };
+        let next = Next::Leads(Some(attempt), None);
+        let change = Some(Change::Round { round });
+        Ok(Plan::new(change, Sends::All { message }, next))
     }
 
-    /// The entry is proposed by the lead if it has reached the front, else a round begins.
+    /// The entry is proposed by the lead, which needs no phase 1, if it has reached the front, else a round begins.
+    #[tactic(auto, unfolding(px_model::specs::Step::use_lead))]
     fn propose(&self, meta: &Meta, entry: &Entry) -> Result<Plan, CoreFault>
         requires { front_in self.now < positions }
         ensures room { IfOk result (λ plan. IsFor plan self.now) }
@@ -106,17 +62,16 @@ impl Core {
             (entry_of entry.now) (option_map lead_of self.now.proposer.lead)) }
         ensures enough { has_lead self.now ≡ false → result ≢ Err CoreFault.Memory }
     {
+        let position = self.learner.votes.front;
         match self.proposer.lead {
-            Some(lead) => {
-                if lead.from > self.learner.votes.front {
-                    return self.begin_round(meta);
-                }
-                match use_lead_plan(self.learner.votes.front, entry, lead) {
-                    Ok(plan) => Ok(plan),
-                    Err(_) => Err(CoreFault::Memory),
-                }
+            Some(lead) if lead.from <= position => {
+                let next = Lead {
+                    from: position + 1,
+                    ..lead
+                };
+                Ok(phase_two_plan(position, next, entry.share()?)?)
             }
-            None => self.begin_round(meta),
+            _ => self.begin_round(meta),
         }
     }
 
@@ -130,18 +85,13 @@ impl Core {
     {
         let position = self.learner.front();
         if position == POSITIONS {
-            return Ok(idle_plan());
+            return Ok(Plan::idle());
         }
-        match self.proposer.waiting.as_slice() {
-            [] => Ok(Plan {
-                change: None,
-                sends: Sends::All {
-                    message: Message::Need { position },
-                },
-                next: Next::Same,
-            }),
-            [first, ..] => self.propose(meta, first),
-        }
+        let [first, ..] = self.proposer.waiting.as_slice() else {
+            let message = Message::Need { position };
+            return Ok(Plan::new(None, Sends::All { message }, Next::Same));
+        };
+        self.propose(meta, first)
     }
 
     /// A command is asked: it gets the next number, which is recorded, and waits.
@@ -158,20 +108,14 @@ impl Core {
         if self.learner.votes.front == POSITIONS || meta.number >= NUMBERS {
             return Err(CoreFault::PositionsSpent);
         }
-        match Entry::named(self.alloc, entry, self.me, meta.number) {
-            Ok(entry) => Ok(Plan {
-                change: Some(Change::Number {
-                    number: meta.number + 1,
-                }),
-                sends: Sends::Nothing,
-                next: Next::Waits { entry },
-            }),
-            Err(_) => Err(CoreFault::Memory),
-        }
+        let entry = Entry::named(self.alloc, entry, self.me, meta.number)?;
+        let number = meta.number + 1;
+        let change = Some(Change::Number { number });
+        Ok(Plan::new(change, Sends::Nothing, Next::Waits(entry)))
     }
 
     /// A command is asked from outside: the client is answered with the number, or the refusal.
-    pub(crate) fn ask_from(&self, meta: &Meta, entry: &EntryView) -> Result<Plan, AllocError>
+    pub(crate) fn ask_from(&self, meta: &Meta, entry: &EntryView) -> PlanResult
         ensures room { IfOk result (λ plan. IsFor plan self.now) }
         ensures step { IfOk result (λ plan.
             plan_in self.now plan ≡
@@ -180,29 +124,19 @@ impl Core {
             (view_of entry.now).command)) }
     {
         let token = entry.number();
-        let message = match self.ask(meta, entry) {
+        let number = meta.number;
+        let code = match self.ask(meta, entry) {
             Ok(plan) => {
-                return Ok(Plan {
-                    change: plan.change,
-                    sends: Sends::One {
-                        to: 255,
-                        message: Message::Asked {
-                            token,
-                            number: meta.number,
-                        },
-                    },
-                    next: plan.next,
-                });
+                let message = Message::Asked { token, number };
+                let sends = Sends::One { to: 255, message };
+                return Ok(Plan { sends, ..plan });
             }
             Err(CoreFault::Memory) => return Err(AllocError),
-            Err(CoreFault::Full) => Message::AskRefused { token, code: 60 },
-            Err(CoreFault::BallotsSpent) => Message::AskRefused { token, code: 61 },
-            Err(CoreFault::PositionsSpent) => Message::AskRefused { token, code: 62 },
+            Err(CoreFault::Full) => 60,
+            Err(CoreFault::BallotsSpent) => 61,
+            Err(CoreFault::PositionsSpent) => 62,
         };
-        Ok(Plan {
-            change: None,
-            sends: Sends::One { to: 255, message },
-            next: Next::Same,
-        })
+        let message = Message::AskRefused { token, code };
+        Ok(Plan::new(None, Sends::One { to: 255, message }, Next::Same))
     }
 }

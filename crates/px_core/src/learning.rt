@@ -14,8 +14,7 @@ ghost use Rattle.px_core.specs.Seen.{volatile_in, log_in};
 ghost use Rattle.px_core.specs.inner.Seen.{plan_of, plan_in, RoomAt};
 
 use crate::limits::{POSITIONS, WINDOW};
-use crate::plan::{Next, Plan, Sends};
-use crate::proposing::idle_plan;
+use crate::plan::{Next, Plan, PlanResult, Sends};
 use crate::state::{Core, Learner};
 use px_model::{Change, Entry, EntryView, Message};
 use std::alloc::AllocError;
@@ -75,13 +74,7 @@ impl Learner {
 impl Core {
     /// A vote of a member.
     #[tactic(auto, unfolding(px_model::specs::Step::on_vote, px_model::specs::Step::with_vote, px_model::specs::Step::learn))]
-    pub(crate) fn vote(
-        &self,
-        from: u8,
-        ballot: u64,
-        position: u32,
-        entry: &EntryView,
-    ) -> Result<Plan, AllocError>
+    pub(crate) fn vote(&self, from: u8, ballot: u64, position: u32, entry: &EntryView) -> PlanResult
         requires from { from < self.now.members }
         requires room { RoomAt position self.now }
         ensures room { IfOk result (λ plan. IsFor plan self.now) }
@@ -91,43 +84,23 @@ impl Core {
             (view_of entry.now)) }
     {
         if !self.learner.is_open(position) {
-            return Ok(idle_plan());
+            return Ok(Plan::idle());
         }
-        let agree = self
-            .learner
-            .votes
-            .would_agree(self.members, position, from, ballot);
-        if !agree {
-            return Ok(Plan {
-                change: None,
-                sends: Sends::Nothing,
-                next: Next::Keeps {
-                    position,
-                    member: from,
-                    ballot,
-                },
-            });
+        let votes = &self.learner.votes;
+        if !votes.would_agree(self.members, position, from, ballot) {
+            let next = Next::Keeps(position, from, ballot);
+            return Ok(Plan::new(None, Sends::Nothing, next));
         }
-        let entry = Entry::from_view(self.alloc, entry)?;
-        let recorded = entry.share()?;
-        Ok(Plan {
-            change: Some(Change::Learned {
-                position,
-                entry: recorded,
-            }),
-            sends: Sends::Nothing,
-            next: Next::KeepsLearns {
-                position,
-                member: from,
-                ballot,
-                entry,
-            },
-        })
+        let learned = Entry::from_view(self.alloc, entry)?;
+        let entry = learned.share()?;
+        let change = Some(Change::Learned { position, entry });
+        let next = Next::KeepsLearns(position, from, ballot, learned);
+        Ok(Plan::new(change, Sends::Nothing, next))
     }
 
     /// Learns an entry that was chosen.
     #[tactic(auto, unfolding(px_model::specs::Step::on_learned, px_model::specs::Step::learn))]
-    pub(crate) fn learned_from(&self, position: u32, entry: &EntryView) -> Result<Plan, AllocError>
+    pub(crate) fn learned_from(&self, position: u32, entry: &EntryView) -> PlanResult
         requires room { RoomAt position self.now }
         ensures room { IfOk result (λ plan. IsFor plan self.now) }
         ensures step { IfOk result (λ plan.
@@ -135,41 +108,28 @@ impl Core {
             on_learned (pointwise nat_eq) (log_in self.now) (volatile_in self.now) position (view_of entry.now)) }
     {
         if !self.learner.is_open(position) {
-            return Ok(idle_plan());
+            return Ok(Plan::idle());
         }
-        let entry = Entry::from_view(self.alloc, entry)?;
-        let recorded = entry.share()?;
-        Ok(Plan {
-            change: Some(Change::Learned {
-                position,
-                entry: recorded,
-            }),
-            sends: Sends::Nothing,
-            next: Next::Learns { position, entry },
-        })
+        let learned = Entry::from_view(self.alloc, entry)?;
+        let entry = learned.share()?;
+        let change = Some(Change::Learned { position, entry });
+        let next = Next::Learns(position, learned);
+        Ok(Plan::new(change, Sends::Nothing, next))
     }
 
     /// Asked for what is learned at the position.
     #[tactic(auto, unfolding(px_model::specs::Step::on_need))]
-    pub(crate) fn need(&self, from: u8, position: u32) -> Result<Plan, AllocError>
+    pub(crate) fn need(&self, to: u8, position: u32) -> PlanResult
         ensures step { IfOk result (λ plan. (v : Volatile Bytes) →
             plan_of self.now.members self.now.me (log_in self.now) v plan ≡
-            on_need self.now.me (log_in self.now) v from position) }
+            on_need self.now.me (log_in self.now) v to position) }
         ensures room { IfOk result (λ plan. IsFor plan self.now) }
     {
-        match learned_at(&self.learner.learned, position) {
-            Some(entry) => {
-                let entry = entry.share()?;
-                Ok(Plan {
-                    change: None,
-                    sends: Sends::One {
-                        to: from,
-                        message: Message::Learned { position, entry },
-                    },
-                    next: Next::Same,
-                })
-            }
-            None => Ok(idle_plan()),
-        }
+        let Some(entry) = learned_at(&self.learner.learned, position) else {
+            return Ok(Plan::idle());
+        };
+        let entry = entry.share()?;
+        let message = Message::Learned { position, entry };
+        Ok(Plan::new(None, Sends::One { to, message }, Next::Same))
     }
 }

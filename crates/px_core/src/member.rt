@@ -15,26 +15,10 @@ use crate::learning::learned_at;
 use crate::limits::{POSITIONS, WAITING};
 use crate::state::{Core, Learner, Proposer};
 use crate::votes::Votes;
-use px_model::{Entry, EntryView, Event, Message};
+use px_model::{Entry, Event, Message};
 use std::alloc::{AllocError, Global};
 
 impl Proposer {
-    /// Nothing waits; there is room for 64 entries.
-    fn new(alloc: Global) -> Result<Proposer, AllocError>
-        ensures waiting { IfOk result (λ p. p.waiting.items ≡ []) }
-        ensures attempt { IfOk result (λ p. p.attempt ≡ None) }
-        ensures lead { IfOk result (λ p. p.lead ≡ None) }
-        ensures seen { IfOk result (λ p. p.seen ≡ 0) }
-    {
-        let waiting = Vec::with_capacity(alloc, WAITING)?;
-        Ok(Proposer {
-            waiting,
-            attempt: None,
-            lead: None,
-            seen: 0,
-        })
-    }
-
     /// All is let go; the room stays.
     fn forget(&mut self)
         ensures waiting { self.new.waiting.items ≡ [] }
@@ -56,9 +40,8 @@ impl Learner {
         ensures learned { IfOk result (λ l. learned_in l.learned.items ≡ (λ p. None)) }
         ensures kept { IfOk result (λ l. kept_in l.votes.front l.votes.cells.items ≡ (λ p m. 0)) }
     {
-        let votes = Votes::new(alloc)?;
         Ok(Learner {
-            votes,
+            votes: Votes::new(alloc)?,
             learned: Vec::new(alloc),
         })
     }
@@ -75,14 +58,17 @@ impl Core {
         ensures state { IfOk result (λ core. state_of core ≡ empty_state members me) }
         ensures fits { (test : Bytes → Bool) → IfOk result (λ core. CoreFits test (state_of core)) }
     {
-        let proposer = Proposer::new(alloc)?;
-        let learner = Learner::new(alloc)?;
         Ok(Core {
             alloc,
             members,
             me,
-            proposer,
-            learner,
+            proposer: Proposer {
+                waiting: Vec::with_capacity(alloc, WAITING)?,
+                attempt: None,
+                lead: None,
+                seen: 0,
+            },
+            learner: Learner::new(alloc)?,
         })
     }
 
@@ -179,30 +165,15 @@ impl Core {
     pub fn takes(&self, event: &Event) -> bool
         ensures { IsTrue result ↔ MayCome (state_of self.now).members event.now }
     {
-        match event {
-            Event::Asks { .. } => true,
-            Event::Ticks => true,
-            Event::Comes { sender, message } => may_come_from(self.members, *sender, message),
+        let Event::Comes { sender, message } = event else {
+            return true;
+        };
+        match message {
+            Message::PromiseAll { position, .. } => {
+                *sender < self.members && *position < POSITIONS
+            }
+            Message::Vote { .. } => *sender < self.members,
+            _ => true,
         }
-    }
-}
-
-/// Whether the message may come from this sender.
-fn may_come_from(members: u8, sender: u8, message: &Message<EntryView>) -> bool
-    ensures { IsTrue result ↔ MayComeFrom members sender message.now }
-{
-    match message {
-        Message::PromiseAll { position, .. } => sender < members && *position < POSITIONS,
-        Message::Vote { .. } => sender < members,
-        Message::Ask { .. } => true,
-        Message::Prepare { .. } => true,
-        Message::Promise { .. } => true,
-        Message::PrepareAll { .. } => true,
-        Message::Accept { .. } => true,
-        Message::Nack { .. } => true,
-        Message::Need { .. } => true,
-        Message::Learned { .. } => true,
-        Message::Asked { .. } => true,
-        Message::AskRefused { .. } => true,
     }
 }

@@ -1,6 +1,15 @@
 //! What a step gives, before any of it is done.
+ghost use Rattle.std.specs.Prelude.{◌≡◌, None};
+
 use px_model::{Change, Entry, Message, Proposal};
+use std::alloc::AllocError;
 use thiserror::Error;
+
+/// A proposal that was accepted or reported, if there is one.
+pub(crate) type Reported = Option<Proposal<Entry>>;
+
+/// A plan, unless out of memory.
+pub(crate) type PlanResult = Result<Plan, AllocError>;
 
 /// Phase 1: who promised, the greatest top reported, the reported proposal of highest ballot. Phase 2: the entry
 /// proposed.
@@ -13,9 +22,7 @@ pub enum Phase {
         top: u32,
         best: Option<Proposal<Entry>>,
     },
-    Accepting {
-        entry: Entry,
-    },
+    Accepting(Entry),
 }
 
 /// A proposer's attempt to have an entry chosen at a position.
@@ -38,42 +45,23 @@ pub struct Lead {
 pub enum Next {
     Same,
     /// An entry waits behind the others.
-    Waits {
-        entry: Entry,
-    },
+    Waits(Entry),
     /// A promise is counted.
-    Counts {
-        attempt: Attempt,
-    },
+    Counts(Attempt),
     /// Attempt and lead are these.
-    Leads {
-        attempt: Option<Attempt>,
-        lead: Option<Lead>,
-    },
+    Leads(Option<Attempt>, Option<Lead>),
     /// Attempt and lead are dropped where these are true, and this is the highest round heard of.
     Drops {
         attempt: bool,
         lead: bool,
         seen: u64,
     },
-    /// A vote is kept.
-    Keeps {
-        position: u32,
-        member: u8,
-        ballot: u64,
-    },
-    /// An entry is learned.
-    Learns {
-        position: u32,
-        entry: Entry,
-    },
-    /// A vote is kept, and by it an entry is learned.
-    KeepsLearns {
-        position: u32,
-        member: u8,
-        ballot: u64,
-        entry: Entry,
-    },
+    /// At a position a member's vote is kept, which is for this ballot.
+    Keeps(u32, u8, u64),
+    /// At a position an entry is learned.
+    Learns(u32, Entry),
+    /// At a position a member's vote for this ballot is kept, and by it an entry is learned.
+    KeepsLearns(u32, u8, u64, Entry),
 }
 
 /// What is sent.
@@ -105,6 +93,26 @@ pub struct Plan {
     pub(crate) next: Next,
 }
 
+impl Plan {
+    /// The plan of these parts.
+    pub(crate) fn new(change: Option<Change>, sends: Sends, next: Next) -> Plan
+        ensures { result ≡ record { change = change; sends = sends; next = next } }
+    {
+        Plan {
+            change,
+            sends,
+            next,
+        }
+    }
+
+    /// Nothing is done.
+    pub(crate) fn idle() -> Plan
+        ensures { result ≡ record { change = None; sends = Sends.Nothing; next = Next.Same } }
+    {
+        Plan::new(None, Sends::Nothing, Next::Same)
+    }
+}
+
 /// Why there is no plan. All is as it was. What is shown of a refusal is its number.
 #[derive(Debug, Drop, Error)]
 pub enum CoreFault {
@@ -120,4 +128,14 @@ pub enum CoreFault {
     /// Out of memory. Only an event that isn't refused can meet it.
     #[error("memory")]
     Memory,
+}
+
+ghost use Rattle.px_core.specs.declared.plan.CoreFault.TheVariants.{Memory};
+
+impl From<AllocError> for CoreFault {
+    ghost from_gives = { λ _ e. e ≡ Memory };
+
+    fn from(_: AllocError) -> CoreFault {
+        CoreFault::Memory
+    }
 }

@@ -12,8 +12,7 @@ ghost use Rattle.px_core.specs.Seen.{volatile_in, log_in};
 ghost use Rattle.px_core.specs.inner.Seen.{plan_in, RoomToLearn};
 
 use crate::accepting::Acceptor;
-use crate::plan::{CoreFault, Plan};
-use crate::proposing::idle_plan;
+use crate::plan::{CoreFault, Plan, PlanResult};
 use crate::state::Core;
 use px_model::{EntryView, Event, Message, Meta, Slot};
 use std::alloc::AllocError;
@@ -28,37 +27,30 @@ impl Core {
     {
         match message {
             Message::Vote { position, .. } | Message::Learned { position, .. } => {
-                if self.learner.is_in_window(*position) {
-                    return self.learner.make_room(*position);
+                if !self.learner.is_in_window(*position) {
+                    return Ok(());
                 }
-                Ok(())
+                self.learner.make_room(*position)
             }
             _ => Ok(()),
         }
     }
 
     /// What a message gives.
-    fn plan_message(
-        &self,
-        meta: &Meta,
-        slot: &Slot,
-        top: u32,
-        from: u8,
-        message: &Message<EntryView>,
-    ) -> Result<Plan, AllocError>
+    fn plan_message(&self, acceptor: Acceptor, from: u8, message: &Message<EntryView>) -> PlanResult
         requires may_come { MayComeFrom self.now.members from message.now }
         requires room { RoomToLearn message.now self.now }
         ensures room { IfOk result (λ plan. IsFor plan self.now) }
         ensures step { IfOk result (λ plan.
             plan_in self.now plan ≡
-            on_message (pointwise nat_eq) self.now.members self.now.me (meta_of meta.now) (slot_of slot.now) top
-            (log_in self.now) (volatile_in self.now) from (come_of message.now)) }
+            on_message (pointwise nat_eq) self.now.members self.now.me (meta_of acceptor.entry.meta.now)
+            (slot_of acceptor.entry.slot.now) acceptor.entry.top (log_in self.now) (volatile_in self.now) from
+            (come_of message.now)) }
     {
-        let acceptor = Acceptor { meta, slot };
         match message {
             Message::Prepare { ballot, position } => acceptor.prepare(from, *ballot, *position),
             Message::PrepareAll { ballot, position } => {
-                acceptor.prepare_all(top, from, *ballot, *position)
+                acceptor.prepare_all(from, *ballot, *position)
             }
             Message::Accept {
                 ballot,
@@ -83,41 +75,33 @@ impl Core {
             } => self.vote(from, *ballot, *position, entry),
             Message::Learned { position, entry } => self.learned_from(*position, entry),
             Message::Need { position } => self.need(from, *position),
-            Message::Ask { entry } => self.ask_from(meta, entry),
+            Message::Ask { entry } => self.ask_from(acceptor.meta, entry),
             Message::Promise { .. } | Message::Asked { .. } | Message::AskRefused { .. } => {
-                Ok(idle_plan())
+                Ok(Plan::idle())
             }
         }
     }
 
     /// What the event gives, by its kind.
     #[tactic(auto, unfolding(px_model::specs::Step::step))]
-    fn plan_event(
-        &mut self,
-        meta: &Meta,
-        slot: &Slot,
-        top: u32,
-        event: &Event,
-    ) -> Result<Plan, CoreFault>
+    fn plan_event(&mut self, acceptor: Acceptor, event: &Event) -> Result<Plan, CoreFault>
         requires { MayCome self.old.members event.now }
         ensures step { MatchResult result
-            (λ plan. step_with (state_in self.old) meta.now slot.now top event.now ≡ Planned (plan_in self.new plan))
-            (λ fault. IsRefusal fault (step_with (state_in self.old) meta.now slot.now top event.now)) }
+            (λ plan. step_with (state_in self.old) acceptor.entry.meta.now acceptor.entry.slot.now acceptor.entry.top
+            event.now ≡ Planned (plan_in self.new plan))
+            (λ fault. IsRefusal fault
+            (step_with (state_in self.old) acceptor.entry.meta.now acceptor.entry.slot.now acceptor.entry.top
+            event.now)) }
         ensures room { IfOk result (λ plan. IsFor plan self.new) }
         ensures state { state_in self.new ≡ state_in self.old }
         ensures enough { event.now ≡ Event.Ticks → has_lead self.old ≡ false → result ≢ Err CoreFault.Memory }
     {
         match event {
-            Event::Asks { entry } => self.ask(meta, entry),
-            Event::Ticks => self.tick(meta),
+            Event::Asks { entry } => self.ask(acceptor.meta, entry),
+            Event::Ticks => self.tick(acceptor.meta),
             Event::Comes { sender, message } => {
-                if self.make_room(message).is_err() {
-                    return Err(CoreFault::Memory);
-                }
-                match self.plan_message(meta, slot, top, *sender, message) {
-                    Ok(plan) => Ok(plan),
-                    Err(_) => Err(CoreFault::Memory),
-                }
+                self.make_room(message)?;
+                Ok(self.plan_message(acceptor, *sender, message)?)
             }
         }
     }
@@ -153,6 +137,6 @@ impl Core {
         // A tick without a lead allocates nothing.
         ensures enough { event.now ≡ Event.Ticks → has_lead self.old ≡ false → result ≢ Err CoreFault.Memory }
     {
-        self.plan_event(meta, slot, top, event)
+        self.plan_event(Acceptor { meta, slot, top }, event)
     }
 }

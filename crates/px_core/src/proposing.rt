@@ -16,22 +16,10 @@ ghost use Rattle.px_core.specs.inner.Seen.{plan_of, plan_in};
 ghost use Rattle.px_core.specs.declared.limits.TheConstants.{MEMBERS};
 
 use crate::accepting::share_proposal;
-use crate::plan::{Attempt, Lead, Next, Phase, Plan, Sends};
+use crate::plan::{Attempt, Lead, Next, Phase, Plan, PlanResult, Reported, Sends};
 use crate::state::{Core, Proposer};
 use px_model::{Entry, EntryView, Message, Proposal};
 use std::alloc::{AllocError, Global};
-
-/// Nothing is done.
-pub(crate) fn idle_plan() -> Plan
-    ensures step { (n me : ℕ) (log : Log Bytes) (v : Volatile Bytes) → plan_of n me log v result ≡ idle v }
-    ensures room { (core : Core) → IsFor result core }
-{
-    Plan {
-        change: None,
-        sends: Sends::Nothing,
-        next: Next::Same,
-    }
-}
 
 /// Whether more than half of the members are marked.
 #[tactic(auto, unfolding(crate::specs::Seen::counted_of))]
@@ -65,120 +53,65 @@ fn greatest_top(counted: &[bool; 15], member: u8, highest: u32, top: u32) -> u32
     requires { member < MEMBERS }
     ensures { result ≡ (if counted_of counted.now member then highest else max highest top) }
 {
-    if counted[member as usize] || top <= highest {
-        highest
-    } else {
-        top
+    if counted[member as usize] {
+        return highest;
     }
-}
-
-/// A copy of what a promise reports.
-fn reported(
-    alloc: Global,
-    report: &Option<Proposal<EntryView>>,
-) -> Result<Option<Proposal<Entry>>, AllocError>
-    ensures { IfOk result (λ x. option_map proposal_of x ≡ option_map report_of report.now) }
-{
-    match report {
-        None => Ok(None),
-        Some(proposal) => {
-            let entry = Entry::from_view(alloc, &proposal.entry)?;
-            Ok(Some(Proposal {
-                ballot: proposal.ballot,
-                entry,
-            }))
-        }
-    }
+    highest.max(top)
 }
 
 /// The proposal of the higher ballot, the first of two equal ones.
 fn better_of(
     alloc: Global,
-    best: &Option<Proposal<Entry>>,
+    best: &Reported,
     report: &Option<Proposal<EntryView>>,
-) -> Result<Option<Proposal<Entry>>, AllocError>
+) -> Result<Reported, AllocError>
     ensures { IfOk result (λ x.
         option_map proposal_of x ≡
         better (option_map proposal_of best.now) (option_map report_of report.now)) }
 {
     match (best, report) {
         (_, None) => share_proposal(best),
-        (None, Some(_)) => reported(alloc, report),
-        (Some(x), Some(y)) => {
-            if x.ballot < y.ballot {
-                reported(alloc, report)
-            } else {
-                share_proposal(best)
-            }
-        }
+        (Some(x), Some(y)) if x.ballot >= y.ballot => share_proposal(best),
+        (_, Some(y)) => Ok(Some(Proposal {
+            ballot: y.ballot,
+            entry: Entry::from_view(alloc, &y.entry)?,
+        })),
     }
 }
 
 /// The entry of the best proposal reported, else the first that waits.
-fn first_choice(
-    best: &Option<Proposal<Entry>>,
-    waiting: &[Entry],
-) -> Result<Option<Entry>, AllocError>
+fn first_choice(best: &Reported, waiting: &[Entry]) -> Result<Option<Entry>, AllocError>
     ensures { IfOk result (λ x.
         option_map entry_of x ≡ choice (option_map proposal_of best.now) (map entry_of waiting.now)) }
 {
-    match best {
-        Some(x) => {
-            let entry = x.entry.share()?;
-            Ok(Some(entry))
-        }
-        None => match waiting {
-            [] => Ok(None),
-            [first, ..] => {
-                let entry = first.share()?;
-                Ok(Some(entry))
-            }
-        },
+    match (best, waiting) {
+        (Some(x), _) => Ok(Some(x.entry.share()?)),
+        (None, [first, ..]) => Ok(Some(first.share()?)),
+        (None, []) => Ok(None),
     }
 }
 
-/// Phase 2 with this entry, or with none the attempt ends. The ballot may be used from `from` on.
-fn phase_two_plan(
-    ballot: u64,
-    position: u32,
-    from: u32,
-    entry: Option<Entry>,
-) -> Result<Plan, AllocError>
+/// Phase 2 with this entry, by a ballot that may next be used where `lead` has it.
+pub(crate) fn phase_two_plan(position: u32, lead: Lead, entry: Entry) -> PlanResult
     ensures room { IfOk result (λ plan. (core : Core) → IsFor plan core) }
     ensures step { IfOk result (λ plan. (n me : ℕ) (log : Log Bytes) (v : Volatile Bytes) →
         plan_of n me log v plan ≡
-        phase_two n me v ballot position from (option_map entry_of entry)) }
+        phase_two n me v lead.ballot position lead.from (Some (entry_of entry))) }
 {
-    let lead = Some(Lead { ballot, from });
-    match entry {
-        None => Ok(Plan {
-            change: None,
-            sends: Sends::Nothing,
-            next: Next::Leads {
-                attempt: None,
-                lead,
-            },
-        }),
-        Some(entry) => {
-            let shared = entry.share()?;
-            let attempt = Some(Attempt {
-                position,
-                ballot,
-                phase: Phase::Accepting { entry },
-            });
-            Ok(Plan {
-                change: None,
-                sends: Sends::All {
-                    message: Message::Accept {
-                        ballot,
-                        position,
-                        entry: shared,
-                    },
-                },
-                next: Next::Leads { attempt, lead },
-            })
-        }
-    }
+    let ballot = lead.ballot;
+    let message = Message::Accept {
+        ballot,
+        position,
+        entry: entry.share()?,
+    };
+    let phase = Phase::Accepting(entry);
+    let attempt = Attempt {
+        position,
+        ballot,
+        phase,
+    };
+    let next = Next::Leads(Some(attempt), Some(lead));
+    Ok(Plan::new(None, Sends::All { message }, next))
 }
 
 impl Core {
@@ -190,8 +123,8 @@ impl Core {
         position: u32,
         counted: [bool; 15],
         top: u32,
-        best: Option<Proposal<Entry>>,
-    ) -> Result<Plan, AllocError>
+        best: Reported,
+    ) -> PlanResult
         requires position { position < positions }
         ensures room { IfOk result (λ plan. IsFor plan self.now) }
         ensures step { IfOk result (λ plan.
@@ -200,24 +133,20 @@ impl Core {
             (option_map proposal_of best)) }
     {
         if !majority(self.members, &counted) {
-            let attempt = Attempt {
+            let next = Next::Counts(Attempt {
                 position,
                 ballot,
                 phase: Phase::Preparing { counted, top, best },
-            };
-            return Ok(Plan {
-                change: None,
-                sends: Sends::Nothing,
-                next: Next::Counts { attempt },
             });
+            return Ok(Plan::new(None, Sends::Nothing, next));
         }
-        let from = if position + 1 < top {
-            top
-        } else {
-            position + 1
+        let from = top.max(position + 1);
+        let lead = Lead { ballot, from };
+        let Some(entry) = first_choice(&best, &self.proposer.waiting)? else {
+            let next = Next::Leads(None, Some(lead));
+            return Ok(Plan::new(None, Sends::Nothing, next));
         };
-        let entry = first_choice(&best, &self.proposer.waiting)?;
-        phase_two_plan(ballot, position, from, entry)
+        phase_two_plan(position, lead, entry)
     }
 
     /// A promise for all positions.
@@ -229,7 +158,7 @@ impl Core {
         position: u32,
         top: u32,
         report: &Option<Proposal<EntryView>>,
-    ) -> Result<Plan, AllocError>
+    ) -> PlanResult
         requires from { from < self.now.members }
         requires position { position < positions }
         ensures room { IfOk result (λ plan. IsFor plan self.now) }
@@ -239,13 +168,13 @@ impl Core {
             (option_map report_of report.now)) }
     {
         let Some(attempt) = &self.proposer.attempt else {
-            return Ok(idle_plan());
+            return Ok(Plan::idle());
         };
         if attempt.ballot != ballot || attempt.position != position {
-            return Ok(idle_plan());
+            return Ok(Plan::idle());
         }
         match &attempt.phase {
-            Phase::Accepting { entry: _ } => Ok(idle_plan()),
+            Phase::Accepting(_) => Ok(Plan::idle()),
             Phase::Preparing {
                 counted,
                 top: highest,
@@ -265,10 +194,8 @@ impl Proposer {
         ensures { (if result then None else option_map attempt_of self.now.attempt) ≡
             drop_attempt ballot position (option_map attempt_of self.now.attempt) }
     {
-        match &self.attempt {
-            None => false,
-            Some(x) => x.ballot == ballot && x.position == position,
-        }
+        let attempt = self.attempt.as_ref();
+        attempt.is_some_and(|x| x.ballot == ballot && x.position == position)
     }
 
     /// Whether the lead is of the refused ballot.
@@ -276,10 +203,7 @@ impl Proposer {
         ensures { (if result then None else option_map lead_of self.now.lead) ≡
             drop_lead ballot (option_map lead_of self.now.lead) }
     {
-        match self.lead {
-            None => false,
-            Some(x) => x.ballot == ballot,
-        }
+        self.lead.is_some_and(|x| x.ballot == ballot)
     }
 
     /// A refusal, with the ballot that was promised.
@@ -290,16 +214,11 @@ impl Proposer {
             v.attempt ≡ option_map attempt_of self.now.attempt → v.lead ≡ option_map lead_of self.now.lead →
             v.seen ≡ self.now.seen → plan_of n me log v result ≡ on_nack v ballot position promised }
     {
-        let round = promised / 256;
-        let seen = if self.seen < round { round } else { self.seen };
-        Plan {
-            change: None,
-            sends: Sends::Nothing,
-            next: Next::Drops {
-                attempt: self.is_refused(ballot, position),
-                lead: self.leads_by(ballot),
-                seen,
-            },
-        }
+        let next = Next::Drops {
+            attempt: self.is_refused(ballot, position),
+            lead: self.leads_by(ballot),
+            seen: self.seen.max(promised / 256),
+        };
+        Plan::new(None, Sends::Nothing, next)
     }
 }

@@ -18,19 +18,9 @@ ghost use Rattle.px_core.specs.declared.limits.TheConstants.{WAITING};
 
 use crate::learning::learned_at;
 use crate::limits::POSITIONS;
-use crate::plan::{Attempt, Next, Plan, Sends};
+use crate::plan::{Next, Plan, Sends};
 use crate::state::{Core, Learner, Proposer};
 use px_model::Entry;
-
-#[tactic(auto, unfolding(crate::specs::Logs::learned_in))]
-fn has_learned(learned: &[Option<Entry>], position: u32) -> bool
-    ensures { result ≡ is_some (learned_in learned.now position) }
-{
-    match learned.get(position as usize) {
-        Some(Some(_)) => true,
-        _ => false,
-    }
-}
 
 /// The least position from this one on where nothing is learned.
 #[tactic(auto, using(crate::proofs::Front::past, crate::proofs::Front::here, crate::proofs::Front::end))]
@@ -40,30 +30,11 @@ fn next_front(learned: &[Option<Entry>], from: u32) -> u32
     ensures { result ≡ front (learned_in learned.now) }
 {
     for position in from..POSITIONS {
-        if !has_learned(learned, position) {
+        if learned_at(learned, position).is_none() {
             return position;
         }
     }
     POSITIONS
-}
-
-/// The attempt, unless it is below the front.
-fn still_attempted(attempt: Option<Attempt>, front: u32) -> Option<Attempt>
-    ensures { option_map attempt_of result ≡ not_below front (option_map attempt_of attempt) }
-{
-    match attempt {
-        None => None,
-        Some(x) => { if x.position < front { None } else { Some(x) } }
-    }
-}
-
-/// Takes the entry out of those that wait.
-fn keep_others(waiting: &mut Vec<Entry>, entry: &Entry)
-    ensures others { waiting.new.items ≡
-        filter (λ w. not (same_entry (pointwise nat_eq) (entry_of w) (entry_of entry.now))) waiting.old.items }
-    ensures capacity { vec_capacity waiting.new ≡ vec_capacity waiting.old }
-{
-    waiting.retain(|w| !w.is_same(entry));
 }
 
 impl Learner {
@@ -122,8 +93,10 @@ impl Proposer {
         ensures lead { self.new.lead ≡ self.old.lead }
         ensures seen { self.new.seen ≡ self.old.seen }
     {
-        keep_others(&mut self.waiting, entry);
-        self.attempt = still_attempted(self.attempt.take(), front);
+        self.waiting.retain(|w| !w.is_same(entry));
+        if self.attempt.as_ref().is_some_and(|x| x.position < front) {
+            self.attempt = None;
+        }
     }
 }
 
@@ -152,9 +125,9 @@ impl Core {
     {
         match next {
             Next::Same => {}
-            Next::Waits { entry } => self.proposer.wait(entry),
-            Next::Counts { attempt } => self.proposer.attempt = Some(attempt),
-            Next::Leads { attempt, lead } => {
+            Next::Waits(entry) => self.proposer.wait(entry),
+            Next::Counts(attempt) => self.proposer.attempt = Some(attempt),
+            Next::Leads(attempt, lead) => {
                 self.proposer.attempt = attempt;
                 self.proposer.lead = lead;
             }
@@ -163,18 +136,11 @@ impl Core {
                 lead,
                 seen,
             } => self.proposer.drop_refused(attempt, lead, seen),
-            Next::Keeps {
-                position,
-                member,
-                ballot,
-            } => self.learner.votes.keep(position, member, ballot),
-            Next::Learns { position, entry } => self.learn(position, entry),
-            Next::KeepsLearns {
-                position,
-                member,
-                ballot,
-                entry,
-            } => {
+            Next::Keeps(position, member, ballot) => {
+                self.learner.votes.keep(position, member, ballot)
+            }
+            Next::Learns(position, entry) => self.learn(position, entry),
+            Next::KeepsLearns(position, member, ballot, entry) => {
                 self.learner.votes.keep(position, member, ballot);
                 self.learn(position, entry);
             }

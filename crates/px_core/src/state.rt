@@ -32,6 +32,7 @@ pub struct Learner {
 /// acceptor has nothing but the record.
 ///
 /// Source: Paxos Made Simple, 2.2, 2.3 and 3.
+#[derive(Drop)]
 pub struct Core {
     pub(crate) alloc: Global,
     pub(crate) members: u8,
@@ -41,16 +42,4 @@ pub struct Core {
     ghost some: { 1 ≤ members },
     ghost few: { members ≤ 15 },
     ghost member: { me < members },
-}
-
-impl Drop for Core {
-    fn drop(self) {
-        let Core {
-            alloc: _,
-            members: _,
-            me: _,
-            proposer: _,
-            learner: _,
-        } = self;
-    }
 }

@@ -1,6 +1,6 @@
 //! The header of a packet.
 
-ghost use Rattle.std.specs.Prelude.{◌≡◌, ◌+◌, ◌≤◌, ◌++◌, Some, None, OnOk, MatchResult, length, drop};
+ghost use Rattle.std.specs.Prelude.{◌≡◌, ◌+◌, ◌≤◌, ◌++◌, Some, None, true, false, OnOk, MatchResult, length, drop};
 ghost use Rattle.px_packet.specs.Headers.{start_at, start_bytes, front_bytes, back_bytes, header_bytes};
 ghost use Rattle.px_packet.specs.Headers.{header_fault, header_in};
 
@@ -39,6 +39,13 @@ pub struct Header {
     pub counter: u64,
 }
 
+/// The fault, unless this holds.
+fn require(holds: bool, fault: PacketFault) -> Result<(), PacketFault>
+    ensures { MatchResult result (λ _. holds ≡ true) (λ f. (holds ≡ false) × (f ≡ fault)) }
+{
+    holds.then_some(()).ok_or(fault)
+}
+
 /// The start at an offset.
 fn start_at(bytes: &[u8], at: usize) -> Start
     requires { at + 8 ≤ length bytes.now }
@@ -54,8 +61,7 @@ fn write_start(start: Start, buffer: &mut Vec<u8>) -> Result<(), AllocError>
     ensures { OnOk result (buffer.new.items ≡ buffer.old.items ++ start_bytes start) }
 {
     buffer.extend_from_slice(&start.number.to_be_bytes())?;
-    buffer.extend_from_slice(&start.salt.to_be_bytes())?;
-    Ok(())
+    buffer.extend_from_slice(&start.salt.to_be_bytes())
 }
 
 impl Header {
@@ -66,8 +72,7 @@ impl Header {
         buffer.extend_from_slice(&MAGIC.to_be_bytes())?;
         buffer.push(VERSION)?;
         buffer.extend_from_slice(&self.cluster.to_be_bytes())?;
-        buffer.extend_from_slice(&[self.members, self.from, self.to, self.kind.number()])?;
-        Ok(())
+        buffer.extend_from_slice(&[self.members, self.from, self.to, self.kind.number()])
     }
 
     /// Writes the 24 bytes behind those: starts and counter.
@@ -76,8 +81,7 @@ impl Header {
     {
         write_start(self.start, buffer)?;
         write_start(self.echo, buffer)?;
-        buffer.extend_from_slice(&self.counter.to_be_bytes())?;
-        Ok(())
+        buffer.extend_from_slice(&self.counter.to_be_bytes())
     }
 
     /// Writes the header behind what the buffer has.
@@ -85,8 +89,7 @@ impl Header {
         ensures { OnOk result (buffer.new.items ≡ buffer.old.items ++ header_bytes self.now) }
     {
         self.write_front(buffer)?;
-        self.write_back(buffer)?;
-        Ok(())
+        self.write_back(buffer)
     }
 
     /// The header that bytes begin with, and what follows it, for a member of a cluster; else its first fault.
@@ -104,39 +107,22 @@ impl Header {
         if bytes.len() < HEADER_BYTES {
             return Err(PacketFault::Short);
         }
-        if u32_at(bytes, 0) != MAGIC {
-            return Err(PacketFault::Magic);
-        }
-        if bytes[4] != VERSION {
-            return Err(PacketFault::Version);
-        }
-        if u32_at(bytes, 5) != cluster {
-            return Err(PacketFault::Cluster);
-        }
-        if bytes[9] != members {
-            return Err(PacketFault::Members);
-        }
-        if bytes[10] >= members || bytes[10] == me {
-            return Err(PacketFault::Sender);
-        }
-        if bytes[11] != me {
-            return Err(PacketFault::Receiver);
-        }
-        let Some(kind) = Kind::from_number(bytes[12]) else {
-            return Err(PacketFault::Kind);
-        };
+        require(u32_at(bytes, 0) == MAGIC, PacketFault::Magic)?;
+        require(bytes[4] == VERSION, PacketFault::Version)?;
+        require(u32_at(bytes, 5) == cluster, PacketFault::Cluster)?;
+        require(bytes[9] == members, PacketFault::Members)?;
+        let from = bytes[10];
+        require(from < members && from != me, PacketFault::Sender)?;
+        require(bytes[11] == me, PacketFault::Receiver)?;
+        let kind = Kind::from_number(bytes[12]).ok_or(PacketFault::Kind)?;
         let start = start_at(bytes, 13);
-        if start.number == 0 {
-            return Err(PacketFault::Start);
-        }
+        require(start.number != 0, PacketFault::Start)?;
         let counter = u64_at(bytes, 29);
-        if counter == 0 {
-            return Err(PacketFault::Counter);
-        }
+        require(counter != 0, PacketFault::Counter)?;
         let header = Header {
             cluster,
             members,
-            from: bytes[10],
+            from,
             to: me,
             kind,
             start,

@@ -29,20 +29,15 @@ impl PiecesHeld {
         ensures { OnOk result (buffer.new.items ≡ buffer.old.items ++ held_bytes self) }
     {
         buffer.extend_from_slice(&self.name.to_be_bytes())?;
-        buffer.extend_from_slice(&self.bits.to_be_bytes())?;
-        Ok(())
+        buffer.extend_from_slice(&self.bits.to_be_bytes())
     }
 
     /// What the 8 bytes report; none of another number of bytes.
     pub fn read(bytes: &[u8]) -> Option<PiecesHeld>
         ensures { MatchOption result (length bytes.now ≢ 8) (λ h. bytes.now ≡ held_bytes h) }
     {
-        let Some((name, rest)) = bytes.split_first_chunk::<4>() else {
-            return None;
-        };
-        let Some((bits, rest)) = rest.split_first_chunk::<4>() else {
-            return None;
-        };
+        let (name, rest) = bytes.split_first_chunk::<4>()?;
+        let (bits, rest) = rest.split_first_chunk::<4>()?;
         if !rest.is_empty() {
             return None;
         }

@@ -34,10 +34,9 @@ fn key_block(key: &[u8]) -> [u8; 64]
     ensures { result ≡ key_block key.now }
 {
     if key.len() <= BLOCK_BYTES {
-        filled(key)
-    } else {
-        filled(&Sha256::digest(key))
+        return filled(key);
     }
+    filled(&Sha256::digest(key))
 }
 
 /// Each byte masked.
@@ -64,13 +63,11 @@ fn begun(bytes: &[u8]) -> Sha256
 fn ended(begun: &Sha256, bytes: &[u8]) -> [u8; 32]
     ensures { (m : List ℕ) → Holds256 begun.now m → result ≡ sha256 (m ++ bytes.now) }
 {
-    match begun.clone() {
-        Ok(mut hasher) => {
-            hasher.update(bytes);
-            hasher.finalize()
-        }
-        Err(_) => unreachable!(),
-    }
+    let Ok(mut hasher) = begun.clone() else {
+        unreachable!()
+    };
+    hasher.update(bytes);
+    hasher.finalize()
 }
 
 impl HmacKey {

@@ -36,10 +36,8 @@ impl PacketKey {
     pub(crate) fn new(cluster_key: &[u8; 32]) -> PacketKey
         ensures { block_of result ≡ key_block (packet_key cluster_key.now) }
     {
-        let key = hmac_sha256(cluster_key, &LABEL);
-        PacketKey {
-            key: HmacKey::new(&key),
-        }
+        let key = HmacKey::new(&hmac_sha256(cluster_key, &LABEL));
+        PacketKey { key }
     }
 
     /// The tag of header and body.

@@ -19,16 +19,6 @@ pub struct PacketKeys {
     pub(crate) other: Option<PacketKey>,
 }
 
-/// The key, made ready.
-fn ready(key: Option<&[u8; 32]>) -> Option<PacketKey>
-    ensures { option_map block_of result ≡ option_map (λ k. key_block (packet_key k.now)) key.entry }
-{
-    match key {
-        Some(key) => Some(PacketKey::new(key)),
-        None => None,
-    }
-}
-
 impl PacketKeys {
     /// The keys of packets that a cluster's keys make: packets are sealed with the first, and opened under it and under
     /// the other where there is one. No tag of a datagram of the first format under the same key fits a packet, as far
@@ -40,7 +30,7 @@ impl PacketKeys {
     {
         PacketKeys {
             key: PacketKey::new(key),
-            other: ready(other),
+            other: other.map(PacketKey::new),
         }
     }
 
@@ -60,13 +50,8 @@ impl PacketKeys {
     fn is_authentic(&self, packet: &[u8]) -> bool
         ensures { result ≡ is_authentic (keys_of self.now) packet.now }
     {
-        if self.key.is_sealed(packet) {
-            return true;
-        }
-        match &self.other {
-            Some(other) => other.is_sealed(packet),
-            None => false,
-        }
+        let other = self.other.as_ref();
+        self.key.is_sealed(packet) || other.is_some_and(|key| key.is_sealed(packet))
     }
 
     /// The header and the body of a packet that was sealed with one of the keys for this member of a cluster; else its

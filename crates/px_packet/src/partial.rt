@@ -117,10 +117,9 @@ fn pause(parts: &[Part]) -> u64
 {
     let last = &parts[parts.len() - 1];
     if last.is_present() {
-        REPORT_SOON
-    } else {
-        REPORT_AFTER
+        return REPORT_SOON;
     }
+    REPORT_AFTER
 }
 
 impl Partial {
@@ -128,11 +127,10 @@ impl Partial {
     pub(crate) fn new(alloc: Global, piece: &Piece<'_>, now: u64) -> Result<Partial, AllocError>
         ensures { IfOk result (λ u. u ≡ empty_of (seen piece.now) now) }
     {
-        let parts = empty_parts(alloc, piece_count(usize::from(piece.size)))?;
         Ok(Partial {
             name: piece.name,
             size: piece.size,
-            parts,
+            parts: empty_parts(alloc, piece_count(usize::from(piece.size)))?,
             due: now,
             reports: 0,
         })
@@ -146,18 +144,13 @@ impl Partial {
     }
 
     /// Takes the part of a piece, if it hasn't come yet. When out of memory nothing changes.
-    pub(crate) fn take(
-        &mut self,
-        alloc: Global,
-        piece: &Piece<'_>,
-        now: u64,
-    ) -> Result<(), AllocError>
+    pub(crate) fn take(&mut self, piece: &Piece<'_>, now: u64) -> Result<(), AllocError>
         ensures kept_part { OnOk result (self.new ≡ with_part self.old (seen piece.now) now) }
         ensures refused { OnErr result (self.new ≡ self.old) }
     {
         let index = usize::from(piece.index);
         if index < self.parts.len() && !self.parts[index].is_present() {
-            let bytes = Vec::from_slice(alloc, piece.part)?;
+            let bytes = Vec::from_slice(*self.parts.allocator(), piece.part)?;
             self.parts[index] = Part::new(bytes);
             self.due = now.saturating_add(pause(self.parts.as_slice()));
             self.reports = 0;
@@ -173,10 +166,10 @@ impl Partial {
     }
 
     /// The parts one behind the other.
-    pub(crate) fn join(&self, alloc: Global) -> Result<Vec<u8>, AllocError>
+    pub(crate) fn join(&self) -> Result<Vec<u8>, AllocError>
         ensures { IfOk result (λ whole. whole.items ≡ joined self.now.parts) }
     {
-        let mut whole = Vec::with_capacity(alloc, usize::from(self.size))?;
+        let mut whole = Vec::with_capacity(*self.parts.allocator(), usize::from(self.size))?;
         for part in &self.parts {
             whole.extend_from_slice(part.bytes())?;
         }
@@ -194,11 +187,7 @@ impl Partial {
     pub(crate) fn due_at(&self) -> Option<u64>
         ensures { result ≡ due_at self.now }
     {
-        if self.reports < REPORTS_MAX {
-            Some(self.due)
-        } else {
-            None
-        }
+        (self.reports < REPORTS_MAX).then_some(self.due)
     }
 
     /// Which parts have come; this is reported now.

@@ -21,12 +21,7 @@ pub struct Peer {
 fn is_for(mine: Start, header: &Header) -> bool
     ensures { result ≡ is_for mine header.now }
 {
-    match header.kind {
-        Kind::State => true,
-        Kind::Whole => header.echo == mine,
-        Kind::Piece => header.echo == mine,
-        Kind::PiecesHeld => header.echo == mine,
-    }
+    header.kind == Kind::State || header.echo == mine
 }
 
 impl Peer {
@@ -73,9 +68,8 @@ impl Peer {
             return Arrival::OtherEcho;
         }
         if self.window.accept(header.counter) {
-            Arrival::Accepted
-        } else {
-            Arrival::Repeated
+            return Arrival::Accepted;
         }
+        Arrival::Repeated
     }
 }

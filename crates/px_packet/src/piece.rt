@@ -66,8 +66,7 @@ pub fn write_piece(
     buffer.extend_from_slice(&name.to_be_bytes())?;
     buffer.extend_from_slice(&size.to_be_bytes())?;
     buffer.push(index)?;
-    buffer.extend_from_slice(part_of(datagram, usize::from(index)))?;
-    Ok(())
+    buffer.extend_from_slice(part_of(datagram, usize::from(index)))
 }
 
 impl<'a> Piece<'a> {
@@ -79,12 +78,8 @@ impl<'a> Piece<'a> {
         ensures none { IfNone result ((p : pieces.Piece) → p.name < 2 ^ 32 → IsFormed p →
             bytes.now ≡ piece_bytes p → ⊥) }
     {
-        let Some((name, rest)) = bytes.split_first_chunk::<4>() else {
-            return None;
-        };
-        let Some((size, rest)) = rest.split_first_chunk::<2>() else {
-            return None;
-        };
+        let (name, rest) = bytes.split_first_chunk::<4>()?;
+        let (size, rest) = rest.split_first_chunk::<2>()?;
         if rest.is_empty() {
             return None;
         }

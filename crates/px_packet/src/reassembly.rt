@@ -14,11 +14,13 @@ use std::marker::Model;
 /// How many unfinished datagrams of one sender are kept. With 15 senders they take some 4 MB at most.
 const UNFINISHED_MAX: usize = 8;
 
+/// A datagram, if it is whole.
+type Joined = Result<Option<Vec<u8>>, AllocError>;
+
 /// A receiver's unfinished datagrams of one sender, in the order in which they began, 8 at most. A new one is made
 /// where the sender starts anew, since it names its datagrams anew then.
 #[derive(Drop)]
 pub struct Reassembly {
-    alloc: Global,
     partials: Vec<Partial>,
 }
 
@@ -59,13 +61,7 @@ fn place_of(partials: &[Partial], piece: &Piece<'_>) -> usize
 
 /// Takes a piece of the datagram at a place: the datagram, if all its parts have come now. When out of memory the
 /// piece is lost, or the datagram.
-fn take_at(
-    alloc: Global,
-    partials: &mut Vec<Partial>,
-    place: usize,
-    piece: &Piece<'_>,
-    now: u64,
-) -> Result<Option<Vec<u8>>, AllocError>
+fn take_at(partials: &mut Vec<Partial>, place: usize, piece: &Piece<'_>, now: u64) -> Joined
     requires inside { place < length partials.old.items }
     requires few { length partials.old.items ≤ UNFINISHED_MAX }
     ensures given { IfOk result (λ o. option_map (λ v. v.items) o ≡
@@ -76,31 +72,26 @@ fn take_at(
     ensures few { length partials.new.items ≤ UNFINISHED_MAX }
 {
     let partial = &mut partials[place];
-    partial.take(alloc, piece, now)?;
+    partial.take(piece, now)?;
     if !partial.is_whole() {
         return Ok(None);
     }
     let partial = partials.remove(place);
-    Ok(Some(partial.join(alloc)?))
+    Ok(Some(partial.join()?))
 }
 
 /// Takes the first piece of a datagram: the datagram, if it has no other. When out of memory nothing changes.
-fn begin(
-    alloc: Global,
-    partials: &mut Vec<Partial>,
-    piece: &Piece<'_>,
-    now: u64,
-) -> Result<Option<Vec<u8>>, AllocError>
+fn begin(partials: &mut Vec<Partial>, piece: &Piece<'_>, now: u64) -> Joined
     requires few { length partials.old.items ≤ UNFINISHED_MAX }
     ensures given { IfOk result (λ o. option_map (λ v. v.items) o ≡ given_first (seen piece.now) now) }
     ensures after { OnOk result (partials.new.items ≡ after_first partials.old.items (seen piece.now) now) }
     ensures refused { OnErr result (partials.new.items ≡ partials.old.items) }
     ensures few { length partials.new.items ≤ UNFINISHED_MAX }
 {
-    let mut partial = Partial::new(alloc, piece, now)?;
-    partial.take(alloc, piece, now)?;
+    let mut partial = Partial::new(*partials.allocator(), piece, now)?;
+    partial.take(piece, now)?;
     if partial.is_whole() {
-        return Ok(Some(partial.join(alloc)?));
+        return Ok(Some(partial.join()?));
     }
     partials.push(partial)?;
     if partials.len() > UNFINISHED_MAX {
@@ -115,7 +106,6 @@ impl Reassembly {
         ensures { result ≡ [] }
     {
         Reassembly {
-            alloc,
             partials: Vec::new(alloc),
         }
     }
@@ -132,10 +122,9 @@ impl Reassembly {
     {
         let place = place_of(self.partials.as_slice(), piece);
         if place < self.partials.len() {
-            take_at(self.alloc, &mut self.partials, place, piece, now)
-        } else {
-            begin(self.alloc, &mut self.partials, piece, now)
+            return take_at(&mut self.partials, place, piece, now);
         }
+        begin(&mut self.partials, piece, now)
     }
 
     /// Which parts of a datagram have come, where that is to be reported at this time: 20 ms after a part, 5 ms after

@@ -104,7 +104,6 @@ fn place_with(cuts: &[Cut], name: u32) -> usize
 /// sent again. A sender that starts anew begins with a new one.
 #[derive(Drop)]
 pub struct SendBuffer {
-    alloc: Global,
     /// How many datagrams were cut: the next name.
     count: u64,
     cuts: Vec<Cut>,
@@ -127,7 +126,6 @@ impl SendBuffer {
         ensures { result ≡ record { count = 0; cuts = [] } }
     {
         SendBuffer {
-            alloc,
             count: 0,
             cuts: Vec::new(alloc),
         }
@@ -157,10 +155,8 @@ impl SendBuffer {
             return Err(CutFault::Names);
         }
         let name = self.count as u32;
-        let cut = Cut::new(self.alloc, name, datagram)?;
-        if self.cuts.push(cut).is_err() {
-            return Err(CutFault::Memory);
-        }
+        let cut = Cut::new(*self.cuts.allocator(), name, datagram)?;
+        self.cuts.push(cut).map_err(|_| CutFault::Memory)?;
         if self.cuts.len() > KEPT_MAX {
             let _first = self.cuts.remove(0);
         }
@@ -173,10 +169,6 @@ impl SendBuffer {
         ensures { option_map (λ b. b.now) result ≡ cut_with self.now name }
     {
         let place = place_with(self.cuts.as_slice(), name);
-        if place < self.cuts.len() {
-            let cut = &self.cuts[place];
-            return Some(cut.bytes());
-        }
-        None
+        self.cuts.get(place).map(Cut::bytes)
     }
 }

@@ -8,9 +8,9 @@ ghost use Rattle.px_packet.specs.Texts.{line};
 fn line(text: &[u8]) -> &[u8]
     ensures { result.now ≡ line text.now }
 {
-    match text.split_last() {
-        Some((last, front)) => { if *last == b'\n' { front } else { text } }
-        None => text,
+    match text {
+        [front @ .., b'\n'] => front,
+        _ => text,
     }
 }
 
@@ -20,8 +20,6 @@ pub fn parse_key(text: &[u8]) -> Option<[u8; 32]>
     ensures some { IsSome result ↔ IsOk (decode_sized (line text.now) 32) }
 {
     let mut key = [0u8; 32];
-    match hex::decode_to_slice(line(text), &mut key) {
-        Ok(()) => Some(key),
-        Err(_) => None,
-    }
+    hex::decode_to_slice(line(text), &mut key).ok()?;
+    Some(key)
 }

@@ -27,23 +27,13 @@ pub enum When {
 /// A record of which one commit fails, and then every call. It shows what a failure leaves: a test counts the commit
 /// that fails upwards until none does. A commit that is to fail after its change, and is out of memory, answers that,
 /// and is still to come.
+#[derive(Drop)]
 pub struct FaultyRecords<R> {
     inner: R,
     /// How many commits are left up to the one that fails, 0 where none will.
     left: u64,
     when: When,
     has_failed: bool,
-}
-
-impl<R: Drop> Drop for FaultyRecords<R> {
-    fn drop(self) {
-        let FaultyRecords {
-            inner: _,
-            left: _,
-            when: _,
-            has_failed: _,
-        } = self;
-    }
 }
 
 impl<R: Records> FaultyRecords<R> {
@@ -66,13 +56,7 @@ impl<R: Records> FaultyRecords<R> {
     pub fn into_inner(self) -> R
         ensures { result ≡ inner_of self }
     {
-        let FaultyRecords {
-            inner,
-            left: _,
-            when: _,
-            has_failed: _,
-        } = self;
-        inner
+        self.inner
     }
 }
 

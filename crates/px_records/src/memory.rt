@@ -23,6 +23,7 @@ use std::collections::BTreeMap;
 
 /// A record in memory. It never fails: a call answers `Memory` or does what it is for, at the cost of the logarithm of
 /// what it holds.
+#[derive(Drop)]
 pub struct MemoryRecords {
     members: u8,
     meta: Meta,
@@ -35,19 +36,6 @@ pub struct MemoryRecords {
     ghost top_is: { top ≡ step.top (slots_in slots) } by { IsTop-prop top slots },
     ghost end_is: { IsEnd (learned_in learned) end } by { IsEnd-prop (learned_in learned) end },
     ghost fits: { AllFits members meta slots learned } by { AllFits-prop members meta slots learned },
-}
-
-impl Drop for MemoryRecords {
-    fn drop(self) {
-        let MemoryRecords {
-            members: _,
-            meta: _,
-            slots: _,
-            learned: _,
-            top: _,
-            end: _,
-        } = self;
-    }
 }
 
 impl MemoryRecords {
@@ -82,29 +70,21 @@ fn shared(entry: &Entry) -> Result<Entry, StoreFault>
     ensures value { IfOk result (λ e. entry_of e ≡ entry_of entry.now) }
     ensures why { OnErr result (result ≡ Err StoreFault.Memory) }
 {
-    match entry.share() {
-        Ok(copy) => Ok(copy),
-        Err(_) => Err(StoreFault::Memory),
-    }
+    entry.share().map_err(|_| StoreFault::Memory)
 }
 
 fn copy_of(slot: &Slot) -> Result<Slot, StoreFault>
     ensures value { IfOk result (λ s. slot_of s ≡ slot_of slot.now) }
     ensures why { OnErr result (result ≡ Err StoreFault.Memory) }
 {
-    match &slot.accepted {
-        None => Ok(Slot {
-            promised: slot.promised,
-            accepted: None,
+    let accepted = match &slot.accepted {
+        None => None,
+        Some(proposal) => Some(Proposal {
+            ballot: proposal.ballot,
+            entry: shared(&proposal.entry)?,
         }),
-        Some(proposal) => Ok(Slot {
-            promised: slot.promised,
-            accepted: Some(Proposal {
-                ballot: proposal.ballot,
-                entry: shared(&proposal.entry)?,
-            }),
-        }),
-    }
+    };
+    Ok(Slot { accepted, ..*slot })
 }
 
 fn promise(slots: &mut BTreeMap<u32, Slot>, position: u32, ballot: u64) -> Result<(), StoreFault>
@@ -121,10 +101,10 @@ fn promise(slots: &mut BTreeMap<u32, Slot>, position: u32, ballot: u64) -> Resul
         promised: ballot,
         accepted: None,
     };
-    match slots.insert(position, slot) {
-        Ok(_) => Ok(()),
-        Err(_) => Err(StoreFault::Memory),
-    }
+    slots
+        .insert(position, slot)
+        .map_err(|_| StoreFault::Memory)?;
+    Ok(())
 }
 
 fn accept(
@@ -142,10 +122,10 @@ fn accept(
         promised: ballot,
         accepted: Some(Proposal { ballot, entry }),
     };
-    match slots.insert(position, slot) {
-        Ok(_) => Ok(()),
-        Err(_) => Err(StoreFault::Memory),
-    }
+    slots
+        .insert(position, slot)
+        .map_err(|_| StoreFault::Memory)?;
+    Ok(())
 }
 
 fn learn(learned: &mut BTreeMap<u32, Entry>, position: u32, entry: &Entry) -> Result<(), StoreFault>
@@ -154,16 +134,10 @@ fn learn(learned: &mut BTreeMap<u32, Entry>, position: u32, entry: &Entry) -> Re
     ensures why { OnErr result (result ≡ Err StoreFault.Memory) }
 {
     let entry = shared(entry)?;
-    match learned.insert(position, entry) {
-        Ok(_) => Ok(()),
-        Err(_) => Err(StoreFault::Memory),
-    }
-}
-
-fn greater(a: u32, b: u32) -> u32
-    ensures value { (a ≤ b → result ≡ b) × (b ≤ a → result ≡ a) }
-{
-    if a < b { b } else { a }
+    learned
+        .insert(position, entry)
+        .map_err(|_| StoreFault::Memory)?;
+    Ok(())
 }
 
 impl Records for MemoryRecords {
@@ -244,12 +218,12 @@ impl Records for MemoryRecords {
                 entry,
             } => {
                 accept(&mut self.slots, *position, *ballot, entry)?;
-                self.top = greater(self.top, *position + 1);
+                self.top = self.top.max(*position + 1);
                 Ok(())
             }
             Change::Learned { position, entry } => {
                 learn(&mut self.learned, *position, entry)?;
-                self.end = greater(self.end, *position + 1);
+                self.end = self.end.max(*position + 1);
                 Ok(())
             }
         }

@@ -23,6 +23,9 @@ use pf_entry::decode;
 use px_model::{Entry, Meta, Reads, Slot};
 use px_records::{Records, StoreFault};
 
+/// What is read of a record.
+pub(crate) type Looked<T> = Result<T, StoreFault>;
+
 /// A record, as far as a step reads it.
 #[derive(Drop)]
 pub(crate) struct Seen {
@@ -99,11 +102,7 @@ fn top_of<R: Records>(records: &mut R) -> Result<u32, StoreFault>
 }
 
 /// The slot and the top where they are read, else an empty slot and 0.
-fn look_beside<R: Records>(
-    records: &mut R,
-    members: u8,
-    reads: Reads,
-) -> Result<(Slot, u32), StoreFault>
+fn look_beside<R: Records>(records: &mut R, members: u8, reads: Reads) -> Looked<(Slot, u32)>
     requires works { R.failed records.old ≡ 0 }
     requires few { members ≤ MEMBERS }
     requires members { R.members records.old ≡ members }
@@ -133,18 +132,13 @@ fn look_beside<R: Records>(
         }
         Reads::SlotAndTop { position } => {
             let slot = slot_at(records, members, position)?;
-            let top = top_of(records)?;
-            Ok((slot, top))
+            Ok((slot, top_of(records)?))
         }
     }
 }
 
 /// The numbers, and the slot and the top where they are read. `BadStore` also for an entry that has no spelling.
-pub(crate) fn look<R: Records>(
-    records: &mut R,
-    members: u8,
-    reads: Reads,
-) -> Result<Seen, StoreFault>
+pub(crate) fn look<R: Records>(records: &mut R, members: u8, reads: Reads) -> Looked<Seen>
     requires few { members ≤ MEMBERS }
     requires members { R.members records.old ≡ members }
     ensures ok { R.is_honest records.new → IfOk result (λ s. IsSeen (R.stored records.old) reads s) }

@@ -22,7 +22,7 @@ ghost use Rattle.px_core.specs.declared.limits.TheConstants.{MEMBERS};
 
 use crate::act::store_fault;
 use crate::fault::NodeFault;
-use crate::look::is_spelled;
+use crate::look::{Looked, is_spelled};
 use crate::member::Member;
 use crate::state::Replica;
 use px_model::Entry;
@@ -31,11 +31,7 @@ use px_wire::Membership;
 use std::alloc::Global;
 
 /// The entry that the record has as learned at a position, which has a spelling.
-fn learned_at<R: Records>(
-    records: &mut R,
-    members: u8,
-    position: u32,
-) -> Result<Option<Entry>, StoreFault>
+fn learned_at<R: Records>(records: &mut R, members: u8, position: u32) -> Looked<Option<Entry>>
     requires few { members ≤ MEMBERS }
     requires members { R.members records.old ≡ members }
     ensures ok { R.is_honest records.new →
@@ -50,24 +46,18 @@ fn learned_at<R: Records>(
     ensures good { R.is_honest records.new → OnOk result (IsBadEntry R.Records records.old members position → ⊥) }
     ensures same { R.members records.new ≡ R.members records.old }
 {
-    match records.read_learned(position)? {
-        Some(entry) => {
-            if !is_spelled(&entry) {
-                return Err(StoreFault::BadStore);
-            }
-            Ok(Some(entry))
-        }
-        None => Ok(None),
+    let Some(entry) = records.read_learned(position)? else {
+        return Ok(None);
+    };
+    if !is_spelled(&entry) {
+        return Err(StoreFault::BadStore);
     }
+    Ok(Some(entry))
 }
 
 /// What the record has as learned at a position joins the member's log.
 #[tactic(auto, using(crate::proofs::Copied::copied_some, crate::proofs::Copied::copied_none))]
-fn remember_at<R: Records>(
-    records: &mut R,
-    member: &mut Member,
-    position: u32,
-) -> Result<(), StoreFault>
+fn remember_at<R: Records>(records: &mut R, member: &mut Member, position: u32) -> Looked<()>
     requires members { R.members records.old ≡ (group_of member.old).members }
     requires within { position < positions }
     requires nothing { volatile_of member.old ≡ nothing_volatile }
@@ -97,11 +87,7 @@ fn remember_at<R: Records>(
 }
 
 /// All that the record has as learned joins the log of a member that has learned nothing.
-fn remember_below<R: Records>(
-    records: &mut R,
-    member: &mut Member,
-    end: u32,
-) -> Result<(), StoreFault>
+fn remember_below<R: Records>(records: &mut R, member: &mut Member, end: u32) -> Looked<()>
     requires works { R.failed records.old ≡ 0 }
     requires members { R.members records.old ≡ (group_of member.old).members }
     requires within { end ≤ positions }
@@ -122,10 +108,7 @@ fn remember_below<R: Records>(
     ensures group { group_of member.new ≡ group_of member.old }
 {
     for position in 0..end {
-        match remember_at(records, member, position) {
-            Ok(()) => {}
-            Err(fault) => return Err(fault),
-        }
+        remember_at(records, member, position)?;
     }
     Ok(())
 }

@@ -46,42 +46,6 @@ impl Member {
         self.group
     }
 
-    /// The least position not learned.
-    pub(crate) fn front(&self) -> u32
-        ensures front { result ≡ front (log_of self.now) }
-        ensures within { result ≤ positions }
-    {
-        self.core.front()
-    }
-
-    /// The entry learned at the position.
-    pub(crate) fn learned(&self, position: u32) -> Option<&Entry>
-        ensures { option_map (λ e. entry_of e.now) result ≡ log_of self.now position }
-    {
-        self.core.learned(position)
-    }
-
-    /// How many commands wait to be proposed.
-    pub(crate) fn waiting(&self) -> usize
-        ensures { result ≡ length (volatile_of self.now).waiting }
-    {
-        self.core.waiting()
-    }
-
-    /// Whether an attempt is under way.
-    pub(crate) fn is_attempting(&self) -> bool
-        ensures { result ≡ is_some (volatile_of self.now).attempt }
-    {
-        self.core.is_attempting()
-    }
-
-    /// Whether it has the lead.
-    pub(crate) fn is_leading(&self) -> bool
-        ensures { result ≡ is_some (volatile_of self.now).lead }
-    {
-        self.core.is_leading()
-    }
-
     /// What the member does on this event, where what was read is the record's.
     pub(crate) fn plan(&mut self, seen: &Seen, event: &Event) -> Result<Plan, CoreFault>
         requires seen { SeenFits (group_of self.old).members seen.now }
@@ -129,14 +93,5 @@ impl Member {
         ensures group { group_of self.new ≡ group_of self.old }
     {
         self.core.remember(position, entry)
-    }
-
-    /// A restart in place: all is let go but what is learned. Allocates nothing.
-    pub(crate) fn forget(&mut self)
-        ensures volatile { volatile_of self.new ≡ nothing_volatile }
-        ensures log { log_of self.new ≡ log_of self.old }
-        ensures group { group_of self.new ≡ group_of self.old }
-    {
-        self.core.forget();
     }
 }

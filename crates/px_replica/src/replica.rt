@@ -109,14 +109,14 @@ impl<R: Records> Replica<R> {
         ensures front { result ≡ front (learned_by self.now) }
         ensures within { result ≤ positions }
     {
-        self.member.front()
+        self.member.core.front()
     }
 
     /// The entry learned at the position.
     pub fn learned(&self, position: u32) -> Option<&Entry>
         ensures { option_map (λ e. entry_of e.now) result ≡ learned_by self.now position }
     {
-        self.member.learned(position)
+        self.member.core.learned(position)
     }
 
     /// The round that the record has, as last committed; of a failed replica as last known.
@@ -131,21 +131,21 @@ impl<R: Records> Replica<R> {
     pub fn waiting(&self) -> usize
         ensures { result ≡ length (state_in self.now).volatile.waiting }
     {
-        self.member.waiting()
+        self.member.core.waiting()
     }
 
     /// Whether an attempt is under way: a command is being proposed, and its outcome isn't known yet.
     pub fn is_attempting(&self) -> bool
         ensures { result ≡ is_some (state_in self.now).volatile.attempt }
     {
-        self.member.is_attempting()
+        self.member.core.is_attempting()
     }
 
     /// Whether the member has the lead: a majority has promised it all positions from one on.
     pub fn is_leading(&self) -> bool
         ensures { result ≡ is_some (state_in self.now).volatile.lead }
     {
-        self.member.is_leading()
+        self.member.core.is_leading()
     }
 
     /// Who takes part, and which member this is.
@@ -171,6 +171,6 @@ impl<R: Records> Replica<R> {
         ensures failed { has_failed self.new ≡ has_failed self.old }
         ensures membership { membership_of self.new ≡ membership_of self.old }
     {
-        self.member.forget();
+        self.member.core.forget();
     }
 }

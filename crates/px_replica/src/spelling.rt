@@ -17,6 +17,9 @@ use px_model::{Entry, Message};
 use px_wire::{Membership, address, encode_sent};
 use std::alloc::{AllocError, Global};
 
+/// The datagrams of what is sent, unless out of memory.
+type Datagrams = Result<Vec<Datagram>, AllocError>;
+
 /// The datagram of a message, as it is addressed to another member.
 fn addressed(
     alloc: Global,
@@ -39,11 +42,7 @@ fn addressed(
 
 /// A message to each member, encoded once.
 #[tactic(auto, using(crate::proofs::Sending::are_more))]
-fn for_all(
-    alloc: Global,
-    m: &Membership,
-    message: &Message<Entry>,
-) -> Result<Vec<Datagram>, AllocError>
+fn for_all(alloc: Global, m: &Membership, message: &Message<Entry>) -> Datagrams
     requires here { m.now.me < m.now.members }
     requires fits { SendsFit (Passes is_command) m.now.members m.now.me
         (to_all m.now.members m.now.me (message_of message.now)) }
@@ -61,12 +60,7 @@ fn for_all(
 }
 
 /// A message to one.
-fn for_one(
-    alloc: Global,
-    m: &Membership,
-    to: u8,
-    message: &Message<Entry>,
-) -> Result<Vec<Datagram>, AllocError>
+fn for_one(alloc: Global, m: &Membership, to: u8, message: &Message<Entry>) -> Datagrams
     requires here { m.now.me < m.now.members }
     requires fits { SendsFit (Passes is_command) m.now.members m.now.me
         (envelope m.now.me to (message_of message.now) ∷ []) }
@@ -80,11 +74,7 @@ fn for_one(
 }
 
 /// The datagrams of what is sent, in order.
-pub(crate) fn spelled(
-    alloc: Global,
-    m: &Membership,
-    sends: &Sends,
-) -> Result<Vec<Datagram>, AllocError>
+pub(crate) fn spelled(alloc: Global, m: &Membership, sends: &Sends) -> Datagrams
     requires here { m.now.me < m.now.members }
     requires fits { SendsFit (Passes is_command) m.now.members m.now.me
         (sends_of m.now.members m.now.me sends.now) }

@@ -12,6 +12,7 @@ use std::alloc::Global;
 /// what its record has as learned.
 ///
 /// Source: Paxos Made Simple, 2.5 and 3.
+#[derive(Drop)]
 pub struct Replica<R: Records> {
     pub(crate) records: R,
     pub(crate) member: Member,
@@ -33,25 +34,6 @@ impl<R: Records> Replica<R> {
     pub fn close(self) -> R
         ensures { result ≡ records_of self }
     {
-        let Replica {
-            records,
-            member: _,
-            round: _,
-            is_failed: _,
-            alloc: _,
-        } = self;
-        records
-    }
-}
-
-impl<R: Records + Drop> Drop for Replica<R> {
-    fn drop(self) {
-        let Replica {
-            records: _,
-            member: _,
-            round: _,
-            is_failed: _,
-            alloc: _,
-        } = self;
+        self.records
     }
 }

@@ -12,7 +12,7 @@ ghost use Rattle.px_store.specs.Adopting.{IsMade, IsBrought, LeavesOr};
 ghost use Rattle.px_store.specs.Judging.{refusal, IsOwn};
 
 use crate::calls::{Identity, Trouble, cause_of};
-use crate::fault::AdoptFault;
+use crate::fault::{Adopt, AdoptFault};
 use crate::finding::{judge, read_store};
 use crate::formats::Format;
 use crate::making::{make_anew, make_rest};
@@ -52,11 +52,7 @@ fn bring_none<S: Alter>(conn: &mut Connection<S>, identity: Identity) -> Result<
 }
 
 /// A store of a format is brought to format 3, or gets the row for the whole node if it lacks that alone.
-fn bring_at<S: Alter>(
-    conn: &mut Connection<S>,
-    identity: Identity,
-    format: Format,
-) -> Result<(), AdoptFault>
+fn bring_at<S: Alter>(conn: &mut Connection<S>, identity: Identity, format: Format) -> Adopt<()>
     ensures refused { HasCleanDisk (state S.Store conn.new) → Began format (state S.Store conn.old) →
         IsRefused result → IsSame (state S.Store conn.old) (state S.Store conn.new) }
     ensures clean { HasCleanDisk (state S.Store conn.new) → HasCleanDisk (state S.Store conn.old) }
@@ -85,10 +81,7 @@ fn bring_at<S: Alter>(
 }
 
 /// Brings a store to format 3, where it is this node's. A store that is refused with 71, 72 or 73 isn't written to.
-pub(crate) fn bring<S: Alter>(
-    conn: &mut Connection<S>,
-    identity: Identity,
-) -> Result<(), AdoptFault>
+pub(crate) fn bring<S: Alter>(conn: &mut Connection<S>, identity: Identity) -> Adopt<()>
     ensures refused { HasCleanDisk (state S.Store conn.new) → IsRefused result →
         IsSame (state S.Store conn.old) (state S.Store conn.new) }
     ensures clean { HasCleanDisk (state S.Store conn.new) → HasCleanDisk (state S.Store conn.old) }

@@ -21,10 +21,7 @@ pub(crate) struct Ahead {
 fn is_at(row: &Row, position: u32) -> bool
     ensures { result ≡ is_key position (column row.now 0) }
 {
-    match row.get_ref(0) {
-        Ok(ValueRef::Int(n)) => n == i64::from(position),
-        _ => false,
-    }
+    matches!(row.get_ref(0), Ok(ValueRef::Int(n)) if n == i64::from(position))
 }
 
 /// Whether the keys are numbers from `first` up to `end`, each above the one before.
@@ -72,10 +69,7 @@ impl Ahead {
     fn has_row(&self) -> bool
         ensures { result ≡ has_first self.now.next self.now.rows.items }
     {
-        match self.rows.front() {
-            Some(row) => is_at(row, self.next),
-            None => false,
-        }
+        self.rows.front().is_some_and(|row| is_at(row, self.next))
     }
 
     /// The row of the position that comes next, if it has one. The position is passed.

@@ -67,21 +67,11 @@ pub(crate) fn cause_of<S: Alter>(conn: &mut Connection<S>, error: Error) -> Trou
 #[derive(Clone, Copy)]
 pub(crate) enum NewRow {
     /// The row for the whole node, with what identifies the node beside it.
-    Meta {
-        round: u64,
-        number: u64,
-    },
-    Slot {
-        position: u32,
-        promised: u64,
-        ballot: u64,
-    },
-    Floor {
-        ballot: u64,
-    },
-    Learned {
-        position: u32,
-    },
+    Meta { round: u64, number: u64 },
+    /// A slot: its position, the ballot promised, and that of the proposal accepted.
+    Slot(u32, u64, u64),
+    Floor { ballot: u64 },
+    Learned { position: u32 },
 }
 
 /// Runs the statement that puts a row.
@@ -98,39 +88,24 @@ fn run<S: Alter>(
         (CommitsBy (text_of row) (params_of identity row bytes.now) (state S.Store conn.old)) }
 {
     match row {
-        NewRow::Meta { round, number } => {
-            let round = signed(round);
-            let number = signed(number);
-            conn.execute(
-                "INSERT OR REPLACE INTO meta VALUES (1, 3, ?1, ?2, ?3, ?4, ?5)",
-                params![
-                    identity.cluster,
-                    u32::from(identity.members),
-                    u32::from(identity.node),
-                    round,
-                    number
-                ],
-            )
-        }
-        NewRow::Slot {
-            position,
-            promised,
-            ballot,
-        } => {
-            let promised = signed(promised);
-            let ballot = signed(ballot);
-            conn.execute(
-                "INSERT OR REPLACE INTO slots VALUES (?1, ?2, ?3, ?4)",
-                params![position, promised, ballot, bytes],
-            )
-        }
-        NewRow::Floor { ballot } => {
-            let ballot = signed(ballot);
-            conn.execute(
-                "INSERT OR REPLACE INTO floor VALUES (1, ?1)",
-                params![ballot],
-            )
-        }
+        NewRow::Meta { round, number } => conn.execute(
+            "INSERT OR REPLACE INTO meta VALUES (1, 3, ?1, ?2, ?3, ?4, ?5)",
+            params![
+                identity.cluster,
+                u32::from(identity.members),
+                u32::from(identity.node),
+                signed(round),
+                signed(number)
+            ],
+        ),
+        NewRow::Slot(position, promised, ballot) => conn.execute(
+            "INSERT OR REPLACE INTO slots VALUES (?1, ?2, ?3, ?4)",
+            params![position, signed(promised), signed(ballot), bytes],
+        ),
+        NewRow::Floor { ballot } => conn.execute(
+            "INSERT OR REPLACE INTO floor VALUES (1, ?1)",
+            params![signed(ballot)],
+        ),
         NewRow::Learned { position } => conn.execute(
             "INSERT OR REPLACE INTO learned VALUES (?1, ?2)",
             params![position, bytes],
@@ -185,13 +160,9 @@ impl Question {
     {
         match self {
             Question::Meta => 0,
+            Question::Slot { .. } | Question::Top | Question::LastSlot => 1,
             Question::Floor => 2,
-            Question::Slot { position: _ } => 1,
-            Question::Learned { position: _ } => 3,
-            Question::Span { first: _, end: _ } => 3,
-            Question::Top => 1,
-            Question::End => 3,
-            Question::LastSlot => 1,
+            Question::Learned { .. } | Question::Span { .. } | Question::End => 3,
         }
     }
 }

@@ -7,18 +7,14 @@ ghost use Rattle.px_store.specs.Adopting.{Began, IsUnread, IsVerdict, IsSame, Le
 ghost use Rattle.px_store.specs.Judging.{refusal, reopen_refusal, owner_in, is_member_of};
 
 use crate::calls::{Identity, Question};
-use crate::fault::AdoptFault;
+use crate::fault::{Adopt, AdoptFault};
 use crate::finding::{judge, look, owner_in_rows, read_store, refuse_lost, rows_in};
 use crate::formats::Format;
 use crate::tables::format_in;
 use sqlite::{Alter, Connection};
 
 /// A store that has the tables of a format.
-fn examine_at<S: Alter>(
-    conn: &mut Connection<S>,
-    identity: Identity,
-    format: Format,
-) -> Result<(), AdoptFault>
+fn examine_at<S: Alter>(conn: &mut Connection<S>, identity: Identity, format: Format) -> Adopt<()>
     ensures stays { HasCleanDisk (state S.Store conn.new) → Began format (state S.Store conn.old) →
         OnOk result (IsSame (state S.Store conn.old) (state S.Store conn.new)) }
     ensures as_it_was { HasCleanDisk (state S.Store conn.new) → Began format (state S.Store conn.old) →
@@ -57,9 +53,7 @@ pub fn examine<S: Alter>(conn: &mut Connection<S>, identity: Identity) -> Result
     ensures judged { HasCleanDisk (state S.Store conn.new) → (f : Format) → Began f (state S.Store conn.old) →
         IfErr result (λ e. IsVerdict e → reopen_refusal f identity (state S.Store conn.old).now.trees ≡ Some e) }
 {
-    if let Err(fault) = refuse_lost(conn) {
-        return Err(fault);
-    }
+    refuse_lost(conn)?;
     let found = format_in(conn.schema());
     match found {
         Some(format) => examine_at(conn, identity, format),

@@ -27,6 +27,9 @@ pub enum AdoptFault {
     WrongNode,
 }
 
+/// What taking a store gives.
+pub(crate) type Adopt<T> = Result<T, AdoptFault>;
+
 impl AdoptFault {
     /// The number of the refusal, none when out of memory.
     pub fn code(&self) -> Option<u8>

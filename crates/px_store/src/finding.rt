@@ -17,7 +17,7 @@ ghost use Rattle.px_store.specs.inner.Questions.{Answers, IsUnanswered, table_of
 ghost use Rattle.px_store.specs.declared.reading.TheConstants.{NUMBERS};
 
 use crate::calls::{Identity, Question, Trouble, get};
-use crate::fault::AdoptFault;
+use crate::fault::{Adopt, AdoptFault};
 use crate::formats::Format;
 use crate::reading::{NUMBERS, ReadFault, floor_in_rows, number};
 use crate::tables::format_in;
@@ -187,10 +187,7 @@ fn some_entry<S: Alter>(conn: &mut Connection<S>, format: Format) -> Result<bool
 fn has_rows(rows: &[Row]) -> bool
     ensures { result ≡ has_rows rows.now }
 {
-    match rows {
-        [] => false,
-        _ => true,
-    }
+    !rows.is_empty()
 }
 
 /// What a store holds, as far as taking it looks at that.
@@ -203,10 +200,7 @@ pub(crate) struct Read {
 }
 
 /// Reads a store that has the tables of a format.
-pub(crate) fn read_store<S: Alter>(
-    conn: &mut Connection<S>,
-    format: Format,
-) -> Result<Read, AdoptFault>
+pub(crate) fn read_store<S: Alter>(conn: &mut Connection<S>, format: Format) -> Adopt<Read>
     ensures rows { HasCleanDisk (state S.Store conn.new) → Began format (state S.Store conn.old) →
         IfOk result (λ r. IsAlike (seen meta_columns ((state S.Store conn.old).now.trees 0) 1) (rows_in r.meta)) }
     ensures floors { HasCleanDisk (state S.Store conn.new) → Began format (state S.Store conn.old) →
@@ -235,13 +229,22 @@ pub(crate) fn read_store<S: Alter>(
     })
 }
 
+/// Why a store isn't taken in which a row isn't read.
+fn bad_row(fault: ReadFault) -> AdoptFault
+    ensures memory { fault ≡ ReadFault.Memory → result ≡ AdoptFault.Memory }
+    ensures bad { fault ≡ ReadFault.Bad → result ≡ AdoptFault.BadStore }
+{
+    match fault {
+        ReadFault::Memory => AdoptFault::Memory,
+        ReadFault::Bad => AdoptFault::BadStore,
+    }
+}
+
 /// Whether this owner of a row is the node that opens.
 fn is_owner(owner: Identity, identity: Identity) -> bool
     ensures { result ≡ is_owner identity owner.cluster owner.members owner.node }
 {
-    owner.cluster == identity.cluster
-        && owner.members == identity.members
-        && owner.node == identity.node
+    owner == identity
 }
 
 /// Judges a store that has a row for the whole node: 73, 72, 71, in this order.
@@ -256,54 +259,12 @@ fn judge_row(row: &Row, floor: &[Row], format: u64, identity: Identity) -> Resul
     if !has_format(row, format)? {
         return Err(AdoptFault::StoreVersion);
     }
-    let found = match found_in_row(row) {
-        Ok(found) => found,
-        Err(ReadFault::Memory) => return Err(AdoptFault::Memory),
-        Err(ReadFault::Bad) => return Err(AdoptFault::BadStore),
-    };
-    match floor_in_rows(floor, found.owner.members) {
-        Ok(_) => {}
-        Err(ReadFault::Memory) => return Err(AdoptFault::Memory),
-        Err(ReadFault::Bad) => return Err(AdoptFault::BadStore),
-    }
+    let found = found_in_row(row).map_err(bad_row)?;
+    let _floor = floor_in_rows(floor, found.owner.members).map_err(bad_row)?;
     if !is_owner(found.owner, identity) {
         return Err(AdoptFault::WrongNode);
     }
     Ok(found)
-}
-
-/// Judges a store: 73, 72, 71, in this order.
-fn judge_rows(
-    meta: &[Row],
-    floor: &[Row],
-    has_more: bool,
-    format: u64,
-    identity: Identity,
-) -> Result<Found, AdoptFault>
-    ensures adopted { OnOk result (refusal_of format identity meta.now floor.now has_more ≡ None) }
-    ensures refused { IfErr result (λ e. IsVerdict e →
-        refusal_of format identity meta.now floor.now has_more ≡ Some e) }
-    ensures few { IfOk result (λ f. length meta.now < 2) }
-    ensures round { IfOk result (λ f. number_at 5 meta.now ≡ f.round) }
-    ensures number { IfOk result (λ f. number_at 6 meta.now ≡ f.number) }
-    ensures low { IfOk result (λ f. f.round < NUMBERS) }
-    ensures most { IfOk result (λ f. f.number ≤ NUMBERS) }
-{
-    match meta {
-        [] => {
-            if has_rows(floor) || has_more {
-                return Err(AdoptFault::BadStore);
-            }
-            Ok(Found {
-                has_row: false,
-                owner: identity,
-                round: 0,
-                number: 0,
-            })
-        }
-        [row] => judge_row(row, floor, format, identity),
-        _ => Err(AdoptFault::BadStore),
-    }
 }
 
 /// Whose a store is, by its rows for the whole node: 73, 72, in this order.
@@ -319,11 +280,7 @@ pub(crate) fn owner_in_rows(rows: &[Row], format: u64) -> Result<Identity, Adopt
     if !has_format(row, format)? {
         return Err(AdoptFault::StoreVersion);
     }
-    match found_in_row(row) {
-        Ok(found) => Ok(found.owner),
-        Err(ReadFault::Memory) => Err(AdoptFault::Memory),
-        Err(ReadFault::Bad) => Err(AdoptFault::BadStore),
-    }
+    Ok(found_in_row(row).map_err(bad_row)?.owner)
 }
 
 /// The rows that were read, if that table was asked.
@@ -349,12 +306,20 @@ pub(crate) fn judge(read: &Read, format: u64, identity: Identity) -> Result<Foun
     ensures low { IfOk result (λ f. f.round < NUMBERS) }
     ensures most { IfOk result (λ f. f.number ≤ NUMBERS) }
 {
-    let has_more = read.has_slot || read.has_entry;
-    judge_rows(
-        rows_in(&read.meta),
-        rows_in(&read.floor),
-        has_more,
-        format,
-        identity,
-    )
+    let floor = rows_in(&read.floor);
+    match rows_in(&read.meta) {
+        [] => {
+            if has_rows(floor) || read.has_slot || read.has_entry {
+                return Err(AdoptFault::BadStore);
+            }
+            Ok(Found {
+                has_row: false,
+                owner: identity,
+                round: 0,
+                number: 0,
+            })
+        }
+        [row] => judge_row(row, floor, format, identity),
+        _ => Err(AdoptFault::BadStore),
+    }
 }

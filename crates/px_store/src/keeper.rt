@@ -11,6 +11,7 @@ use sqlite::{Alter, Connection};
 use std::alloc::Global;
 
 /// The record in a database.
+#[derive(Drop)]
 pub struct SqlRecords<S: Alter> {
     pub(crate) conn: Connection<S>,
     pub(crate) identity: Identity,
@@ -35,27 +36,6 @@ impl<S: Alter> SqlRecords<S> {
     pub fn release(self) -> Connection<S>
         ensures { result ≡ connection_of self }
     {
-        let SqlRecords {
-            conn,
-            identity: _,
-            meta: _,
-            failures: _,
-            ahead: _,
-            alloc: _,
-        } = self;
-        conn
-    }
-}
-
-impl<S: Alter + Drop> Drop for SqlRecords<S> {
-    fn drop(self) {
-        let SqlRecords {
-            conn: _,
-            identity: _,
-            meta: _,
-            failures: _,
-            ahead: _,
-            alloc: _,
-        } = self;
+        self.conn
     }
 }

@@ -1,5 +1,5 @@
 //! Reads by a position, and what is last.
-ghost use Rattle.std.specs.Prelude.{◌≡◌, ◌<◌, ◌≤◌, ◌↔◌, true, Some, Err, OnOk, IfOk};
+ghost use Rattle.std.specs.Prelude.{◌≡◌, ◌≢◌, ◌<◌, ◌≤◌, ◌↔◌, true, Some, Ok, Err, OnOk, IfOk};
 ghost use Rattle.sqlite.specs.Held.{state};
 ghost use Rattle.px_model.specs.Step.{positions};
 ghost use Rattle.px_records.specs.Records.Place.{SlotAt, EntryAt, LastSlot, LastEntry};
@@ -13,12 +13,25 @@ ghost use Rattle.px_store.specs.View.{view_of};
 use crate::ahead::Ahead;
 use crate::calls::{Question, Trouble, get};
 use crate::keeper::SqlRecords;
-use crate::reading::{ReadFault, SlotRow, end_in_rows, entry_in_rows, slot_in_rows};
+use crate::reading::{Read, ReadFault, SlotRow, end_in_rows, entry_in_rows, slot_in_rows};
 use px_records::StoreFault;
 use sqlite::{Alter, Row};
 
 /// How many positions one statement reads ahead.
 const SPAN: u32 = 64;
+
+/// What is read of a row, as a call of the record answers it.
+fn stored<T>(read: Read<T>) -> Result<T, StoreFault>
+    ensures ok { IfOk result (λ value. read ≡ Ok value) }
+    ensures bad { result ≡ Err StoreFault.BadStore → read ≡ Err ReadFault.Bad }
+    ensures works { result ≢ Err StoreFault.Failed }
+{
+    match read {
+        Ok(value) => Ok(value),
+        Err(ReadFault::Memory) => Err(StoreFault::Memory),
+        Err(ReadFault::Bad) => Err(StoreFault::BadStore),
+    }
+}
 
 impl<S: Alter> SqlRecords<S> {
     /// The rows that answer a question.
@@ -60,16 +73,9 @@ impl<S: Alter> SqlRecords<S> {
         ensures later { 0 < self.old.failures → self.new ≡ self.old }
         ensures same_identity { self.new.identity ≡ self.old.identity }
     {
-        match self.look(Question::Slot { position }) {
-            Ok(rows) => {
-                match slot_in_rows(rows.as_slice(), self.identity.members, position, self.alloc) {
-                    Ok(slot) => Ok(slot),
-                    Err(ReadFault::Memory) => Err(StoreFault::Memory),
-                    Err(ReadFault::Bad) => Err(StoreFault::BadStore),
-                }
-            }
-            Err(fault) => Err(fault),
-        }
+        let rows = self.look(Question::Slot { position })?;
+        let slot = slot_in_rows(rows.as_slice(), self.identity.members, position, self.alloc);
+        stored(slot)
     }
 
     /// Where this position comes next and the rows that were read ahead are passed, reads those of the positions from
@@ -141,14 +147,8 @@ impl<S: Alter> SqlRecords<S> {
         ensures later { 0 < self.old.failures → self.new ≡ self.old }
         ensures same_identity { self.new.identity ≡ self.old.identity }
     {
-        match self.look(Question::Top) {
-            Ok(rows) => match end_in_rows(rows.as_slice()) {
-                Ok(end) => Ok(end),
-                Err(ReadFault::Memory) => Err(StoreFault::Memory),
-                Err(ReadFault::Bad) => Err(StoreFault::BadStore),
-            },
-            Err(fault) => Err(fault),
-        }
+        let rows = self.look(Question::Top)?;
+        stored(end_in_rows(rows.as_slice()))
     }
 
     #[tactic(auto, using(crate::proofs::Ends::ends_at))]
@@ -163,13 +163,7 @@ impl<S: Alter> SqlRecords<S> {
         ensures later { 0 < self.old.failures → self.new ≡ self.old }
         ensures same_identity { self.new.identity ≡ self.old.identity }
     {
-        match self.look(Question::End) {
-            Ok(rows) => match end_in_rows(rows.as_slice()) {
-                Ok(end) => Ok(end),
-                Err(ReadFault::Memory) => Err(StoreFault::Memory),
-                Err(ReadFault::Bad) => Err(StoreFault::BadStore),
-            },
-            Err(fault) => Err(fault),
-        }
+        let rows = self.look(Question::End)?;
+        stored(end_in_rows(rows.as_slice()))
     }
 }

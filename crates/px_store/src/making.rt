@@ -81,16 +81,14 @@ fn run_row<S: Alter>(
         (state S.Store tx.old.conn.now) (state S.Store tx.new.conn.now) result }
     ensures survives { Survives (state S.Store tx.old.conn.now) (state S.Store tx.new.conn.now) (λ _. ⊥) }
 {
-    let round = signed(round);
-    let number = signed(number);
     tx.execute(
         "INSERT OR REPLACE INTO meta VALUES (1, 3, ?1, ?2, ?3, ?4, ?5)",
         params![
             identity.cluster,
             u32::from(identity.members),
             u32::from(identity.node),
-            round,
-            number
+            signed(round),
+            signed(number)
         ],
     )
 }

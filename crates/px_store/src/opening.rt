@@ -13,7 +13,7 @@ ghost use Rattle.px_store.specs.inner.Ready.{IsReady, AreBounded};
 ghost use Rattle.px_store.specs.declared.reading.TheConstants.{NUMBERS};
 
 use crate::calls::{Identity, Question};
-use crate::fault::AdoptFault;
+use crate::fault::{Adopt, AdoptFault};
 use crate::finding::{look, rows_in};
 use crate::formats::Format;
 use crate::reading::{Numbers, ReadFault, floor_in_rows, meta_in_rows};
@@ -62,10 +62,7 @@ fn ballot_of<S: Alter>(conn: &mut Connection<S>, members: u8) -> Result<u64, Ado
 }
 
 /// Reads the rows for the whole node, of a store with the four tables.
-pub(crate) fn read_again<S: Alter>(
-    conn: &mut Connection<S>,
-    identity: Identity,
-) -> Result<Meta, AdoptFault>
+pub(crate) fn read_again<S: Alter>(conn: &mut Connection<S>, identity: Identity) -> Adopt<Meta>
     requires tables { HasCleanDisk (state S.Store conn.old) → (state S.Store conn.old).now.schema ≡ schema_3 }
     ensures why { OnErr result ((result ≡ Err AdoptFault.Memory) ⊎ (result ≡ Err AdoptFault.Failed)) }
     ensures ready { IfOk result (λ m. IsReady 0 identity m (state S.Store conn.new)) }

@@ -1,7 +1,7 @@
 //! The decoding of an answer's rows.
 
 ghost use Rattle.std.specs.Prelude.{◌≡◌, ◌≢◌, ℕ, true, false, [], ◌∷◌, Err, IfOk, OnOk, OnErr};
-ghost use Rattle.std.specs.Prelude.{◌<◌, ◌≤◌, ◌^◌};
+ghost use Rattle.std.specs.Prelude.{◌<◌, ◌≤◌, ◌^◌, MatchResult};
 ghost use Rattle.sqlite_value.specs.Order.{column};
 ghost use Rattle.px_model.specs.Bounds.{AnyCommand};
 ghost use Rattle.px_model.specs.Step.{positions};
@@ -46,6 +46,16 @@ pub(crate) struct SlotRow {
     pub(crate) entry: Vec<u8>,
 }
 
+/// What is read of a row.
+pub(crate) type Read<T> = Result<T, ReadFault>;
+
+/// A bad row, unless this holds.
+fn require(holds: bool) -> Read<()>
+    ensures { MatchResult result (λ _. holds ≡ true) (λ fault. (holds ≡ false) × (fault ≡ ReadFault.Bad)) }
+{
+    holds.then_some(()).ok_or(ReadFault::Bad)
+}
+
 fn fault_of(error: &Error) -> ReadFault
     ensures { result ≡ ReadFault.Bad → error.now ≢ Error.SqliteFailure ErrorCode.OutOfMemory }
 {
@@ -55,26 +65,20 @@ fn fault_of(error: &Error) -> ReadFault
     }
 }
 
-pub(crate) fn number(row: &Row, at: usize) -> Result<u64, ReadFault>
+pub(crate) fn number(row: &Row, at: usize) -> Read<u64>
     ensures ok { IfOk result (λ n. is_number (column row.now at) ≡ true) }
     ensures value { IfOk result (λ n. number_in (column row.now at) ≡ n) }
     ensures bad { result ≡ Err ReadFault.Bad → is_number (column row.now at) ≡ false }
 {
-    match row.get::<u64>(at) {
-        Ok(n) => Ok(n),
-        Err(error) => Err(fault_of(&error)),
-    }
+    row.get::<u64>(at).map_err(|error| fault_of(&error))
 }
 
-fn bytes(row: &Row, at: usize) -> Result<Vec<u8>, ReadFault>
+fn bytes(row: &Row, at: usize) -> Read<Vec<u8>>
     ensures ok { IfOk result (λ b. is_blob (column row.now at) ≡ true) }
     ensures value { IfOk result (λ b. bytes_in (column row.now at) ≡ b.items) }
     ensures bad { result ≡ Err ReadFault.Bad → is_blob (column row.now at) ≡ false }
 {
-    match row.get::<Vec<u8>>(at) {
-        Ok(b) => Ok(b),
-        Err(error) => Err(fault_of(&error)),
-    }
+    row.get::<Vec<u8>>(at).map_err(|error| fault_of(&error))
 }
 
 /// Whether the bytes spell an entry of a member, by their first ten bytes.
@@ -82,10 +86,8 @@ fn bytes(row: &Row, at: usize) -> Result<Vec<u8>, ReadFault>
 pub(crate) fn is_entry_by(bytes: &[u8], members: u8) -> bool
     ensures { result ≡ is_entry members bytes.now }
 {
-    match EntryView::read(bytes) {
-        Some(view) => view.origin() < members && view.number() < NUMBERS,
-        None => false,
-    }
+    let view = EntryView::read(bytes);
+    view.is_some_and(|view| view.origin() < members && view.number() < NUMBERS)
 }
 
 /// Whether the ballot has a round from 1 on, and a member.
@@ -119,22 +121,17 @@ fn is_slot_by(promised: u64, ballot: u64, entry: &[u8], members: u8) -> bool
 }
 
 #[tactic(auto, using(crate::proofs::Above::slot_one))]
-fn slot_in_row(row: &Row, members: u8, position: u32) -> Result<SlotRow, ReadFault>
+fn slot_in_row(row: &Row, members: u8, position: u32) -> Read<SlotRow>
     ensures good { IfOk result (λ s. is_slot_row members position row.now ≡ true) }
     ensures value { IfOk result (λ s. slot_with s.promised s.ballot s.entry.items ≡ slot_in (row.now ∷ [])) }
     ensures fits { IfOk result (λ s. is_slot members s.promised s.ballot s.entry.items ≡ true) }
     ensures bad { result ≡ Err ReadFault.Bad → is_slot_row members position row.now ≡ false }
 {
-    let key = number(row, 0)?;
-    if key != u64::from(position) {
-        return Err(ReadFault::Bad);
-    }
+    require(number(row, 0)? == u64::from(position))?;
     let promised = number(row, 1)?;
     let ballot = number(row, 2)?;
     let entry = bytes(row, 3)?;
-    if !is_slot_by(promised, ballot, entry.as_slice(), members) {
-        return Err(ReadFault::Bad);
-    }
+    require(is_slot_by(promised, ballot, entry.as_slice(), members))?;
     Ok(SlotRow {
         promised,
         ballot,
@@ -143,12 +140,7 @@ fn slot_in_row(row: &Row, members: u8, position: u32) -> Result<SlotRow, ReadFau
 }
 
 /// The slot of an answer: with no row it is empty, with one it is that row.
-pub(crate) fn slot_in_rows(
-    rows: &[Row],
-    members: u8,
-    position: u32,
-    alloc: Global,
-) -> Result<SlotRow, ReadFault>
+pub(crate) fn slot_in_rows(rows: &[Row], members: u8, position: u32, alloc: Global) -> Read<SlotRow>
     ensures good { IfOk result (λ s. are_slot_rows members position rows.now ≡ true) }
     ensures value { IfOk result (λ s. slot_with s.promised s.ballot s.entry.items ≡ slot_in rows.now) }
     ensures fits { IfOk result (λ s. is_slot members s.promised s.ballot s.entry.items ≡ true) }
@@ -165,29 +157,20 @@ pub(crate) fn slot_in_rows(
     }
 }
 
-fn entry_in_row(row: &Row, members: u8, position: u32) -> Result<Vec<u8>, ReadFault>
+fn entry_in_row(row: &Row, members: u8, position: u32) -> Read<Vec<u8>>
     ensures good { IfOk result (λ e. is_learned_row members position row.now ≡ true) }
     ensures value { IfOk result (λ e. bytes_in (column row.now 1) ≡ e.items) }
     ensures fits { IfOk result (λ e. is_entry members e.items ≡ true) }
     ensures bad { result ≡ Err ReadFault.Bad → is_learned_row members position row.now ≡ false }
 {
-    let key = number(row, 0)?;
-    if key != u64::from(position) {
-        return Err(ReadFault::Bad);
-    }
+    require(number(row, 0)? == u64::from(position))?;
     let entry = bytes(row, 1)?;
-    if !is_entry_by(entry.as_slice(), members) {
-        return Err(ReadFault::Bad);
-    }
+    require(is_entry_by(entry.as_slice(), members))?;
     Ok(entry)
 }
 
 /// The learned entry of an answer.
-pub(crate) fn entry_in_rows(
-    rows: &[Row],
-    members: u8,
-    position: u32,
-) -> Result<Option<Vec<u8>>, ReadFault>
+pub(crate) fn entry_in_rows(rows: &[Row], members: u8, position: u32) -> Read<Option<Vec<u8>>>
     ensures good { IfOk result (λ e. are_learned_rows members position rows.now ≡ true) }
     ensures value { IfOk result (λ e. read_in e ≡ learned_in rows.now) }
     ensures fits { IfOk result (λ e. is_entry_in members e ≡ true) }
@@ -201,7 +184,7 @@ pub(crate) fn entry_in_rows(
 }
 
 /// One more than the position of an answer, or 0 with no row.
-pub(crate) fn end_in_rows(rows: &[Row]) -> Result<u32, ReadFault>
+pub(crate) fn end_in_rows(rows: &[Row]) -> Read<u32>
     ensures value { IfOk result (λ t. IsEndOf rows.now t) }
     ensures bad { result ≡ Err ReadFault.Bad → (t : ℕ) → IsEndOf rows.now t → ⊥ }
     ensures within { IfOk result (λ t. t ≤ positions) }
@@ -210,9 +193,7 @@ pub(crate) fn end_in_rows(rows: &[Row]) -> Result<u32, ReadFault>
         [] => Ok(0),
         [row] => {
             let position = number(row, 0)?;
-            if position >= 1_000_000 {
-                return Err(ReadFault::Bad);
-            }
+            require(position < 1_000_000)?;
             Ok(position as u32 + 1)
         }
         _ => Err(ReadFault::Bad),
@@ -226,16 +207,13 @@ pub(crate) struct Numbers {
     pub(crate) number: u64,
 }
 
-fn expect_number(row: &Row, at: usize, wanted: u64) -> Result<(), ReadFault>
+fn expect_number(row: &Row, at: usize, wanted: u64) -> Read<()>
     ensures { OnOk result (HasNumber row.now at wanted) }
 {
-    if number(row, at)? != wanted {
-        return Err(ReadFault::Bad);
-    }
-    Ok(())
+    require(number(row, at)? == wanted)
 }
 
-fn meta_in_row(row: &Row, identity: Identity) -> Result<Numbers, ReadFault>
+fn meta_in_row(row: &Row, identity: Identity) -> Read<Numbers>
     ensures value { IfOk result (λ m. IsMetaIn identity.cluster identity.members identity.node m.round m.number
         (row.now ∷ [])) }
     ensures round { IfOk result (λ m. m.round < NUMBERS) }
@@ -248,9 +226,7 @@ fn meta_in_row(row: &Row, identity: Identity) -> Result<Numbers, ReadFault>
     expect_number(row, 4, u64::from(identity.node))?;
     let round = number(row, 5)?;
     let counted = number(row, 6)?;
-    if round >= NUMBERS || counted > NUMBERS {
-        return Err(ReadFault::Bad);
-    }
+    require(round < NUMBERS && counted <= NUMBERS)?;
     Ok(Numbers {
         round,
         number: counted,
@@ -258,7 +234,7 @@ fn meta_in_row(row: &Row, identity: Identity) -> Result<Numbers, ReadFault>
 }
 
 /// The numbers of the row for the whole node, which must be one of format 3 and of this node.
-pub(crate) fn meta_in_rows(rows: &[Row], identity: Identity) -> Result<Numbers, ReadFault>
+pub(crate) fn meta_in_rows(rows: &[Row], identity: Identity) -> Read<Numbers>
     ensures value { IfOk result (λ m. IsMetaIn identity.cluster identity.members identity.node m.round m.number
         rows.now) }
     ensures round { IfOk result (λ m. m.round < NUMBERS) }
@@ -271,7 +247,7 @@ pub(crate) fn meta_in_rows(rows: &[Row], identity: Identity) -> Result<Numbers, 
 }
 
 /// The floor of an answer: with no row it is 0.
-pub(crate) fn floor_in_rows(rows: &[Row], members: u8) -> Result<u64, ReadFault>
+pub(crate) fn floor_in_rows(rows: &[Row], members: u8) -> Read<u64>
     ensures value { IfOk result (λ b. IsFloorIn b rows.now) }
     ensures fits { IfOk result (λ b. is_none_or_ballot members b ≡ true) }
     ensures good { OnOk result (are_floor_rows members rows.now ≡ true) }
@@ -280,13 +256,9 @@ pub(crate) fn floor_in_rows(rows: &[Row], members: u8) -> Result<u64, ReadFault>
     match rows {
         [] => Ok(0),
         [row] => {
-            if number(row, 0)? != 1 {
-                return Err(ReadFault::Bad);
-            }
+            require(number(row, 0)? == 1)?;
             let ballot = number(row, 1)?;
-            if !is_ballot_by(ballot, members) {
-                return Err(ReadFault::Bad);
-            }
+            require(is_ballot_by(ballot, members))?;
             Ok(ballot)
         }
         _ => Err(ReadFault::Bad),
@@ -301,13 +273,8 @@ pub(crate) fn entry_from(alloc: Global, bytes: &[u8], members: u8) -> Result<Ent
     ensures fits { IfOk result (λ e. EntryFits AnyCommand members (entry_value e)) }
     ensures why { OnErr result (result ≡ Err StoreFault.Memory) }
 {
-    let Some(view) = EntryView::read(bytes) else {
-        return Err(StoreFault::Memory);
-    };
-    match Entry::from_view(alloc, &view) {
-        Ok(entry) => Ok(entry),
-        Err(_) => Err(StoreFault::Memory),
-    }
+    let view = EntryView::read(bytes).ok_or(StoreFault::Memory)?;
+    Entry::from_view(alloc, &view).map_err(|_| StoreFault::Memory)
 }
 
 /// The slot that a good row shows.

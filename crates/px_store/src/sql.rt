@@ -67,8 +67,8 @@ impl<S: Alter> Records for SqlRecords<S> {
         let Some(bytes) = self.entry_at(position)? else {
             return Ok(None);
         };
-        let entry = entry_from(self.alloc, bytes.as_slice(), self.identity.members)?;
-        Ok(Some(entry))
+        let members = self.identity.members;
+        Ok(Some(entry_from(self.alloc, bytes.as_slice(), members)?))
     }
 
     fn read_learned_end(&mut self) -> Result<u32, StoreFault> {

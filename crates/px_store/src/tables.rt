@@ -17,12 +17,6 @@ use sqlite_sql::ops::{BinaryOp, CompareOp};
 use sqlite_value::keys::Collation;
 use sqlite_value::value::Value;
 
-fn is_null(value: &Value) -> bool
-    ensures { IsTrue result ↔ (value.now ≡ Null) }
-{
-    matches!(value, Value::Null)
-}
-
 /// Whether a column has this name, kind and no other rule than whether it is without NULL.
 fn is_column(column: &Column, name: &[u8], kind: Kind, not_null: bool) -> bool
     ensures { IsTrue result ↔ (column.now ≡ column_of name.now kind not_null) }
@@ -31,7 +25,7 @@ fn is_column(column: &Column, name: &[u8], kind: Kind, not_null: bool) -> bool
         && column.kind == kind
         && column.is_strict
         && column.not_null == not_null
-        && is_null(&column.default)
+        && matches!(column.default, Value::Null)
         && column.collation == Collation::Binary
 }
 
@@ -72,20 +66,14 @@ fn node_at(nodes: &[Op], depth: usize, at: usize) -> Option<&Op>
 fn is_key(nodes: &[Op], depth: usize, at: usize) -> bool
     ensures { IsTrue result ↔ (term_to nodes.now depth at ≡ col 1 0) }
 {
-    match node_at(nodes, depth, at) {
-        Some(Op::Column(slot, column)) => *slot == 1 && *column == 0,
-        _ => false,
-    }
+    matches!(node_at(nodes, depth, at), Some(Op::Column(1, 0)))
 }
 
 /// Whether the term is 1.
 fn is_one(nodes: &[Op], depth: usize, at: usize) -> bool
     ensures { IsTrue result ↔ (term_to nodes.now depth at ≡ lit (Int (pos 1))) }
 {
-    match node_at(nodes, depth, at) {
-        Some(Op::Literal(Value::Int(n))) => *n == 1,
-        _ => false,
-    }
+    matches!(node_at(nodes, depth, at), Some(Op::Literal(Value::Int(1))))
 }
 
 /// Whether the term is that the key equals 1.
@@ -122,10 +110,7 @@ fn is_only_row(checks: &Terms) -> bool
 fn is_key_alone(places: &[usize]) -> bool
     ensures { IsTrue result ↔ (places.now ≡ 0 ∷ []) }
 {
-    match places {
-        [place] => *place == 0,
-        _ => false,
-    }
+    matches!(places, [0])
 }
 
 /// Whether no column is computed, or has a default that reads the time.
@@ -173,24 +158,13 @@ fn is_meta(table: &Table) -> bool
 }
 
 /// The columns behind the first, if that is one of this name and kind.
-fn behind<'a>(
-    columns: &'a [Column],
-    name: &[u8],
-    kind: Kind,
-    not_null: bool,
-) -> Option<&'a [Column]>
-    ensures some { IfSome result (λ rest. columns.now ≡ column_of name.now kind not_null ∷ rest.now) }
-    ensures none { result ≡ None → (rest : List Column) → columns.now ≡ column_of name.now kind not_null ∷ rest → ⊥ }
+fn behind<'a>(found: &'a [Column], name: &[u8], kind: Kind, not_null: bool) -> Option<&'a [Column]>
+    ensures some { IfSome result (λ rest. found.now ≡ column_of name.now kind not_null ∷ rest.now) }
+    ensures none { result ≡ None → (rest : List Column) → found.now ≡ column_of name.now kind not_null ∷ rest → ⊥ }
 {
-    match columns {
-        [first, rest @ ..] => {
-            if is_column(first, name, kind, not_null) {
-                Some(rest)
-            } else {
-                None
-            }
-        }
-        [] => None,
+    match found {
+        [first, rest @ ..] if is_column(first, name, kind, not_null) => Some(rest),
+        _ => None,
     }
 }
 
@@ -251,23 +225,14 @@ fn format_of(found: &[Table]) -> Option<Format>
     ensures all { (f : Format) → found.now ≡ (schema_at f).tables → result ≡ Some f }
 {
     match found {
-        [meta, slots] => {
-            if is_meta(meta) && is_slots(slots) {
-                return Some(Format::One);
-            }
-            None
-        }
+        [meta, slots] => (is_meta(meta) && is_slots(slots)).then_some(Format::One),
         [meta, slots, floor] => {
-            if is_meta(meta) && is_slots(slots) && is_floor(floor) {
-                return Some(Format::Two);
-            }
-            None
+            (is_meta(meta) && is_slots(slots) && is_floor(floor)).then_some(Format::Two)
         }
         [meta, slots, floor, learned] => {
-            if is_meta(meta) && is_slots(slots) && is_floor(floor) && is_learned(learned) {
-                return Some(Format::Three);
-            }
-            None
+            (is_meta(meta) && is_slots(slots) && is_floor(floor) && is_learned(learned)).then_some(
+                Format::Three,
+            )
         }
         _ => None,
     }

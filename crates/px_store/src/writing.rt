@@ -95,9 +95,8 @@ impl<S: Alter> SqlRecords<S> {
         ensures same_identity { self.new.identity ≡ self.old.identity }
     {
         let meta = Meta {
-            round: self.meta.round,
-            number: self.meta.number,
             floor: ballot,
+            ..self.meta
         };
         self.keep(NewRow::Floor { ballot }, &[], meta)
     }
@@ -166,15 +165,8 @@ impl<S: Alter> SqlRecords<S> {
         match self.good_slot(position) {
             Ok(slot) => {
                 let entry = slot.entry.as_slice();
-                self.keep(
-                    NewRow::Slot {
-                        position,
-                        promised: ballot,
-                        ballot: slot.ballot,
-                    },
-                    entry,
-                    self.meta,
-                )
+                let row = NewRow::Slot(position, ballot, slot.ballot);
+                self.keep(row, entry, self.meta)
             }
             Err(fault) => Err(fault),
         }
@@ -201,15 +193,7 @@ impl<S: Alter> SqlRecords<S> {
         ensures same_identity { self.new.identity ≡ self.old.identity }
     {
         match self.good_slot(position) {
-            Ok(_slot) => self.keep(
-                NewRow::Slot {
-                    position,
-                    promised: ballot,
-                    ballot,
-                },
-                entry,
-                self.meta,
-            ),
+            Ok(_slot) => self.keep(NewRow::Slot(position, ballot, ballot), entry, self.meta),
             Err(fault) => Err(fault),
         }
     }

@@ -46,14 +46,7 @@ impl<W: Wire> FaultyWire<W> {
     pub fn into_inner(self) -> W
         ensures { result ≡ inner_of self }
     {
-        let FaultyWire {
-            inner,
-            period: _,
-            recvs_left: _,
-            sends_left: _,
-            missed: _,
-        } = self;
-        inner
+        self.inner
     }
 
     /// Counts a receive: whether it is one that fails.

@@ -17,22 +17,12 @@ const MOST_KEPT: usize = 64;
 /// A wire that keeps what a member sends to itself, and gives that back before it asks the wire below. Where 64 are
 /// kept or it is out of memory, a datagram goes to the wire below as any other. In place of one that is longer than the
 /// slice an empty one is given, which is no member's.
+#[derive(Drop)]
 pub struct LoopbackWire<W> {
     below: W,
     me: u8,
     kept: VecDeque<Vec<u8>>,
     alloc: Global,
-}
-
-impl<W: Drop> Drop for LoopbackWire<W> {
-    fn drop(self) {
-        let LoopbackWire {
-            below: _,
-            me: _,
-            kept: _,
-            alloc: _,
-        } = self;
-    }
 }
 
 impl<W: Wire> LoopbackWire<W> {
@@ -55,13 +45,7 @@ impl<W: Wire> LoopbackWire<W> {
     pub fn into_inner(self) -> W
         ensures { result ≡ below_of self }
     {
-        let LoopbackWire {
-            below,
-            me: _,
-            kept: _,
-            alloc: _,
-        } = self;
-        below
+        self.below
     }
 
     /// The wire below, to be looked at.
@@ -158,11 +142,10 @@ impl<W: Wire> Wire for LoopbackWire<W> {
         ensures own { kept_of self.now ≢ [] → result ≡ 0 }
         ensures within { result ≤ milliseconds }
     {
-        if self.kept.is_empty() {
-            self.below.due(milliseconds)
-        } else {
-            0
+        if !self.kept.is_empty() {
+            return 0;
         }
+        self.below.due(milliseconds)
     }
 
     fn send(&mut self, to: u8, bytes: &[u8]) -> bool

@@ -21,7 +21,6 @@ pub struct MemoryWire {
     /// Whether `sent` is all that was handed over.
     is_whole: bool,
     failures: u64,
-    alloc: Global,
 }
 
 impl MemoryWire {
@@ -38,7 +37,6 @@ impl MemoryWire {
             sent: Vec::new(alloc),
             is_whole: true,
             failures: 0,
-            alloc,
         }
     }
 
@@ -46,11 +44,7 @@ impl MemoryWire {
     pub fn sent(&self) -> Option<&[(u8, Vec<u8>)]>
         ensures { option_map (λ s. map (λ d. (d.0, d.1.items)) s.now) result ≡ handed_of self.now }
     {
-        if self.is_whole {
-            Some(self.sent.as_slice())
-        } else {
-            None
-        }
+        self.is_whole.then_some(self.sent.as_slice())
     }
 
     fn keep(&mut self, to: u8, bytes: &[u8]) -> Result<(), AllocError>
@@ -59,7 +53,7 @@ impl MemoryWire {
         ensures given { given_of self.new ≡ given_of self.old }
         ensures failures { self.new.failures ≡ self.old.failures }
     {
-        let copy = Vec::from_slice(self.alloc, bytes)?;
+        let copy = Vec::from_slice(*self.sent.allocator(), bytes)?;
         self.sent.push((to, copy))?;
         Ok(())
     }

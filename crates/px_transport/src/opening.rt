@@ -9,23 +9,11 @@ ghost use Rattle.px_transport.specs.Wiring.{opened, given_of, heard_with, Comes,
 ghost use Rattle.px_transport.specs.Senders.{sealer_of};
 
 use crate::coming::Coming;
+use crate::cutting::put_whole;
 use crate::packet_outcome::PacketOutcome;
 use crate::receiver::Receiver;
 use crate::sender::Sender;
 use px_packet::{Arrival, Header};
-
-/// Copies the bytes to the room that there is, where they fit, or else none: how many these are.
-fn put(bytes: &[u8], into: &mut [u8]) -> usize
-    ensures fits { result ≤ length into.new }
-    ensures written { take result into.new ≡ within (length into.old) bytes.now }
-{
-    let n = bytes.len();
-    if n > into.len() {
-        return 0;
-    }
-    into[..n].copy_from_slice(bytes);
-    n
-}
 
 /// What comes of a packet that was opened.
 fn take_opened(
@@ -42,8 +30,8 @@ fn take_opened(
         result into.new }
 {
     match receiver.take(header, body, now) {
-        PacketOutcome::Whole(datagram) => Coming::Given(put(datagram, into)),
-        PacketOutcome::Joined(datagram) => Coming::Given(put(datagram.as_slice(), into)),
+        PacketOutcome::Whole(datagram) => Coming::Given(put_whole(datagram, into)),
+        PacketOutcome::Joined(datagram) => Coming::Given(put_whole(datagram.as_slice(), into)),
         PacketOutcome::Held(held) => Coming::Held(header.from, held),
         PacketOutcome::Nothing => Coming::Given(0),
         PacketOutcome::Dropped(arrival) => match arrival {
@@ -67,10 +55,8 @@ pub(crate) fn take_packet(
         Hears mine (heard_with mine m hs p now) receiver.new ×
         Comes p (given_of mine m hs p now) (length into.old) result into.new) }
 {
-    match sender
-        .keys
-        .open(packet, sender.cluster, sender.members, sender.me)
-    {
+    let keys = &sender.keys;
+    match keys.open(packet, sender.cluster, sender.members, sender.me) {
         Ok((header, body)) => take_opened(receiver, &header, body, now, into),
         Err(_) => Coming::Dropped,
     }

@@ -123,10 +123,9 @@ impl Outgoing {
             return 0;
         };
         if start == self.echoed {
-            stated.saturating_add(STATE_EACH)
-        } else {
-            stated.saturating_add(STATE_SOONEST)
+            return stated.saturating_add(STATE_EACH);
         }
+        stated.saturating_add(STATE_SOONEST)
     }
 
     /// A packet of kind state is sent at this time, to a receiver with this start.

@@ -26,6 +26,7 @@ const REPORTS_MAX: u8 = 8;
 ///
 /// Beside what it is handed it sends packets of kind state, each second and to a member that showed a new start; which
 /// pieces of a datagram have come; and pieces again that a member lacks.
+#[derive(Drop)]
 pub struct PacketWire<W, C> {
     inner: W,
     clock: C,
@@ -41,34 +42,9 @@ pub struct PacketWire<W, C> {
     ghost room: { length incoming.items ≡ ROOM_BYTES },
 }
 
-impl<W: Drop, C: Drop> Drop for PacketWire<W, C> {
-    fn drop(self) {
-        let PacketWire {
-            inner: _,
-            clock: _,
-            began: _,
-            sender: _,
-            receiver: _,
-            incoming: _,
-            failures: _,
-            dropped: _,
-            copies: _,
-        } = self;
-    }
-}
-
 /// The clock's reading.
 fn reading<C: Clock>(clock: &C) -> Option<Instant> {
     Instant::now(clock).ok()
-}
-
-/// Room for what comes.
-fn room(alloc: Global) -> Result<Vec<u8>, AllocError>
-    ensures { IfOk result (λ v. length v.items ≡ ROOM_BYTES) }
-{
-    let mut room = Vec::with_capacity(alloc, ROOM_BYTES)?;
-    room.resize(ROOM_BYTES, 0)?;
-    Ok(room)
 }
 
 /// How many of the given number of milliseconds are left before something is due.
@@ -76,8 +52,7 @@ fn time_left(due: u64, now: u64, milliseconds: u32) -> u32
     ensures left { result ≡ time_left due now milliseconds }
     ensures within { result ≤ milliseconds }
 {
-    let left = due.saturating_sub(now).min(u64::from(milliseconds));
-    left as u32
+    due.saturating_sub(now).min(u64::from(milliseconds)) as u32
 }
 
 /// How many sends failed with this one.
@@ -85,10 +60,7 @@ fn count_sent(failures: u64, sent: bool) -> u64
     ensures counts { Counts sent failures result }
     ensures rises { failures ≤ result }
 {
-    if sent {
-        return failures;
-    }
-    failures.saturating_add(1)
+    failures.saturating_add(u64::from(!sent))
 }
 
 /// How many sends and receives failed with those of the wire below, between two counts of these.
@@ -143,17 +115,13 @@ impl<W: Wire + Drop, C: Clock + Drop> PacketWire<W, C> {
         ensures counts { IfOk result (λ w. (failures_of w ≡ 0) × (dropped_of w ≡ 0) × (copies_of w ≡ 0)) }
         ensures traffic { IfOk result (λ w. W.traffic inner [] → WentSealed (W.traffic (inner_of w)) w []) }
     {
-        let sender = Sender::new(alloc, keys, cluster, members, me, start)?;
-        let receiver = Receiver::new(alloc, members, start)?;
-        let incoming = room(alloc)?;
-        let began = reading(&clock);
         Ok(PacketWire {
             inner,
+            began: reading(&clock),
             clock,
-            began,
-            sender,
-            receiver,
-            incoming,
+            sender: Sender::new(alloc, keys, cluster, members, me, start)?,
+            receiver: Receiver::new(alloc, members, start)?,
+            incoming: vec![in alloc; 0; ROOM_BYTES]?,
             failures: 0,
             dropped: 0,
             copies: 0,

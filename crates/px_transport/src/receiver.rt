@@ -44,9 +44,8 @@ impl Entry {
     fn new(alloc: Global) -> Result<Entry, AllocError>
         ensures { IfOk result (λ e. IsHeard unheard e) }
     {
-        let peer = Peer::new(alloc, Start::NEVER)?;
         Ok(Entry {
-            peer,
+            peer: Peer::new(alloc, Start::NEVER)?,
             reassembly: Reassembly::new(alloc),
         })
     }
@@ -129,7 +128,6 @@ fn earlier(a: Option<u64>, b: Option<u64>) -> Option<u64>
 /// datagrams.
 #[derive(Drop)]
 pub struct Receiver {
-    alloc: Global,
     pub(crate) start: Start,
     /// One a member, by its number.
     pub(crate) entries: Vec<Entry>,
@@ -144,11 +142,7 @@ impl Receiver {
         for _ in 0..members {
             entries.push(Entry::new(alloc)?)?;
         }
-        Ok(Receiver {
-            alloc,
-            start,
-            entries,
-        })
+        Ok(Receiver { start, entries })
     }
 
     /// This member's own start.
@@ -183,8 +177,9 @@ impl Receiver {
         if from >= self.entries.len() {
             return PacketOutcome::Nothing;
         }
+        let alloc = *self.entries.allocator();
         let entry = &mut self.entries[from];
-        entry.take(self.alloc, self.start, header, body, now)
+        entry.take(alloc, self.start, header, body, now)
     }
 
     /// Which pieces of a datagram of a member have come, where that is to be reported at this time, as

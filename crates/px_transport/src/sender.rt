@@ -18,7 +18,6 @@ const WHOLE_MAX: usize = 1_179;
 /// What a member sends: packets that it seals for the other members, each with the next counter of its receiver.
 #[derive(Drop)]
 pub(crate) struct Sender {
-    alloc: Global,
     pub(crate) keys: PacketKeys,
     pub(crate) cluster: u32,
     pub(crate) members: u8,
@@ -60,17 +59,14 @@ impl Sender {
         ensures keys { IfOk result (λ s. s.keys ≡ keys) }
         ensures outgoing { IfOk result (λ s. outgoing_of s ≡ replicate members new_to) }
     {
-        let outgoing = none_sent(alloc, members)?;
-        let room = Vec::with_capacity(alloc, PACKET_MAX)?;
         Ok(Sender {
-            alloc,
             keys,
             cluster,
             members,
             me,
             start,
-            outgoing,
-            room,
+            outgoing: none_sent(alloc, members)?,
+            room: Vec::with_capacity(alloc, PACKET_MAX)?,
         })
     }
 
@@ -140,7 +136,7 @@ impl Sender {
         ensures rest { (sealer_of self.new ≡ sealer_of self.old) × (self.new.keys ≡ self.old.keys) }
         ensures same { W.identity inner.new ≡ W.identity inner.old }
     {
-        let mut body = Vec::new(self.alloc);
+        let mut body = Vec::new(*self.room.allocator());
         if write_piece(name, datagram, index, &mut body).is_err() {
             return false;
         }
@@ -154,8 +150,7 @@ impl Sender {
     {
         let place = usize::from(to);
         if place < self.outgoing.len() {
-            let outgoing = &mut self.outgoing[place];
-            outgoing.refill(now);
+            self.outgoing[place].refill(now);
         }
     }
 
@@ -252,7 +247,7 @@ impl Sender {
         if kept.len() > DATAGRAM_MAX {
             return false;
         }
-        let Ok(datagram) = Vec::from_slice(self.alloc, kept) else {
+        let Ok(datagram) = Vec::from_slice(*self.room.allocator(), kept) else {
             return false;
         };
         self.send_pieces(inner, to, echo, held, datagram.as_slice(), left)
@@ -297,7 +292,7 @@ impl Sender {
         ensures rest { (sealer_of self.new ≡ sealer_of self.old) × (self.new.keys ≡ self.old.keys) }
         ensures same { W.identity inner.new ≡ W.identity inner.old }
     {
-        let mut body = Vec::new(self.alloc);
+        let mut body = Vec::new(*self.room.allocator());
         if held.write(&mut body).is_err() {
             return false;
         }
@@ -309,7 +304,6 @@ impl Sender {
         requires { to < self.now.members }
         ensures { result ≡ next_state (to_member (outgoing_of self.now) to) start }
     {
-        let outgoing = &self.outgoing[usize::from(to)];
-        outgoing.due(start)
+        self.outgoing[usize::from(to)].due(start)
     }
 }

@@ -13,33 +13,35 @@ ghost use Rattle.px_wire.specs.Seen.{lent_of, accepted_of, message_of};
 use crate::kind::Kind;
 use crate::limits::{MAGIC, VERSION};
 use crate::membership::Membership;
+use crate::reading::Accepted;
 use pf_entry::numbers::{put_u32, put_u64};
-use px_model::{Entry, EntryView, Message, Proposal};
+use px_model::{Entry, EntryView, Message};
 use std::alloc::{AllocError, Global};
+
+/// Whether it was written.
+type Put = Result<(), AllocError>;
 
 /// A length of four bytes, and the entry.
 #[tactic(auto, using(crate::proofs::Lengths::short))]
-fn put_sized(out: &mut Vec<u8>, e: &EntryView) -> Result<(), AllocError>
+fn put_sized(out: &mut Vec<u8>, e: &EntryView) -> Put
     requires { IsSpelling (lent_of e.now) }
     ensures { OnOk result (out.new.items ≡ out.old.items ++ sized (lent_of e.now)) }
 {
     let bytes = e.bytes();
     put_u32(out, bytes.len() as u32)?;
-    out.extend_from_slice(bytes)?;
-    Ok(())
+    out.extend_from_slice(bytes)
 }
 
 /// A ballot and a position.
-fn put_slot(out: &mut Vec<u8>, ballot: u64, position: u32) -> Result<(), AllocError>
+fn put_slot(out: &mut Vec<u8>, ballot: u64, position: u32) -> Put
     ensures { OnOk result (out.new.items ≡ out.old.items ++ (to_be_bytes w64 ballot ++ to_be_bytes w32 position)) }
 {
     put_u64(out, ballot)?;
-    put_u32(out, position)?;
-    Ok(())
+    put_u32(out, position)
 }
 
 /// A ballot and an entry.
-fn put_accepted(out: &mut Vec<u8>, ballot: u64, entry: &EntryView) -> Result<(), AllocError>
+fn put_accepted(out: &mut Vec<u8>, ballot: u64, entry: &EntryView) -> Put
     requires { IsSpelling (lent_of entry.now) }
     ensures { OnOk result (out.new.items ≡ out.old.items ++ (to_be_bytes w64 ballot ++ sized (lent_of entry.now))) }
 {
@@ -49,7 +51,7 @@ fn put_accepted(out: &mut Vec<u8>, ballot: u64, entry: &EntryView) -> Result<(),
 }
 
 /// 0, or a ballot and an entry.
-fn put_reported(out: &mut Vec<u8>, accepted: &Option<Proposal<EntryView>>) -> Result<(), AllocError>
+fn put_reported(out: &mut Vec<u8>, accepted: &Accepted) -> Put
     requires { IfSome (accepted_of accepted.now) (λ a. IsSpelling a.1) }
     ensures { OnOk result (out.new.items ≡ out.old.items ++ reported (accepted_of accepted.now)) }
 {
@@ -60,35 +62,23 @@ fn put_reported(out: &mut Vec<u8>, accepted: &Option<Proposal<EntryView>>) -> Re
 }
 
 /// A ballot, a position and an entry.
-fn put_proposal(
-    out: &mut Vec<u8>,
-    ballot: u64,
-    position: u32,
-    entry: &EntryView,
-) -> Result<(), AllocError>
+fn put_proposal(out: &mut Vec<u8>, ballot: u64, position: u32, entry: &EntryView) -> Put
     requires { IsSpelling (lent_of entry.now) }
     ensures { OnOk result (out.new.items ≡ out.old.items ++
         (to_be_bytes w64 ballot ++ to_be_bytes w32 position ++ sized (lent_of entry.now))) }
 {
     put_slot(out, ballot, position)?;
-    put_sized(out, entry)?;
-    Ok(())
+    put_sized(out, entry)
 }
 
 /// A ballot, a position and what was accepted there.
-fn put_promise(
-    out: &mut Vec<u8>,
-    ballot: u64,
-    position: u32,
-    accepted: &Option<Proposal<EntryView>>,
-) -> Result<(), AllocError>
+fn put_promise(out: &mut Vec<u8>, ballot: u64, position: u32, accepted: &Accepted) -> Put
     requires { IfSome (accepted_of accepted.now) (λ a. IsSpelling a.1) }
     ensures { OnOk result (out.new.items ≡ out.old.items ++
         (to_be_bytes w64 ballot ++ to_be_bytes w32 position ++ reported (accepted_of accepted.now))) }
 {
     put_slot(out, ballot, position)?;
-    put_reported(out, accepted)?;
-    Ok(())
+    put_reported(out, accepted)
 }
 
 /// The same with the top between.
@@ -97,8 +87,8 @@ fn put_promise_all(
     ballot: u64,
     position: u32,
     top: u32,
-    accepted: &Option<Proposal<EntryView>>,
-) -> Result<(), AllocError>
+    accepted: &Accepted,
+) -> Put
     requires { IfSome (accepted_of accepted.now) (λ a. IsSpelling a.1) }
     ensures { OnOk result (out.new.items ≡ out.old.items ++
         (to_be_bytes w64 ballot ++ to_be_bytes w32 position ++ to_be_bytes w32 top
@@ -106,20 +96,18 @@ fn put_promise_all(
 {
     put_slot(out, ballot, position)?;
     put_u32(out, top)?;
-    put_reported(out, accepted)?;
-    Ok(())
+    put_reported(out, accepted)
 }
 
-fn put_nack(out: &mut Vec<u8>, ballot: u64, position: u32, promised: u64) -> Result<(), AllocError>
+fn put_nack(out: &mut Vec<u8>, ballot: u64, position: u32, promised: u64) -> Put
     ensures { OnOk result (out.new.items ≡ out.old.items ++
         (to_be_bytes w64 ballot ++ to_be_bytes w32 position ++ to_be_bytes w64 promised)) }
 {
     put_slot(out, ballot, position)?;
-    put_u64(out, promised)?;
-    Ok(())
+    put_u64(out, promised)
 }
 
-fn put_learned(out: &mut Vec<u8>, position: u32, entry: &EntryView) -> Result<(), AllocError>
+fn put_learned(out: &mut Vec<u8>, position: u32, entry: &EntryView) -> Put
     requires { IsSpelling (lent_of entry.now) }
     ensures { OnOk result (out.new.items ≡ out.old.items ++ (to_be_bytes w32 position ++ sized (lent_of entry.now))) }
 {
@@ -128,15 +116,14 @@ fn put_learned(out: &mut Vec<u8>, position: u32, entry: &EntryView) -> Result<()
     Ok(())
 }
 
-fn put_answer(out: &mut Vec<u8>, token: u64, number: u64) -> Result<(), AllocError>
+fn put_answer(out: &mut Vec<u8>, token: u64, number: u64) -> Put
     ensures { OnOk result (out.new.items ≡ out.old.items ++ (to_be_bytes w64 token ++ to_be_bytes w64 number)) }
 {
     put_u64(out, token)?;
-    put_u64(out, number)?;
-    Ok(())
+    put_u64(out, number)
 }
 
-fn put_refusal(out: &mut Vec<u8>, token: u64, code: u8) -> Result<(), AllocError>
+fn put_refusal(out: &mut Vec<u8>, token: u64, code: u8) -> Put
     ensures { OnOk result (out.new.items ≡ out.old.items ++ (to_be_bytes w64 token ++ code ∷ [])) }
 {
     put_u64(out, token)?;
@@ -144,12 +131,7 @@ fn put_refusal(out: &mut Vec<u8>, token: u64, code: u8) -> Result<(), AllocError
     Ok(())
 }
 
-fn put_body(
-    out: &mut Vec<u8>,
-    m: &Membership,
-    to: u8,
-    message: &Message<EntryView>,
-) -> Result<(), AllocError>
+fn put_body(out: &mut Vec<u8>, m: &Membership, to: u8, message: &Message<EntryView>) -> Put
     requires { IsBody (group m.now) m.now.me to (message_of message.now) }
     ensures { OnOk result (out.new.items ≡ out.old.items ++ body (message_of message.now)) }
 {
@@ -211,7 +193,7 @@ fn kind_of(message: &Message<EntryView>) -> Kind
 }
 
 /// Magic, version, cluster, members, from, to, kind.
-fn put_header(out: &mut Vec<u8>, m: &Membership, to: u8, kind: Kind) -> Result<(), AllocError>
+fn put_header(out: &mut Vec<u8>, m: &Membership, to: u8, kind: Kind) -> Put
     ensures { OnOk result (out.new.items ≡ out.old.items ++
         (to_be_bytes w32 0x50465852 ++ 1 ∷ to_be_bytes w32 m.now.cluster
         ++ m.now.members ∷ m.now.me ∷ to ∷ number_of kind ∷ [])) }
@@ -220,8 +202,7 @@ fn put_header(out: &mut Vec<u8>, m: &Membership, to: u8, kind: Kind) -> Result<(
     out.push(VERSION)?;
     put_u32(out, m.cluster())?;
     let last = [m.members(), m.me(), to, kind.number()];
-    out.extend_from_slice(&last)?;
-    Ok(())
+    out.extend_from_slice(&last)
 }
 
 /// The one spelling of a message to a member, or to 255, a client. The message has one: its ballots, position and

@@ -33,15 +33,10 @@ pub struct Head {
 fn ballot_in(from: u8, to: u8, kind: Kind, bytes: &[u8]) -> Option<Head>
     ensures { result ≡ ballot_in from to kind bytes.now }
 {
-    let ballot = u64_in(bytes, BODY_AT)?;
-    let position = u32_in(bytes, POSITION_AT)?;
     Some(Head {
-        from,
-        to,
-        kind,
-        ballot: Some(ballot),
-        position: Some(position),
-        number: None,
+        ballot: Some(u64_in(bytes, BODY_AT)?),
+        position: Some(u32_in(bytes, POSITION_AT)?),
+        ..none_in(from, to, kind)
     })
 }
 
@@ -49,14 +44,9 @@ fn ballot_in(from: u8, to: u8, kind: Kind, bytes: &[u8]) -> Option<Head>
 fn position_in(from: u8, to: u8, kind: Kind, bytes: &[u8]) -> Option<Head>
     ensures { result ≡ position_in from to kind bytes.now }
 {
-    let position = u32_in(bytes, BODY_AT)?;
     Some(Head {
-        from,
-        to,
-        kind,
-        ballot: None,
-        position: Some(position),
-        number: None,
+        position: Some(u32_in(bytes, BODY_AT)?),
+        ..none_in(from, to, kind)
     })
 }
 
@@ -64,14 +54,9 @@ fn position_in(from: u8, to: u8, kind: Kind, bytes: &[u8]) -> Option<Head>
 fn asked_in(from: u8, to: u8, kind: Kind, bytes: &[u8]) -> Option<Head>
     ensures { result ≡ asked_in from to kind bytes.now }
 {
-    let number = u64_in(bytes, ANSWER_AT)?;
     Some(Head {
-        from,
-        to,
-        kind,
-        ballot: None,
-        position: None,
-        number: Some(number),
+        number: Some(u64_in(bytes, ANSWER_AT)?),
+        ..none_in(from, to, kind)
     })
 }
 
@@ -94,18 +79,10 @@ fn head_at(from: u8, to: u8, kind: Kind, bytes: &[u8]) -> Option<Head>
     ensures { result ≡ head_at from to kind bytes.now }
 {
     match kind {
-        Kind::Prepare => ballot_in(from, to, kind, bytes),
-        Kind::Promise => ballot_in(from, to, kind, bytes),
-        Kind::Accept => ballot_in(from, to, kind, bytes),
-        Kind::Vote => ballot_in(from, to, kind, bytes),
-        Kind::Nack => ballot_in(from, to, kind, bytes),
-        Kind::Need => position_in(from, to, kind, bytes),
-        Kind::Learned => position_in(from, to, kind, bytes),
-        Kind::Ask => Some(none_in(from, to, kind)),
+        Kind::Need | Kind::Learned => position_in(from, to, kind, bytes),
+        Kind::Ask | Kind::AskRefused => Some(none_in(from, to, kind)),
         Kind::Asked => asked_in(from, to, kind, bytes),
-        Kind::AskRefused => Some(none_in(from, to, kind)),
-        Kind::PrepareAll => ballot_in(from, to, kind, bytes),
-        Kind::PromiseAll => ballot_in(from, to, kind, bytes),
+        _ => ballot_in(from, to, kind, bytes),
     }
 }
 
@@ -150,18 +127,9 @@ impl Head {
             return 0;
         };
         match self.kind {
-            Kind::Prepare => position,
-            Kind::PrepareAll => position,
-            Kind::Accept => position,
-            Kind::Vote => position,
-            Kind::Need => position,
+            Kind::Prepare | Kind::PrepareAll | Kind::Accept | Kind::Vote | Kind::Need => position,
             Kind::Learned => position.saturating_add(1),
-            Kind::Promise => 0,
-            Kind::PromiseAll => 0,
-            Kind::Nack => 0,
-            Kind::Ask => 0,
-            Kind::Asked => 0,
-            Kind::AskRefused => 0,
+            _ => 0,
         }
     }
 
@@ -171,15 +139,7 @@ impl Head {
     {
         match self.kind {
             Kind::Prepare | Kind::PrepareAll | Kind::Accept => self.position,
-            Kind::Vote
-            | Kind::Need
-            | Kind::Learned
-            | Kind::Promise
-            | Kind::PromiseAll
-            | Kind::Nack
-            | Kind::Ask
-            | Kind::Asked
-            | Kind::AskRefused => None,
+            _ => None,
         }
     }
 }

@@ -1,7 +1,8 @@
 //! Reading the fields of a datagram, from left to right.
 
 ghost use Rattle.std.specs.Prelude.{◌≡◌, ◌<◌, ◌+◌, ◌^◌, ◌==◌, Bool, [], ◌∷◌, true};
-ghost use Rattle.std.specs.Prelude.{◌≤◌, option_map, is_some, Some, None, IfOk, take, drop, if◌then◌else◌};
+ghost use Rattle.std.specs.Prelude.{◌≤◌, option_map, is_some, Some, None, false, IfOk, MatchResult, take, drop};
+ghost use Rattle.std.specs.Prelude.{if◌then◌else◌};
 ghost use Rattle.px_wire.specs.Message.{group, is_member, is_client, is_party, is_kind, is_ballot, is_ballot_of};
 ghost use Rattle.px_wire.specs.Message.{is_position, is_top, is_number, is_refusal, is_accepted};
 ghost use Rattle.px_wire.specs.Fields.{field, fault_of, first_fault, u8, u32, u64, ballot, any_ballot, position, token};
@@ -31,10 +32,21 @@ use crate::limits::{
 use crate::membership::Membership;
 use px_model::{EntryView, Message, Proposal};
 
+/// What is read, unless it has a fault.
+type Read<T> = Result<T, WireFault>;
+
 fn fault(code: u8, offset: usize) -> WireFault
     ensures { result ≡ record { code = code; offset = offset } }
 {
     WireFault { code, offset }
+}
+
+/// The fault, unless this holds.
+fn require(holds: bool, code: u8, offset: usize) -> Read<()>
+    ensures { MatchResult result (λ _. holds ≡ true)
+        (λ f. (holds ≡ false) × (f ≡ record { code = code; offset = offset })) }
+{
+    holds.then_some(()).ok_or(fault(code, offset))
 }
 
 /// The byte at an offset, if it is there.
@@ -81,36 +93,27 @@ pub(crate) fn u64_in(bytes: &[u8], at: usize) -> Option<u64>
 }
 
 #[tactic(auto, unfolding(crate::specs::Fields::fault_of))]
-fn u8_at(bytes: &[u8], at: usize) -> Result<u8, WireFault>
+fn u8_at(bytes: &[u8], at: usize) -> Read<u8>
     requires { at < 64 }
     ensures { ReadsField bytes.now result (field at 1 0 true) (u8 at bytes.now) }
 {
-    match u8_in(bytes, at) {
-        Some(number) => Ok(number),
-        None => Err(fault(50, at)),
-    }
+    u8_in(bytes, at).ok_or(fault(50, at))
 }
 
 #[tactic(auto, unfolding(crate::specs::Fields::fault_of))]
-fn u32_at(bytes: &[u8], at: usize) -> Result<u32, WireFault>
+fn u32_at(bytes: &[u8], at: usize) -> Read<u32>
     requires { at < 64 }
     ensures { ReadsField bytes.now result (field at 4 0 true) (u32 at bytes.now) }
 {
-    match u32_in(bytes, at) {
-        Some(number) => Ok(number),
-        None => Err(fault(50, at)),
-    }
+    u32_in(bytes, at).ok_or(fault(50, at))
 }
 
 #[tactic(auto, unfolding(crate::specs::Fields::fault_of))]
-fn u64_at(bytes: &[u8], at: usize) -> Result<u64, WireFault>
+fn u64_at(bytes: &[u8], at: usize) -> Read<u64>
     requires { at < 64 }
     ensures { ReadsField bytes.now result (field at 8 0 true) (u64 at bytes.now) }
 {
-    match u64_in(bytes, at) {
-        Some(number) => Ok(number),
-        None => Err(fault(50, at)),
-    }
+    u64_in(bytes, at).ok_or(fault(50, at))
 }
 
 /// Whether the number is a ballot of one of the members: a round from 1 to 2^48-1, and the member.
@@ -122,99 +125,82 @@ fn is_ballot(m: &Membership, number: u64) -> bool
 
 /// A ballot of one of the members.
 #[tactic(auto, unfolding(crate::specs::Fields::fault_of))]
-fn any_ballot_at(m: &Membership, bytes: &[u8], at: usize) -> Result<u64, WireFault>
+fn any_ballot_at(m: &Membership, bytes: &[u8], at: usize) -> Read<u64>
     requires { at < 64 }
     ensures { ReadsField bytes.now result (any_ballot m.now at bytes.now) (u64 at bytes.now) }
 {
     let number = u64_at(bytes, at)?;
-    if !is_ballot(m, number) {
-        return Err(fault(57, at));
-    }
+    require(is_ballot(m, number), 57, at)?;
     Ok(number)
 }
 
 #[tactic(auto, unfolding(crate::specs::Fields::fault_of))]
-fn position_at(bytes: &[u8], at: usize) -> Result<u32, WireFault>
+fn position_at(bytes: &[u8], at: usize) -> Read<u32>
     requires { at < 64 }
     ensures { ReadsField bytes.now result (position at bytes.now) (u32 at bytes.now) }
 {
     let number = u32_at(bytes, at)?;
-    if number > LAST_POSITION {
-        return Err(fault(57, at));
-    }
+    require(number <= LAST_POSITION, 57, at)?;
     Ok(number)
 }
 
 /// No byte follows the last field.
-fn end_at(bytes: &[u8], end: usize) -> Result<(), WireFault>
+fn end_at(bytes: &[u8], end: usize) -> Read<()>
     ensures { Answers (λ x. x) result (first_fault [] end bytes.now) tt }
 {
-    if bytes.len() > end {
-        return Err(fault(56, end));
-    }
-    Ok(())
+    require(bytes.len() <= end, 56, end)
 }
 
 /// A ballot of this node, a member.
 #[tactic(auto, unfolding(crate::specs::Fields::fault_of))]
-fn ballot_at(m: &Membership, node: u8, bytes: &[u8], at: usize) -> Result<u64, WireFault>
+fn ballot_at(m: &Membership, node: u8, bytes: &[u8], at: usize) -> Read<u64>
     requires { at < 64 }
     ensures { ReadsField bytes.now result (ballot m.now node at bytes.now) (u64 at bytes.now) }
 {
     let found = any_ballot_at(m, bytes, at)?;
-    if found % 256 != u64::from(node) {
-        return Err(fault(57, at));
-    }
+    require(found % 256 == u64::from(node), 57, at)?;
     Ok(found)
 }
 
 #[tactic(auto, unfolding(crate::specs::Fields::fault_of))]
-fn token_at(bytes: &[u8], at: usize) -> Result<u64, WireFault>
+fn token_at(bytes: &[u8], at: usize) -> Read<u64>
     requires { at < 64 }
     ensures { ReadsField bytes.now result (token at bytes.now) (u64 at bytes.now) }
 {
     let number = u64_at(bytes, at)?;
-    if number >= NUMBERS {
-        return Err(fault(57, at));
-    }
+    require(number < NUMBERS, 57, at)?;
     Ok(number)
 }
 
 #[tactic(auto, unfolding(crate::specs::Fields::fault_of))]
-fn refusal_at(bytes: &[u8], at: usize) -> Result<u8, WireFault>
+fn refusal_at(bytes: &[u8], at: usize) -> Read<u8>
     requires { at < 64 }
     ensures { ReadsField bytes.now result (field at 1 57 (is_refusal (u8 at bytes.now))) (u8 at bytes.now) }
 {
     let code = u8_at(bytes, at)?;
-    if code != 60 && code != 62 {
-        return Err(fault(57, at));
-    }
+    require(code == 60 || code == 62, 57, at)?;
     Ok(code)
 }
 
 #[tactic(auto, unfolding(crate::specs::Fields::fault_of))]
-fn top_at(bytes: &[u8], at: usize) -> Result<u32, WireFault>
+fn top_at(bytes: &[u8], at: usize) -> Read<u32>
     requires { at < 64 }
     ensures { ReadsField bytes.now result (field at 4 57 (is_top (u32 at bytes.now))) (u32 at bytes.now) }
 {
     let top = u32_at(bytes, at)?;
-    if top > LAST_TOP {
-        return Err(fault(57, at));
-    }
+    require(top <= LAST_TOP, 57, at)?;
     Ok(top)
 }
 
 /// The length of an entry.
 #[tactic(auto, unfolding(crate::specs::Fields::fault_of))]
-fn len_at(bytes: &[u8], at: usize) -> Result<usize, WireFault>
+fn len_at(bytes: &[u8], at: usize) -> Read<usize>
     requires { at < 64 }
     ensures value { ReadsField bytes.now result (len at bytes.now) (u32 at bytes.now) }
     ensures small { IfOk result (λ n. n ≤ ENTRY_BYTES) }
 {
     let number = u32_at(bytes, at)?;
-    if number == 0 || number > ENTRY_BYTES {
-        return Err(fault(57, at));
-    }
+    require(number != 0 && number <= ENTRY_BYTES, 57, at)?;
     Ok(number as usize)
 }
 
@@ -230,7 +216,7 @@ fn entry_in(bytes: &[u8]) -> Option<EntryView<'_>>
 
 /// An entry of that many bytes, of whatever origin.
 #[tactic(auto, unfolding(crate::specs::Fields::fault_of))]
-fn entry_of_len(bytes: &[u8], at: usize, len: usize) -> Result<EntryView<'_>, WireFault>
+fn entry_of_len(bytes: &[u8], at: usize, len: usize) -> Read<EntryView<'_>>
     requires at { at < 128 }
     requires len { len ≤ ENTRY_BYTES }
     ensures { Answers (λ e. Some (lent_of e)) result (fault_of (any_entry at len bytes.now) bytes.now)
@@ -241,56 +227,41 @@ fn entry_of_len(bytes: &[u8], at: usize, len: usize) -> Result<EntryView<'_>, Wi
     }
     let (_, rest) = bytes.split_at(at);
     let (front, _) = rest.split_at(len);
-    match entry_in(front) {
-        Some(entry) => Ok(entry),
-        None => Err(fault(57, at)),
-    }
+    entry_in(front).ok_or(fault(57, at))
 }
 
 /// The length and the entry that end a datagram, asked by a member.
 #[tactic(auto, unfolding(crate::specs::Fields::fault_of))]
-fn members_entry_at<'a>(
-    m: &Membership,
-    bytes: &'a [u8],
-    at: usize,
-) -> Result<EntryView<'a>, WireFault>
+fn members_entry_at<'a>(m: &Membership, bytes: &'a [u8], at: usize) -> Read<EntryView<'a>>
     requires { at < 64 }
     ensures { ReadsEntry bytes.now result (entry (is_member (group m.now)) at bytes.now) at (entry_value at bytes.now) }
 {
     let len = len_at(bytes, at)?;
     let entry = entry_of_len(bytes, at + 4, len)?;
-    if entry.origin() >= m.members() {
-        return Err(fault(57, at + 4));
-    }
+    require(entry.origin() < m.members(), 57, at + 4)?;
     end_at(bytes, at + 4 + len)?;
     Ok(entry)
 }
 
 /// The length and the entry that end a datagram, asked by one who is no member.
 #[tactic(auto, unfolding(crate::specs::Fields::fault_of))]
-fn clients_entry_at(bytes: &[u8], at: usize) -> Result<EntryView<'_>, WireFault>
+fn clients_entry_at(bytes: &[u8], at: usize) -> Read<EntryView<'_>>
     requires { at < 64 }
     ensures { ReadsEntry bytes.now result (entry is_client at bytes.now) at (entry_value at bytes.now) }
 {
     let len = len_at(bytes, at)?;
     let entry = entry_of_len(bytes, at + 4, len)?;
-    if entry.origin() != CLIENT {
-        return Err(fault(57, at + 4));
-    }
+    require(entry.origin() == CLIENT, 57, at + 4)?;
     end_at(bytes, at + 4 + len)?;
     Ok(entry)
 }
 
-type Accepted<'a> = Option<Proposal<EntryView<'a>>>;
+/// What a promise reports.
+pub(crate) type Accepted<'a> = Option<Proposal<EntryView<'a>>>;
 
 /// What a promise reports: 0, or a ballot below that of the promise, and an entry. It ends the datagram.
 #[tactic(auto, unfolding(crate::specs::Fields::fault_of))]
-fn accepted_at<'a>(
-    m: &Membership,
-    below: u64,
-    bytes: &'a [u8],
-    at: usize,
-) -> Result<Accepted<'a>, WireFault>
+fn accepted_at<'a>(m: &Membership, below: u64, bytes: &'a [u8], at: usize) -> Read<Accepted<'a>>
     requires { at < 32 }
     ensures { Answers (λ a. Some (accepted_of a)) result
         (first_fault (accepted m.now below at bytes.now) at bytes.now) (accepted_value at bytes.now) }
@@ -301,27 +272,23 @@ fn accepted_at<'a>(
         return Ok(None);
     }
     let ballot = any_ballot_at(m, bytes, at)?;
-    if ballot >= below {
-        return Err(fault(57, at));
-    }
+    require(ballot < below, 57, at)?;
     let entry = members_entry_at(m, bytes, at + 8)?;
     Ok(Some(Proposal { ballot, entry }))
 }
 
 /// The ballot that a member has promised, not below the one refused.
 #[tactic(auto, unfolding(crate::specs::Fields::fault_of))]
-fn promised_at(m: &Membership, least: u64, bytes: &[u8], at: usize) -> Result<u64, WireFault>
+fn promised_at(m: &Membership, least: u64, bytes: &[u8], at: usize) -> Read<u64>
     requires { at < 64 }
     ensures { ReadsField bytes.now result (promised m.now least at bytes.now) (u64 at bytes.now) }
 {
     let found = any_ballot_at(m, bytes, at)?;
-    if found < least {
-        return Err(fault(57, at));
-    }
+    require(found >= least, 57, at)?;
     Ok(found)
 }
 
-fn prepare_at<'a>(m: &Membership, from: u8, bytes: &'a [u8]) -> Result<MessageView<'a>, WireFault>
+fn prepare_at<'a>(m: &Membership, from: u8, bytes: &'a [u8]) -> Read<MessageView<'a>>
     ensures { ReadsBody bytes.now result (prepare_fields m.now from bytes.now) (prepare_value bytes.now) }
 {
     let ballot = ballot_at(m, from, bytes, BODY_AT)?;
@@ -330,46 +297,38 @@ fn prepare_at<'a>(m: &Membership, from: u8, bytes: &'a [u8]) -> Result<MessageVi
     Ok(Message::Prepare { ballot, position })
 }
 
-fn promise_at<'a>(m: &Membership, bytes: &'a [u8]) -> Result<MessageView<'a>, WireFault>
+fn promise_at<'a>(m: &Membership, bytes: &'a [u8]) -> Read<MessageView<'a>>
     ensures { ReadsBody bytes.now result (promise_fields m.now bytes.now) (promise_value bytes.now) }
 {
     let ballot = ballot_at(m, m.me(), bytes, BODY_AT)?;
-    let position = position_at(bytes, POSITION_AT)?;
-    let accepted = accepted_at(m, ballot, bytes, 25)?;
     Ok(Message::Promise {
         ballot,
-        position,
-        accepted,
+        position: position_at(bytes, POSITION_AT)?,
+        accepted: accepted_at(m, ballot, bytes, 25)?,
     })
 }
 
-fn accept_at<'a>(m: &Membership, from: u8, bytes: &'a [u8]) -> Result<MessageView<'a>, WireFault>
+fn accept_at<'a>(m: &Membership, from: u8, bytes: &'a [u8]) -> Read<MessageView<'a>>
     ensures { ReadsBody bytes.now result (accept_fields m.now from bytes.now) (accept_value bytes.now) }
 {
-    let ballot = ballot_at(m, from, bytes, BODY_AT)?;
-    let position = position_at(bytes, POSITION_AT)?;
-    let entry = members_entry_at(m, bytes, 25)?;
     Ok(Message::Accept {
-        ballot,
-        position,
-        entry,
+        ballot: ballot_at(m, from, bytes, BODY_AT)?,
+        position: position_at(bytes, POSITION_AT)?,
+        entry: members_entry_at(m, bytes, 25)?,
     })
 }
 
-fn vote_at<'a>(m: &Membership, bytes: &'a [u8]) -> Result<MessageView<'a>, WireFault>
+fn vote_at<'a>(m: &Membership, bytes: &'a [u8]) -> Read<MessageView<'a>>
     ensures { ReadsBody bytes.now result (vote_fields m.now bytes.now) (vote_value bytes.now) }
 {
-    let ballot = any_ballot_at(m, bytes, BODY_AT)?;
-    let position = position_at(bytes, POSITION_AT)?;
-    let entry = members_entry_at(m, bytes, 25)?;
     Ok(Message::Vote {
-        ballot,
-        position,
-        entry,
+        ballot: any_ballot_at(m, bytes, BODY_AT)?,
+        position: position_at(bytes, POSITION_AT)?,
+        entry: members_entry_at(m, bytes, 25)?,
     })
 }
 
-fn nack_at<'a>(m: &Membership, bytes: &'a [u8]) -> Result<MessageView<'a>, WireFault>
+fn nack_at<'a>(m: &Membership, bytes: &'a [u8]) -> Read<MessageView<'a>>
     ensures { ReadsBody bytes.now result (nack_fields m.now bytes.now) (nack_value bytes.now) }
 {
     let ballot = ballot_at(m, m.me(), bytes, BODY_AT)?;
@@ -383,7 +342,7 @@ fn nack_at<'a>(m: &Membership, bytes: &'a [u8]) -> Result<MessageView<'a>, WireF
     })
 }
 
-fn need_at(bytes: &[u8]) -> Result<MessageView<'_>, WireFault>
+fn need_at(bytes: &[u8]) -> Read<MessageView<'_>>
     ensures { ReadsBody bytes.now result (need_fields bytes.now) (need_value bytes.now) }
 {
     let position = position_at(bytes, BODY_AT)?;
@@ -391,7 +350,7 @@ fn need_at(bytes: &[u8]) -> Result<MessageView<'_>, WireFault>
     Ok(Message::Need { position })
 }
 
-fn learned_at<'a>(m: &Membership, bytes: &'a [u8]) -> Result<MessageView<'a>, WireFault>
+fn learned_at<'a>(m: &Membership, bytes: &'a [u8]) -> Read<MessageView<'a>>
     ensures { ReadsBody bytes.now result (learned_fields m.now bytes.now) (learned_value bytes.now) }
 {
     let position = position_at(bytes, BODY_AT)?;
@@ -399,14 +358,14 @@ fn learned_at<'a>(m: &Membership, bytes: &'a [u8]) -> Result<MessageView<'a>, Wi
     Ok(Message::Learned { position, entry })
 }
 
-fn ask_at(bytes: &[u8]) -> Result<MessageView<'_>, WireFault>
+fn ask_at(bytes: &[u8]) -> Read<MessageView<'_>>
     ensures { ReadsBody bytes.now result (ask_fields bytes.now) (ask_value bytes.now) }
 {
     let entry = clients_entry_at(bytes, BODY_AT)?;
     Ok(Message::Ask { entry })
 }
 
-fn asked_at(bytes: &[u8]) -> Result<MessageView<'_>, WireFault>
+fn asked_at(bytes: &[u8]) -> Read<MessageView<'_>>
     ensures { ReadsBody bytes.now result (asked_fields bytes.now) (asked_value bytes.now) }
 {
     let token = token_at(bytes, BODY_AT)?;
@@ -415,7 +374,7 @@ fn asked_at(bytes: &[u8]) -> Result<MessageView<'_>, WireFault>
     Ok(Message::Asked { token, number })
 }
 
-fn ask_refused_at(bytes: &[u8]) -> Result<MessageView<'_>, WireFault>
+fn ask_refused_at(bytes: &[u8]) -> Read<MessageView<'_>>
     ensures { ReadsBody bytes.now result (ask_refused_fields bytes.now) (ask_refused_value bytes.now) }
 {
     let token = token_at(bytes, BODY_AT)?;
@@ -424,11 +383,7 @@ fn ask_refused_at(bytes: &[u8]) -> Result<MessageView<'_>, WireFault>
     Ok(Message::AskRefused { token, code })
 }
 
-fn prepare_all_at<'a>(
-    m: &Membership,
-    from: u8,
-    bytes: &'a [u8],
-) -> Result<MessageView<'a>, WireFault>
+fn prepare_all_at<'a>(m: &Membership, from: u8, bytes: &'a [u8]) -> Read<MessageView<'a>>
     ensures { ReadsBody bytes.now result (prepare_all_fields m.now from bytes.now) (prepare_all_value bytes.now) }
 {
     let ballot = ballot_at(m, from, bytes, BODY_AT)?;
@@ -437,28 +392,20 @@ fn prepare_all_at<'a>(
     Ok(Message::PrepareAll { ballot, position })
 }
 
-fn promise_all_at<'a>(m: &Membership, bytes: &'a [u8]) -> Result<MessageView<'a>, WireFault>
+fn promise_all_at<'a>(m: &Membership, bytes: &'a [u8]) -> Read<MessageView<'a>>
     ensures { ReadsBody bytes.now result (promise_all_fields m.now bytes.now) (promise_all_value bytes.now) }
 {
     let ballot = ballot_at(m, m.me(), bytes, BODY_AT)?;
-    let position = position_at(bytes, POSITION_AT)?;
-    let top = top_at(bytes, 25)?;
-    let accepted = accepted_at(m, ballot, bytes, 29)?;
     Ok(Message::PromiseAll {
         ballot,
-        position,
-        top,
-        accepted,
+        position: position_at(bytes, POSITION_AT)?,
+        top: top_at(bytes, 25)?,
+        accepted: accepted_at(m, ballot, bytes, 29)?,
     })
 }
 
 /// The body of a datagram of that kind.
-fn body_at<'a>(
-    m: &Membership,
-    from: u8,
-    kind: Kind,
-    bytes: &'a [u8],
-) -> Result<MessageView<'a>, WireFault>
+fn body_at<'a>(m: &Membership, from: u8, kind: Kind, bytes: &'a [u8]) -> Read<MessageView<'a>>
     ensures { ReadsBody bytes.now result (body m.now from (number_of kind) bytes.now)
         (value (number_of kind) bytes.now) }
 {
@@ -480,40 +427,30 @@ fn body_at<'a>(
 
 /// A byte that has to be this one.
 #[tactic(auto, unfolding(crate::specs::Fields::fault_of))]
-fn want_u8(bytes: &[u8], at: usize, code: u8, want: u8) -> Result<(), WireFault>
+fn want_u8(bytes: &[u8], at: usize, code: u8, want: u8) -> Read<()>
     requires { at < 64 }
     ensures { ReadsField bytes.now result (field at 1 code (u8 at bytes.now == want)) tt }
 {
-    if u8_at(bytes, at)? == want {
-        Ok(())
-    } else {
-        Err(fault(code, at))
-    }
+    require(u8_at(bytes, at)? == want, code, at)
 }
 
 /// A number that has to be this one.
 #[tactic(auto, unfolding(crate::specs::Fields::fault_of))]
-fn want_u32(bytes: &[u8], at: usize, code: u8, want: u32) -> Result<(), WireFault>
+fn want_u32(bytes: &[u8], at: usize, code: u8, want: u32) -> Read<()>
     requires { at < 64 }
     ensures { ReadsField bytes.now result (field at 4 code (u32 at bytes.now == want)) tt }
 {
-    if u32_at(bytes, at)? == want {
-        Ok(())
-    } else {
-        Err(fault(code, at))
-    }
+    require(u32_at(bytes, at)? == want, code, at)
 }
 
 /// A member, or 255.
 #[tactic(auto, unfolding(crate::specs::Fields::fault_of))]
-fn sender_at(m: &Membership, bytes: &[u8], at: usize) -> Result<u8, WireFault>
+fn sender_at(m: &Membership, bytes: &[u8], at: usize) -> Read<u8>
     requires { at < 64 }
     ensures { ReadsField bytes.now result (field at 1 54 (is_party (group m.now) (u8 at bytes.now))) (u8 at bytes.now) }
 {
     let from = u8_at(bytes, at)?;
-    if from >= m.members() && from != CLIENT {
-        return Err(fault(54, at));
-    }
+    require(from < m.members() || from == CLIENT, 54, at)?;
     Ok(from)
 }
 
@@ -523,42 +460,25 @@ fn is_kind(from: u8, to: u8, kind: Kind) -> bool
 {
     match kind {
         Kind::Ask => from == CLIENT && to != CLIENT,
-        Kind::Asked => from != CLIENT && to == CLIENT,
-        Kind::AskRefused => from != CLIENT && to == CLIENT,
-        Kind::Prepare => from != CLIENT && to != CLIENT,
-        Kind::Promise => from != CLIENT && to != CLIENT,
-        Kind::Accept => from != CLIENT && to != CLIENT,
-        Kind::Vote => from != CLIENT && to != CLIENT,
-        Kind::Nack => from != CLIENT && to != CLIENT,
-        Kind::Need => from != CLIENT && to != CLIENT,
-        Kind::Learned => from != CLIENT && to != CLIENT,
-        Kind::PrepareAll => from != CLIENT && to != CLIENT,
-        Kind::PromiseAll => from != CLIENT && to != CLIENT,
+        Kind::Asked | Kind::AskRefused => from != CLIENT && to == CLIENT,
+        _ => from != CLIENT && to != CLIENT,
     }
 }
 
 #[tactic(auto, unfolding(crate::specs::Fields::fault_of))]
-fn kind_at(from: u8, to: u8, bytes: &[u8], at: usize) -> Result<Kind, WireFault>
+fn kind_at(from: u8, to: u8, bytes: &[u8], at: usize) -> Read<Kind>
     requires { at < 64 }
     ensures { Answers number_of result (fault_of (field at 1 55 (is_kind from to (u8 at bytes.now))) bytes.now)
         (u8 at bytes.now) }
 {
-    let number = u8_at(bytes, at)?;
-    match Kind::from_number(number) {
-        Some(kind) => if is_kind(from, to, kind) {
-            Ok(kind)
-        } else {
-            Err(fault(55, at))
-        },
-        None => Err(fault(55, at)),
+    match Kind::from_number(u8_at(bytes, at)?) {
+        Some(kind) if is_kind(from, to, kind) => Ok(kind),
+        _ => Err(fault(55, at)),
     }
 }
 
 /// The sender and the message of a datagram.
-pub(crate) fn datagram_of<'a>(
-    m: &Membership,
-    bytes: &'a [u8],
-) -> Result<(u8, MessageView<'a>), WireFault>
+pub(crate) fn datagram_of<'a>(m: &Membership, bytes: &'a [u8]) -> Read<(u8, MessageView<'a>)>
     ensures { ReadsDatagram bytes.now result (fields m.now bytes.now) (datagram bytes.now) }
 {
     want_u32(bytes, 0, 51, MAGIC)?;

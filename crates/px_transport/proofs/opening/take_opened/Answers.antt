@@ -14,8 +14,8 @@ returns-in-Whole-clause-comes c mine hs h =
       r.0,
       r.1,
       comes_whole (a.header.now, a.body.now) (given_by mine r.0 hs a.header.now a.body.now a.now)
-          c.in-Whole.datagram.now (length a.into.now) c.put.result c.put.new.into (sym (ap seen c.in-Whole.is) ∙ r.2)
-          c.put.ensures.fits c.put.ensures.written,
+          c.in-Whole.datagram.now (length a.into.now) c.put_whole.result c.put_whole.new.into (sym (ap seen c.in-Whole.is) ∙ r.2)
+          c.put_whole.ensures.fits c.put_whole.ensures.written,
     )
 
 pub returns-in-Joined-clause-comes : goal.returns-in-Joined-clause-comes
@@ -25,9 +25,9 @@ returns-in-Joined-clause-comes c mine hs h =
       r.0,
       r.1,
       comes_joined (a.header.now, a.body.now) (given_by mine r.0 hs a.header.now a.body.now a.now)
-          c.in-Joined.datagram.items (length a.into.now) c.put-in-Joined.result c.put-in-Joined.new.into
-          (sym (ap seen c.in-Joined.is) ∙ r.2) c.put-in-Joined.ensures.fits
-          (c.put-in-Joined.ensures.written ∙ ap (within (length a.into.now)) c.as_slice.ensures.value),
+          c.in-Joined.datagram.items (length a.into.now) c.put_whole-in-Joined.result c.put_whole-in-Joined.new.into
+          (sym (ap seen c.in-Joined.is) ∙ r.2) c.put_whole-in-Joined.ensures.fits
+          (c.put_whole-in-Joined.ensures.written ∙ ap (within (length a.into.now)) c.as_slice.ensures.value),
     )
 
 pub returns-in-Held-clause-comes : goal.returns-in-Held-clause-comes

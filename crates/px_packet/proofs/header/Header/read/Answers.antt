@@ -1,5 +1,5 @@
 -- each test passed, and the fields are those of the bytes
-use Rattle.std.proofs.Common.{ap, sym, ◌∙◌, ◌≡◌}
+use Rattle.std.proofs.Common.{ap, sym, rules, ◌∙◌, ◌≡◌}
 use Rattle.std.specs.Prelude.{is_some}
 use Rattle.std.specs.Int.{w32}
 use Rattle.std.proofs.lemmas.List.{take_rest}
@@ -10,14 +10,14 @@ use Rattle.px_packet.proofs.header.Header.read.Goals as goal
 pub returns : goal.returns
 returns c =
     let b = c.args.bytes.now in
-    let cluster : number w32 5 b ≡ c.args.cluster = sym c.u32_at-2.ensures ∙ c.if-u32_at-cluster.false in
+    let cluster : number w32 5 b ≡ c.args.cluster = search rules in
     let number_of : c.start_at-start.result.number ≡ number w32 13 b = ap (λ s. s.number) c.start_at-start.ensures in (
       no_fault_from c.args.cluster c.args.members c.args.me b c.if-bytes-lt-HEADER_BYTES.false
-          (sym c.u32_at.ensures ∙ c.if-u32_at-ne-MAGIC.false) c.if-bytes-ne-VERSION.false cluster c.if-bytes-members.false
-          c.if-bytes-members-2.false c.if-bytes-me.false c.if-bytes-me-2.false (sym (ap is_some c.in-Some.ensures))
-          (λ z. c.if-start-eq0.false (number_of ∙ z)) (λ z. c.if-counter-eq0.false (c.u64_at-counter.ensures ∙ z)),
-      header_from c.args.cluster c.args.members c.args.me b c.in-Some.kind c.start_at-start.result c.start_at.result
-          c.u64_at-counter.result cluster c.if-bytes-members.false c.if-bytes-me-2.false c.in-Some.ensures
+          (search rules) (search rules) cluster (search rules)
+          (search rules) (search rules) (search rules) (search rules)
+          (search rules) (search rules),
+      header_from c.args.cluster c.args.members c.args.me b c.in_ok-kind.kind c.start_at-start.result c.start_at.result
+          c.u64_at-counter.result cluster (search rules) (search rules) (search rules)
           c.start_at-start.ensures c.start_at.ensures c.u64_at-counter.ensures,
       take_rest b 37,
     )

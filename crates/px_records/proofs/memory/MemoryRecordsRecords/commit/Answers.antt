@@ -1,4 +1,4 @@
-use Rattle.std.proofs.Common.{◌∙◌, sym, refl, subst, inl, inr}
+use Rattle.std.proofs.Common.{◌∙◌, ◌≡◌, ◌≤◌, ℕ, max, arith, sym, refl, subst, inl, inr}
 use Rattle.px_model.specs.Bounds.{AnyCommand}
 use Rattle.px_model.specs.Node.{Record}
 use Rattle.px_model.specs.Spelling.{Bytes}
@@ -10,6 +10,9 @@ use Rattle.px_records.proofs.Maps.{slots_same, slots_put, log_same, log_put, end
 use Rattle.px_records.specs.Memory.{slots_in, learned_in, record_of}
 use Rattle.px_records.specs.inner.Memory.{accepted_with}
 use Rattle.px_records.proofs.memory.MemoryRecordsRecords.commit.Goals as goal
+
+raise : {a b m : ℕ} → m ≡ max a b → (a ≤ b → m ≡ b) × (b ≤ a → m ≡ a)
+raise is = (λ le. omega (arith, is, le), λ le. omega (arith, is, le))
 
 pub returns-in_err-accept-in-Accepted-clause-stop : goal.returns-in_err-accept-in-Accepted-clause-stop
 returns-in_err-accept-in-Accepted-clause-stop c = λ _ d left.
@@ -62,7 +65,7 @@ invariant_of-self-in-Accepted c =
     let entry = entry_of c.in-Accepted.entry in
     let done = c.in_ok-accept-in-Accepted.ensures.done in
     record {
-      top_is = raised_to (slots_in c.args.self.now.slots) (slots_in c.accept.new.slots) c.in-Accepted.position (accepted_with c.in-Accepted.ballot entry) _ refl done fits.0 c.args.self.now.top c.args.self.now.top_is _ c.greater-self.ensures.value;
+      top_is = raised_to (slots_in c.args.self.now.slots) (slots_in c.accept.new.slots) c.in-Accepted.position (accepted_with c.in-Accepted.ballot entry) _ refl done fits.0 c.args.self.now.top c.args.self.now.top_is _ (raise c.max-self.ensures);
       end_is = c.args.self.now.end_is;
       fits = subst (λ (d : Record Bytes). RecordFits AnyCommand c.args.self.now.members d)
           (sym (slots_put c.args.self.now.meta c.accept.new.slots c.args.self.now.slots c.args.self.now.learned c.in-Accepted.position _ done))
@@ -88,7 +91,7 @@ invariant_of-self-in-Learned c =
     let done = c.in_ok-learn-in-Learned.ensures.done in
     record {
       top_is = c.args.self.now.top_is;
-      end_is = end_put (learned_in c.args.self.now.learned) (learned_in c.learn.new.learned) c.in-Learned.position entry done c.args.self.now.end c.args.self.now.end_is _ c.greater-self-in-Learned.ensures.value;
+      end_is = end_put (learned_in c.args.self.now.learned) (learned_in c.learn.new.learned) c.in-Learned.position entry done c.args.self.now.end c.args.self.now.end_is _ (raise c.max-self-in-Learned.ensures);
       fits = subst (λ (d : Record Bytes). RecordFits AnyCommand c.args.self.now.members d)
           (sym (log_put c.args.self.now.meta c.args.self.now.slots c.learn.new.learned c.args.self.now.learned c.in-Learned.position _ done))
           (new_learned_fits AnyCommand c.args.self.now.members old c.args.self.now.fits c.in-Learned.position entry fits.0 fits.1);

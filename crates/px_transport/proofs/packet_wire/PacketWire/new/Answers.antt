@@ -4,5 +4,5 @@ use Rattle.px_transport.proofs.packet_wire.PacketWire.new.Goals as goal
 
 pub returns-clause-traffic : goal.returns-clause-traffic
 returns-clause-traffic g c t =
-    new_sealed (g.W.Wire.traffic c.args.inner) _ _ c.in_ok-sender.ensures.sealer c.in_ok-sender.ensures.outgoing
-    c.in_ok-receiver.ensures t
+    new_sealed (g.W.Wire.traffic c.args.inner) _ _ c.in_ok-new.ensures.sealer c.in_ok-new.ensures.outgoing
+    c.in_ok-new-2.ensures t
