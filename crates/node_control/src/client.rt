@@ -55,9 +55,14 @@ pub(crate) enum Look {
     Left,
 }
 
-/// Whether the error is that nothing can be read or written now.
-fn is_waiting(error: &io::Error) -> bool {
-    error.kind() == ErrorKind::WouldBlock || error.kind() == ErrorKind::Interrupted
+/// Whether bytes were moved, none after an error other than that nothing can be read or written now.
+fn moved(went: io::Result<usize>) -> Option<bool> {
+    match went {
+        Ok(_) => Some(true),
+        Err(error) => {
+            matches!(error.kind(), ErrorKind::WouldBlock | ErrorKind::Interrupted).then_some(false)
+        }
+    }
 }
 
 impl Client {
@@ -127,16 +132,7 @@ impl Client {
         if !self.connection.wants_read() {
             return Some(false);
         }
-        match self.stream.read_into(&mut self.connection) {
-            Ok(_) => Some(true),
-            Err(error) => {
-                if is_waiting(&error) {
-                    Some(false)
-                } else {
-                    None
-                }
-            }
-        }
+        moved(self.stream.read_into(&mut self.connection))
     }
 
     /// Writes once, if anything is to be sent, as `read`.
@@ -149,26 +145,15 @@ impl Client {
         if !self.connection.wants_write() {
             return Some(false);
         }
-        match self.stream.write_from(&mut self.connection) {
-            Ok(_) => Some(true),
-            Err(error) => {
-                if is_waiting(&error) {
-                    Some(false)
-                } else {
-                    None
-                }
-            }
-        }
+        moved(self.stream.write_from(&mut self.connection))
     }
 
     /// Whether a request has been coming for too long.
     fn is_late(&self, now: u64) -> bool
         ensures { result ≡ is_late now self.now }
     {
-        match self.began {
-            Some(began) => now > began.saturating_add(COMING),
-            None => false,
-        }
+        let began = self.began;
+        began.is_some_and(|began| now > began.saturating_add(COMING))
     }
 
     /// Whether there is nothing more to be done here.

@@ -16,8 +16,8 @@ ghost use Rattle.node_control.specs.inner.Runs.{AsksWithin, ServesFigures};
 ghost use Rattle.node_control.specs.inner.Serving.{Serves, calls_of};
 
 use crate::client::{Client, Look};
-use crate::logging::log_health;
-use crate::service::HttpService;
+use crate::logging::log;
+use crate::service::{HttpService, Made};
 use crate::stream::{Listener, Stream};
 use http_server::Service;
 use mio::unix::SourceFd;
@@ -163,10 +163,7 @@ fn bind_at<RT: Files + Net>(
 
 /// Whether a folder is there, and no link to one.
 fn is_folder<RT: Files>(rt: &RT, path: &str) -> bool {
-    match fs::symlink_metadata(rt, path) {
-        Ok(found) => found.is_dir(),
-        Err(_) => false,
-    }
+    fs::symlink_metadata(rt, path).is_ok_and(|found| found.is_dir())
 }
 
 /// Takes the folder away in which a socket was made, and the socket's name there.
@@ -223,12 +220,7 @@ fn earliest(clients: &[Client]) -> u64
 
 impl Entrance {
     /// An entrance for the given number of clients.
-    fn new(
-        alloc: Global,
-        keys: RandomState,
-        listener: Listener,
-        most: usize,
-    ) -> Result<Entrance, AllocError>
+    fn new(alloc: Global, keys: RandomState, listener: Listener, most: usize) -> Made<Entrance>
         ensures { IfOk result (IsUnused most) }
     {
         let clients = Vec::with_capacity(alloc, most.saturating_add(1))?;
@@ -499,7 +491,7 @@ impl ControlSocket {
         ensures clients { client_count self.new ≡ client_count self.old }
     {
         if let Some(health) = self.changed(service) {
-            log_health(rt, service, health);
+            log(rt, service, health);
         }
     }
 
@@ -561,15 +553,6 @@ impl ControlSocket {
     }
 }
 
-/// The fault of a system's error.
-fn fault_of(error: &io::Error) -> ControlFault {
-    if error.kind() == ErrorKind::OutOfMemory {
-        ControlFault::Memory
-    } else {
-        ControlFault::NoSocket
-    }
-}
-
 /// The entrance at a path.
 fn open_path<RT: Files + Net>(
     rt: &RT,
@@ -583,7 +566,10 @@ fn open_path<RT: Files + Net>(
     if !free(rt, path) {
         return Err(ControlFault::NoSocket);
     }
-    let listener = listen(rt, alloc, path).map_err(|error| fault_of(&error))?;
+    let listener = listen(rt, alloc, path).map_err(|error| match error.kind() {
+        ErrorKind::OutOfMemory => ControlFault::Memory,
+        _ => ControlFault::NoSocket,
+    })?;
     if watch(poll, listener.raw_fd()).is_err() {
         let _gone = fs::remove_file(rt, path);
         return Err(ControlFault::NoSocket);

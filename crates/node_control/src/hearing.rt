@@ -111,11 +111,7 @@ impl Hearing {
         self.is_said = is_alone;
         match (is_alone, was_alone) {
             (true, false) => Said::Alone(heard),
-            (false, true) => if self.is_quiet {
-                Said::Nothing
-            } else {
-                Said::Again
-            },
+            (false, true) if !self.is_quiet => Said::Again,
             _ => Said::Nothing,
         }
     }
@@ -124,14 +120,13 @@ impl Hearing {
     fn log_majority<RT: Eprint>(&mut self, rt: &RT, now: u64)
         ensures { self.new ≡ judged now self.old }
     {
+        let me = self.m.me();
         match self.judge(now) {
             Said::Nothing => {}
             Said::Alone(heard) => {
                 let _logged = eprintln!(rt;
-                    "pfx: warning: node {} has heard {} of {} other members for {} seconds, no majority; {} datagrams \
-                     received aren't theirs. {}",
-                    self.m.me(),
-                    heard,
+                    "pfx: warning: node {me} has heard {heard} of {} other members for {} seconds, no majority; {} \
+                     datagrams received aren't theirs. {}",
                     self.m.members().saturating_sub(1),
                     QUIET,
                     self.others,
@@ -139,10 +134,7 @@ impl Hearing {
                 );
             }
             Said::Again => {
-                let _logged = eprintln!(rt;
-                    "pfx: info: node {} hears a majority again",
-                    self.m.me()
-                );
+                let _logged = eprintln!(rt; "pfx: info: node {me} hears a majority again");
             }
         }
     }
@@ -164,12 +156,10 @@ impl Hearing {
         ensures { self.new ≡ with_end head.now self.old }
     {
         if self.nears_end(head) {
-            let position = head.position.unwrap_or(0);
+            let (me, position) = (self.m.me(), head.position.unwrap_or(0));
+            let left = POSITIONS.saturating_sub(position);
             let _logged = eprintln!(rt;
-                "pfx: warning: node {} hears of position {}: {} are left in the log; set up a successor",
-                self.m.me(),
-                position,
-                POSITIONS.saturating_sub(position)
+                "pfx: warning: node {me} hears of position {position}: {left} are left in the log; set up a successor"
             );
         }
     }
@@ -193,13 +183,7 @@ impl Hearing {
     }
 
     /// Looks at what came in a round, at this time: the messages with these heads, and other datagrams.
-    pub(crate) fn look<RT: Eprint>(
-        &mut self,
-        rt: &RT,
-        heads: &[Head],
-        counts: &RoundCounts,
-        now: u64,
-    )
+    pub(crate) fn look<E: Eprint>(&mut self, rt: &E, heads: &[Head], counts: &RoundCounts, now: u64)
         ensures { self.new ≡ judged now (after_round now heads.now counts.now self.old) }
     {
         let known = u64::from(counts.answered).saturating_add(heads.len() as u64);

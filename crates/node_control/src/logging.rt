@@ -7,42 +7,29 @@ use px_records::Records;
 use std::io::Eprint;
 use std::time::{Clock, SystemTime};
 
+/// What is advised where large datagrams may be lost.
+const ADVICE: &str = ": if large datagrams don't arrive, use a key";
+
 /// The present time; none where the clock can't be read, or gives a time past the year 9999.
 fn date_now<RT: Clock>(rt: &RT) -> Option<HttpDate> {
-    match SystemTime::now(rt) {
-        Ok(now) => HttpDate::try_from(now).ok(),
-        Err(_) => None,
-    }
+    HttpDate::try_from(SystemTime::now(rt).ok()?).ok()
 }
 
 /// A position below which some member has learned all, as the others have shown.
 fn shown<R: Records>(service: &HttpService<R>) -> u32 {
-    let mut most = 0u32;
-    for peer in &service.counters.peers {
-        most = most.max(peer.shown);
-    }
-    most
+    let peers = service.counters.peers.iter();
+    peers.map(|peer| peer.shown).max().unwrap_or(0)
 }
 
 /// Logs on standard error what the node's health is now, and the known reason.
-pub(crate) fn log_health<R: Records, RT: Clock + Eprint>(
-    rt: &RT,
-    service: &HttpService<R>,
-    health: Health,
-) {
+pub(crate) fn log<R: Records, E: Clock + Eprint>(rt: &E, service: &HttpService<R>, health: Health) {
     let node = &service.handler.node;
     let counters = &service.counters;
     let applied = node.applied();
-    let level = if health == Health::Works {
-        "info"
-    } else {
-        "warning"
-    };
-    let advice = if health == Health::Stuck && counters.large > 0 {
-        ": if large datagrams don't arrive, use a key"
-    } else {
-        ""
-    };
+    let works = health == Health::Works;
+    let level = if works { "info" } else { "warning" };
+    let is_large = health == Health::Stuck && counters.large > 0;
+    let advice = if is_large { ADVICE } else { "" };
     let _begun = eprint!(rt; "pfx: {}: ", level);
     if let Some(date) = date_now(rt) {
         let _dated = eprint!(rt; "{}: ", date);

@@ -52,16 +52,11 @@ where
     let Some(place) = place else {
         return Ok(None);
     };
-    let Ok(keys) = RandomState::new(rt) else {
-        return Err(Ended::NoControlSocket);
-    };
+    let keys = RandomState::new(rt).map_err(|_| Ended::NoControlSocket)?;
     match ControlSocket::open(rt, alloc, keys, place.path, place.figures) {
         Ok(mut control) => {
-            if control.watch(place.fd) {
-                Ok(Some(control))
-            } else {
-                Err(Ended::NoControlSocket)
-            }
+            let wakes = control.watch(place.fd);
+            wakes.then_some(Some(control)).ok_or(Ended::NoControlSocket)
         }
         Err(ControlFault::Memory) => Err(Ended::Fault(NodeFault::Memory)),
         Err(ControlFault::NoSocket) => Err(Ended::NoControlSocket),
@@ -71,10 +66,7 @@ where
 
 /// The control socket is closed, if there is one.
 fn close_at<RT: Files>(rt: &RT, control: Option<ControlSocket>, place: Option<ControlPlace<'_>>) {
-    let Some(control) = control else {
-        return;
-    };
-    if let Some(place) = place {
+    if let (Some(control), Some(place)) = (control, place) {
         control.close(rt, place.path);
     }
 }
@@ -83,10 +75,7 @@ fn close_at<RT: Files>(rt: &RT, control: Option<ControlSocket>, place: Option<Co
 fn members_at<'a>(place: Option<ControlPlace<'a>>) -> &'a str
     ensures { result.now ≡ unwrap_or (option_map (λ p. p.members.now) place.entry) [] }
 {
-    match place {
-        Some(place) => place.members,
-        None => "",
-    }
+    place.map_or("", |place| place.members)
 }
 
 /// How a node's turns ended: whether an operator asked for that, or a fault.
@@ -130,16 +119,9 @@ fn run_node<R: Records, W: Wire, T: Timer, RT: Clock + Eprint>(
     };
     let mut service = HttpService::new(alloc, node, counters);
     let mut clock = SystemClock { clock: rt };
+    let (own, kept) = (&mut service, &mut buffers);
     let is_stopped = pass_on(
-        rt,
-        &mut service,
-        wire,
-        observer,
-        &mut buffers,
-        control,
-        timer,
-        &mut clock,
-        turns,
+        rt, own, wire, observer, kept, control, timer, &mut clock, turns,
     );
     let node = service.close();
     (ended_of(is_stopped, &node), node)

@@ -9,6 +9,7 @@ ghost use Rattle.node_control.specs.inner.Observing.{listened, stood_at};
 ghost use Rattle.node_control.specs.inner.Rows.{is_due, sampled, reported, sent_more, heard_from, rows_after};
 
 use crate::hearing::Hearing;
+use crate::service::Made;
 use node_loop::{Progress, RoundCounts};
 use node_requests::{Counters, PeerCounters};
 use px_wire::{Head, Membership};
@@ -57,20 +58,18 @@ pub struct Observer {
     /// Since when commands have waited and the front didn't move.
     since: Option<u64>,
     /// The position that another member proposed at last, and when.
-    proposed: Option<(u32, u64)>,
+    proposed: Proposed,
     outrun: u64,
     large: usize,
     has_packets: bool,
     hearing: Hearing,
 }
 
+/// The position that another member proposed at last, and when.
+type Proposed = Option<(u32, u64)>;
+
 /// The proposal at the front or beyond it that is known, with one that comes now.
-fn proposed_then(
-    front: u32,
-    now: u64,
-    proposal: Option<u32>,
-    was: Option<(u32, u64)>,
-) -> Option<(u32, u64)>
+fn proposed_then(front: u32, now: u64, proposal: Option<u32>, was: Proposed) -> Proposed
     ensures { result ≡ proposed_then front now proposal was }
 {
     match proposal {
@@ -80,7 +79,7 @@ fn proposed_then(
 }
 
 /// Whether another member proposes a command at the front or beyond it.
-fn is_proposed(front: u32, now: u64, proposed: Option<(u32, u64)>) -> bool
+fn is_proposed(front: u32, now: u64, proposed: Proposed) -> bool
     ensures { result ≡ is_proposed front now proposed }
 {
     proposed.is_some_and(|(position, at)| front <= position && now.saturating_sub(at) < PROPOSED)
@@ -222,11 +221,7 @@ impl Observer {
     }
 
     /// What is counted as a node starts: a row for each other member, and nothing that came. The members listen there.
-    pub(crate) fn first_counters(
-        &self,
-        alloc: Global,
-        members: &str,
-    ) -> Result<Counters, AllocError>
+    pub(crate) fn first_counters(&self, alloc: Global, members: &str) -> Made<Counters>
         ensures stood { IfOk result (λ t. t.stood ≡ 0) }
         ensures members { IfOk result (λ t. string_bytes t.members ≡ members.now) }
         ensures peers { IfOk result (λ t. t.peers.items ≡ map (reported 0) self.entry.now.rows.items) }

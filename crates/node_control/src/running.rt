@@ -91,11 +91,8 @@ fn pass<R: Records, W: Wire, T: Timer, RT: Clock + Eprint>(
     ensures listening { OnOk result (service.new.is_listening ≡ T.listens timer.new now) }
     ensures same { W.identity wire.new ≡ W.identity wire.old }
 {
-    observer.begin(
-        now,
-        service.handler.node.front(),
-        service.handler.node.waiting() > 0,
-    );
+    let node = &service.handler.node;
+    observer.begin(now, node.front(), node.waiting() > 0);
     let made = match round(&mut service.handler.node, wire, buffers, timer, now) {
         Ok(made) => made,
         Err(fault) => return Err(fault),
@@ -157,16 +154,8 @@ fn passes<R: Records, W: Wire, T: Timer, S: Stopwatch, RT: Clock + Eprint>(
         if is_ending(service, control) {
             return Ok(true);
         }
-        match pass(
-            rt,
-            service,
-            wire,
-            observer,
-            buffers,
-            control,
-            timer,
-            microseconds(clock, start),
-        ) {
+        let now = microseconds(clock, start);
+        match pass(rt, service, wire, observer, buffers, control, timer, now) {
             Ok(used) => left = left.saturating_sub(u64::from(used)),
             Err(fault) => return Err(fault),
         }
@@ -208,14 +197,8 @@ pub(crate) fn pass_on<R: Records, W: Wire, T: Timer, S: Stopwatch, RT: Clock + E
         rt, service, wire, observer, buffers, control, timer, clock, start, turns,
     ) {
         Ok(is_stopped) => {
-            match finish(
-                &mut service.handler.node,
-                wire,
-                buffers,
-                timer,
-                clock,
-                start,
-            ) {
+            let node = &mut service.handler.node;
+            match finish(node, wire, buffers, timer, clock, start) {
                 Ok(()) => Ok(is_stopped),
                 Err(fault) => Err(fault),
             }

@@ -41,6 +41,9 @@ pub(crate) struct HttpService<R: Records> {
     pub(crate) alloc: Global,
 }
 
+/// What is made, unless out of memory.
+pub(crate) type Made<T> = Result<T, AllocError>;
+
 /// The kind of a plain text.
 const TEXT: &str = "text/plain; charset=utf-8";
 
@@ -92,12 +95,7 @@ fn is_change(request: &Request) -> bool
 }
 
 /// Adds a field.
-fn add_text(
-    alloc: Global,
-    response: &mut Response,
-    name: &[u8],
-    text: &str,
-) -> Result<(), AllocError>
+fn add_text(alloc: Global, response: &mut Response, name: &[u8], text: &str) -> Made<()>
     ensures fields { OnOk result
         (fields_of response.new ≡ fields_of response.old ++ (lowercase name.now, text.now) ∷ []) }
     ensures status { OnOk result (response.new.status ≡ response.old.status) }
@@ -109,12 +107,7 @@ fn add_text(
 }
 
 /// Adds a field with a number.
-fn add_number(
-    alloc: Global,
-    response: &mut Response,
-    name: &[u8],
-    number: u64,
-) -> Result<(), AllocError>
+fn add_number(alloc: Global, response: &mut Response, name: &[u8], number: u64) -> Made<()>
     ensures fields { OnOk result
         (fields_of response.new ≡ fields_of response.old ++ (lowercase name.now, decimal number) ∷ []) }
     ensures status { OnOk result (response.new.status ≡ response.old.status) }
@@ -279,18 +272,15 @@ impl<R: Records> HttpService<R> {
     }
 
     /// Asks nothing: this status is all that is answered.
-    fn refuse(&mut self, status: u16, response: &mut Response)
+    fn refuse(&mut self, code: u16, response: &mut Response)
         requires { IsBlank response.old }
-        ensures away { IsTurnedAway self.old self.new (no_text status) response.new }
+        ensures away { IsTurnedAway self.old self.new (no_text code) response.new }
         ensures scraped { self.new.is_scraped ≡ self.old.is_scraped }
         ensures kept { IsKept self.old self.new }
         ensures counted { self.new.counters ≡ counted_as self.old.is_scraped response.new.status self.old.counters }
     {
-        let answer = Answer {
-            code: status,
-            body: String::new(self.alloc),
-        };
-        self.turn_away(&answer, response);
+        let body = String::new(self.alloc);
+        self.turn_away(&Answer { code, body }, response);
     }
 
     /// Asks nothing: what is asked isn't served here.
@@ -315,11 +305,8 @@ impl<R: Records> HttpService<R> {
         ensures counted { OnOk result
             (self.new.counters ≡ counted_as self.old.is_scraped response.new.status self.old.counters) }
     {
-        let answer = Answer {
-            code: 503,
-            body: String::from_str(self.alloc, "waiting\n")?,
-        };
-        self.turn_away(&answer, response);
+        let body = String::from_str(self.alloc, "waiting\n")?;
+        self.turn_away(&Answer { code: 503, body }, response);
         Ok(())
     }
 
@@ -427,11 +414,7 @@ impl<R: Records> HttpService<R> {
     }
 
     /// Handles a request.
-    fn handle(
-        &mut self,
-        request: &http::Request<Bytes>,
-        response: &mut Response,
-    ) -> Result<(), AllocError>
+    fn handle(&mut self, request: &http::Request<Bytes>, response: &mut Response) -> Made<()>
         requires { IsBlank response.old }
         ensures handled { OnOk result (IsHandled self.old self.new request.now response.new) }
         ensures still { self.old.is_scraped ≡ true → self.new.handler ≡ self.old.handler }
@@ -453,11 +436,7 @@ impl<R: Records> HttpService<R> {
 impl<R: Records> Service for HttpService<R> {
     ghost answers = { λ old request response new. AnswersRequest old request response new };
 
-    fn call(
-        &mut self,
-        request: &http::Request<Bytes>,
-        response: &mut Response,
-    ) -> Result<(), AllocError> {
+    fn call(&mut self, request: &http::Request<Bytes>, response: &mut Response) -> Made<()> {
         self.handle(request, response)
     }
 }

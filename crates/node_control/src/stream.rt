@@ -52,14 +52,8 @@ impl Stream {
         ensures { (history connection.new).calls ≡ (history connection.old).calls }
     {
         match self {
-            Stream::Local(stream) => {
-                let mut from = stream;
-                connection.read_from(&mut from)
-            }
-            Stream::Tcp(stream) => {
-                let mut from = stream;
-                connection.read_from(&mut from)
-            }
+            Stream::Local(stream) => connection.read_from(&mut &*stream),
+            Stream::Tcp(stream) => connection.read_from(&mut &*stream),
         }
     }
 
@@ -70,14 +64,8 @@ impl Stream {
         ensures config { config_of connection.new ≡ config_of connection.old }
     {
         match self {
-            Stream::Local(stream) => {
-                let mut to = stream;
-                connection.write_to(&mut to)
-            }
-            Stream::Tcp(stream) => {
-                let mut to = stream;
-                connection.write_to(&mut to)
-            }
+            Stream::Local(stream) => connection.write_to(&mut &*stream),
+            Stream::Tcp(stream) => connection.write_to(&mut &*stream),
         }
     }
 }
@@ -94,23 +82,14 @@ impl Listener {
     /// The next connection that has come, if one has.
     fn accept(&self) -> io::Result<Stream> {
         match self {
-            Listener::Local(listener) => {
-                let (stream, _from) = listener.accept()?;
-                Ok(Stream::Local(stream))
-            }
-            Listener::Tcp(listener) => {
-                let (stream, _from) = listener.accept()?;
-                Ok(Stream::Tcp(stream))
-            }
+            Listener::Local(listener) => listener.accept().map(|(stream, _)| Stream::Local(stream)),
+            Listener::Tcp(listener) => listener.accept().map(|(stream, _)| Stream::Tcp(stream)),
         }
     }
 
     /// The next connection that has come, which doesn't wait; an error where none has come.
     pub(crate) fn next(&self) -> io::Result<Option<Stream>> {
         let stream = self.accept()?;
-        match stream.hasten() {
-            Ok(()) => Ok(Some(stream)),
-            Err(_) => Ok(None),
-        }
+        Ok(stream.hasten().is_ok().then_some(stream))
     }
 }

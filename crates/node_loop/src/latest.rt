@@ -25,20 +25,8 @@ pub(crate) fn proposal_of(head: &Head) -> Option<(u64, u32)>
     ensures { result ≡ proposal_of head.now }
 {
     match head.kind {
-        Kind::Accept | Kind::Vote => match (head.ballot, head.position) {
-            (Some(ballot), Some(position)) => Some((ballot, position)),
-            _ => None,
-        },
-        Kind::Prepare
-        | Kind::Promise
-        | Kind::Nack
-        | Kind::Need
-        | Kind::Learned
-        | Kind::Ask
-        | Kind::Asked
-        | Kind::AskRefused
-        | Kind::PrepareAll
-        | Kind::PromiseAll => None,
+        Kind::Accept | Kind::Vote => Some((head.ballot?, head.position?)),
+        _ => None,
     }
 }
 

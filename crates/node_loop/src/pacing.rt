@@ -113,51 +113,6 @@ impl TickTimer {
         self.repeated.saturating_add(pause.saturating_mul(times))
     }
 
-    /// Nothing that was sent so far is to be sent again.
-    fn forget(&mut self)
-        ensures times { AreTimes self.old self.new }
-        ensures as_before { IsAsBefore self.old self.new }
-        ensures me { self.new.me ≡ self.old.me }
-    {
-        self.repeats = REPEATS;
-        self.is_timed = false;
-    }
-
-    /// The front moved: whatever was attempted led to something.
-    fn end_attempt(&mut self, now: u64)
-        ensures times { AreTimes self.old self.new }
-        ensures as_before { IsAsBefore self.old self.new }
-    {
-        if self.is_proposing {
-            self.succeed(now);
-        } else {
-            self.losses = 0;
-        }
-    }
-
-    /// The front is there now. A pause ends soon, but not at once: so who has the lead makes some commits, and those
-    /// who keep still don't all begin at one moment, when the member of the highest number would win each time.
-    fn come_on(&mut self, now: u64, front: u32)
-        ensures hold { self.new.hold ≤ self.old.hold }
-        ensures moved { self.new.moved ≡ now }
-        ensures ticked { self.new.ticked ≡ self.old.ticked }
-        ensures front { self.new.front ≡ front }
-        ensures as_before { IsAsBefore self.old self.new }
-    {
-        self.front = front;
-        self.moved = now;
-        self.drawn = self.draw(now);
-        self.hold = self
-            .hold
-            .min(now.saturating_add(self.soon().saturating_mul(4)));
-        self.rest = 0;
-        self.repeats = REPEATS;
-        self.is_timed = false;
-        self.is_proposing = false;
-        self.is_refused = false;
-        self.is_quick = false;
-    }
-
     /// What came of the attempt.
     fn look(&mut self, now: u64, view: View)
         ensures hold { self.new.hold ≤ max self.old.hold (now + 4000000) }
@@ -170,44 +125,54 @@ impl TickTimer {
         ensures as_before { IsAsBefore self.old self.new }
     {
         if view.front != self.front {
-            self.end_attempt(now);
-            self.come_on(now, view.front);
+            // Whatever was attempted led to something. If it was begun anew meanwhile nobody knows which of them did,
+            // and so not how long a round trip is: then the patience stays as long as it has become. In the same way
+            // nobody knows how long an answer took to what was sent again.
+            if self.is_proposing && self.is_timed {
+                self.time_answer(now.saturating_sub(self.accepting));
+            }
+            if self.is_proposing && self.is_first {
+                self.measure(now);
+            }
+            if !self.is_proposing || self.is_first {
+                self.losses = 0;
+            }
+            // A pause ends soon, but not at once: so who has the lead makes some commits, and those who keep still
+            // don't all begin at one moment, when the member of the highest number would win each time.
+            self.front = view.front;
+            self.moved = now;
+            self.drawn = self.draw(now);
+            self.hold = self
+                .hold
+                .min(now.saturating_add(self.soon().saturating_mul(4)));
+            self.rest = 0;
+            self.repeats = REPEATS;
+            self.is_timed = false;
+            self.is_proposing = false;
+            self.is_refused = false;
+            self.is_quick = false;
         } else if self.is_proposing && !view.is_attempting {
             self.is_proposing = false;
-            self.forget();
-            self.refused(now);
+            // nothing that was sent so far is to be sent again
+            self.repeats = REPEATS;
+            self.is_timed = false;
+            // the next follows soon where no majority had promised, unless this one was such a next
+            self.drawn = self.draw(now);
+            self.is_refused = true;
+            self.is_quick = !self.is_leading && !self.was_quick;
+            let wait = if self.is_quick {
+                self.soon()
+            } else {
+                self.lose();
+                self.pause()
+            };
+            self.hold = now.saturating_add(wait);
         } else if self.is_proposing && view.is_leading && !self.is_leading {
-            self.promised(now);
+            // a majority has promised, and accept requests went out: promises are of the round that was begun last
+            self.time_answer(now.saturating_sub(self.ticked));
+            self.accept(now);
         }
         self.is_leading = view.is_leading;
-    }
-
-    /// A majority has promised, and accept requests went out. Promises are of the round that was begun last, whatever
-    /// was lost before.
-    fn promised(&mut self, now: u64)
-        ensures times { AreTimes self.old self.new }
-        ensures as_before { IsAsBefore self.old self.new }
-    {
-        self.time_answer(now.saturating_sub(self.ticked));
-        self.accept(now);
-    }
-
-    /// Whether others have come further.
-    fn compare(&mut self, now: u64, view: View)
-        ensures moved { self.new.moved ≤ max self.old.moved now }
-        ensures hold { self.new.hold ≡ self.old.hold }
-        ensures rest { self.new.rest ≡ self.old.rest }
-        ensures ticked { self.new.ticked ≡ self.old.ticked }
-        ensures front { self.new.front ≡ self.old.front }
-        ensures behind { self.new.is_behind ≡ nat_lt view.front view.reached }
-        ensures ending { self.new.is_ending ≡ self.old.is_ending }
-        ensures moves { self.old.is_behind ≡ true → self.new.moved ≡ self.old.moved }
-    {
-        let is_behind = view.reached > view.front;
-        if is_behind && !self.is_behind {
-            self.moved = now;
-        }
-        self.is_behind = is_behind;
     }
 
     /// The time of an attempt: a longer one counts half, a shorter one an eighth.
@@ -216,11 +181,11 @@ impl TickTimer {
         ensures as_before { IsAsBefore self.old self.new }
     {
         let sample = now.saturating_sub(self.ticked).max(TRIPS.0).min(TRIPS.1);
-        if sample > self.trip {
-            self.trip = self.trip / 2 + sample / 2;
+        self.trip = if sample > self.trip {
+            self.trip / 2 + sample / 2
         } else {
-            self.trip = self.trip - self.trip / 8 + sample / 8;
-        }
+            self.trip - self.trip / 8 + sample / 8
+        };
     }
 
     /// The time that an answer took which was asked for once: it counts half.
@@ -233,22 +198,6 @@ impl TickTimer {
         self.answer = self.answer / 2 + sample / 2;
     }
 
-    /// An attempt led to something. If it was begun anew meanwhile nobody knows which of them did, and so not how long
-    /// a round trip is: then the patience stays as long as it has become. In the same way nobody knows how long an
-    /// answer took to what was sent again.
-    fn succeed(&mut self, now: u64)
-        ensures times { AreTimes self.old self.new }
-        ensures as_before { IsAsBefore self.old self.new }
-    {
-        if self.is_timed {
-            self.time_answer(now.saturating_sub(self.accepting));
-        }
-        if self.is_first {
-            self.measure(now);
-            self.losses = 0;
-        }
-    }
-
     /// An attempt failed.
     fn lose(&mut self)
         ensures times { AreTimes self.old self.new }
@@ -257,27 +206,6 @@ impl TickTimer {
         ensures measured { (self.new.trip ≡ self.old.trip) × (self.new.answer ≡ self.old.answer) }
     {
         self.losses = self.losses.saturating_add(1).min(DOUBLINGS);
-    }
-
-    /// The attempt was refused. The next follows soon where no majority had promised, unless this one was such a next.
-    fn refused(&mut self, now: u64)
-        ensures hold { self.new.hold ≤ now + 4000000 }
-        ensures moved { self.new.moved ≡ self.old.moved }
-        ensures ticked { self.new.ticked ≡ self.old.ticked }
-        ensures front { self.new.front ≡ self.old.front }
-        ensures rest { self.new.rest ≡ self.old.rest }
-        ensures as_before { IsAsBefore self.old self.new }
-    {
-        self.drawn = self.draw(now);
-        self.is_refused = true;
-        self.is_quick = !self.is_leading && !self.was_quick;
-        let wait = if self.is_quick {
-            self.soon()
-        } else {
-            self.lose();
-            self.pause()
-        };
-        self.hold = now.saturating_add(wait);
     }
 
     /// A number that is drawn from the last, the time and the member's own number.
@@ -313,7 +241,7 @@ impl TickTimer {
     }
 
     /// How long an attempt may take: one that waits for promises is one answer, and those that are lost aren't sent
-    /// again.
+    /// again. That doubles with each loss, up to some seconds.
     fn patience(&self) -> u64
         ensures { result ≤ patience_of self.now }
     {
@@ -323,16 +251,9 @@ impl TickTimer {
         } else {
             self.trip.max(self.answer)
         };
-        self.longer(trip.saturating_mul(4).saturating_add(some))
-    }
-
-    /// A time that doubles with each loss, up to some seconds.
-    fn longer(&self, time: u64) -> u64
-        ensures { result ≤ max 4000000 time }
-    {
-        time.saturating_mul(2u64.saturating_pow(self.losses))
-            .min(LONGEST)
-            .max(time)
+        let time = trip.saturating_mul(4).saturating_add(some);
+        let longer = time.saturating_mul(2u64.saturating_pow(self.losses));
+        longer.min(LONGEST).max(time)
     }
 
     /// When a node that lacks entries asks for them or proposes: soon after it is seen that its front doesn't move, and
@@ -347,15 +268,6 @@ impl TickTimer {
         }
     }
 
-    /// Whether a node that lacks entries waits for what it asked for before it proposes what waits: not where it leads,
-    /// was refused, or has got many of them.
-    fn expects(&self, view: View) -> bool {
-        self.is_behind
-            && !view.is_leading
-            && !self.is_refused
-            && view.front < self.asked.saturating_add(STEP)
-    }
-
     /// When the clock is to tick, by what waits.
     fn wanted(&self, view: View) -> u64
         ensures latest { result ≤ latest_of self.now }
@@ -365,11 +277,12 @@ impl TickTimer {
             return self.ticked.saturating_add(self.patience());
         }
         if view.waiting > 0 {
-            return if self.expects(view) {
-                self.hold.max(self.fills())
-            } else {
-                self.hold
-            };
+            // what was asked for is waited for, but not where it leads, was refused, or has got many entries
+            let expects = self.is_behind && !view.is_leading && !self.is_refused;
+            if expects && view.front < self.asked.saturating_add(STEP) {
+                return self.hold.max(self.fills());
+            }
+            return self.hold;
         }
         if !self.is_behind {
             return self.asks;
@@ -379,44 +292,6 @@ impl TickTimer {
         } else {
             self.asks.min(self.fills())
         }
-    }
-
-    /// The same, but not before a part of a round trip is over since it ticked last, unless the front moved.
-    fn due(&self, view: View) -> u64
-        ensures latest { result ≤ latest_of self.now }
-        ensures held { 0 < view.waiting → view.is_attempting ≡ false → self.now.hold ≤ result }
-        ensures rest { self.now.rest ≤ result }
-    {
-        self.wanted(view).max(self.rest)
-    }
-
-    /// The clock has ticked now.
-    fn ticked(&mut self, now: u64)
-        ensures hold { self.new.hold ≡ self.old.hold }
-        ensures moved { self.new.moved ≡ self.old.moved }
-        ensures front { self.new.front ≡ self.old.front }
-        ensures ticked { self.new.ticked ≡ now }
-        ensures rest { self.new.rest ≡ later now (self.new.answer / 5) }
-        ensures as_before { IsAsBefore self.old self.new }
-    {
-        let asks = now.saturating_add(IDLE);
-        let rest = now.saturating_add(self.answer / TICKS);
-        self.ticked = now;
-        self.asks = asks;
-        self.rest = rest;
-    }
-
-    /// What was seen as it ticked, and whether it proposes, is noted.
-    fn note(&mut self, view: View)
-        ensures times { AreTimes self.old self.new }
-        ensures as_before { IsAsBefore self.old self.new }
-    {
-        self.is_first = !view.is_attempting;
-        self.is_proposing = view.waiting > 0;
-        self.was_quick = self.is_quick;
-        self.is_refused = false;
-        self.is_quick = false;
-        self.asked = view.front;
     }
 
     /// An attempt that was under way is given up.
@@ -452,9 +327,18 @@ impl TickTimer {
         ensures as_before { IsAsBefore self.old self.new }
     {
         self.give_up(view);
-        self.note(view);
+        self.is_first = !view.is_attempting;
+        self.is_proposing = view.waiting > 0;
+        self.was_quick = self.is_quick;
+        self.is_refused = false;
+        self.is_quick = false;
+        self.asked = view.front;
         self.begin(now, view);
-        self.ticked(now);
+        let asks = now.saturating_add(IDLE);
+        let rest = now.saturating_add(self.answer / TICKS);
+        self.ticked = now;
+        self.asks = asks;
+        self.rest = rest;
     }
 }
 
@@ -488,8 +372,14 @@ impl Timer for TickTimer {
             hold_of self.new ≤ hold_of self.old }
     {
         self.look(now, view);
-        self.compare(now, view);
-        let due = self.due(view);
+        // whether others have come further
+        let is_behind = view.reached > view.front;
+        if is_behind && !self.is_behind {
+            self.moved = now;
+        }
+        self.is_behind = is_behind;
+        // not before a part of a round trip is over since it ticked last, unless the front moved
+        let due = self.wanted(view).max(self.rest);
         if now >= due {
             self.tick(now, view);
             return Action::Tick;

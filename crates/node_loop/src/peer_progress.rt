@@ -39,10 +39,7 @@ impl PeerProgress {
     pub(crate) fn looked(self) -> PeerProgress
         ensures { result ≡ looked self }
     {
-        PeerProgress {
-            reached: self.reached,
-            ..PeerProgress::new()
-        }
+        PeerProgress::new().reaching(self.reached)
     }
 
     /// The position from which on this member is to be sent what it lacks, if it lacks any of those below the front.
@@ -70,10 +67,8 @@ impl PeerProgress {
     fn reaching(self, position: u32) -> PeerProgress
         ensures { result ≡ reaching position self }
     {
-        PeerProgress {
-            reached: self.reached.max(position),
-            ..self
-        }
+        let reached = self.reached.max(position);
+        PeerProgress { reached, ..self }
     }
 
     /// An entry came that this member had asked for.
@@ -90,10 +85,8 @@ impl PeerProgress {
     fn accepting(self, next: u32) -> PeerProgress
         ensures { result ≡ accepting next self }
     {
-        PeerProgress {
-            accepting: self.accepting.max(next),
-            ..self
-        }
+        let accepting = self.accepting.max(next);
+        PeerProgress { accepting, ..self }
     }
 
     /// With what a message about this position shows beside how far its sender is. A need is answered with its own
@@ -108,14 +101,7 @@ impl PeerProgress {
             Kind::Need => self.lacking(head.from, position.saturating_add(2)),
             Kind::Accept if head.from != head.to => self.accepting(position.saturating_add(1)),
             Kind::Learned => self.with_learned(),
-            Kind::Accept
-            | Kind::Vote
-            | Kind::Promise
-            | Kind::PromiseAll
-            | Kind::Nack
-            | Kind::Ask
-            | Kind::Asked
-            | Kind::AskRefused => self,
+            _ => self,
         }
     }
 

@@ -146,25 +146,8 @@ fn repeat<W: Wire>(
     }
 }
 
-/// A member that others have passed is handed its own votes again that its window has reached: whether there were any.
-fn recall<W: Wire>(
-    wire: &mut W,
-    resender: &mut Resender,
-    peer_progress: &PeerProgress,
-    front: u32,
-) -> bool
-    ensures again { HandsAgain (kept_of resender.old) (W.traffic wire.old) (W.traffic wire.new) }
-    ensures kept { kept_of resender.new ≡ kept_of resender.old }
-    ensures requests { requests_of resender.new ≡ requests_of resender.old }
-    ensures same { W.identity wire.new ≡ W.identity wire.old }
-{
-    if peer_progress.reached > front {
-        return resender.repeat_own(wire, front);
-    }
-    false
-}
-
-/// Both: whether the member was handed any of its own votes.
+/// The same; and a member that others have passed is handed its own votes again that its window has reached: whether
+/// there were any.
 fn resend<W: Wire>(
     wire: &mut W,
     resender: &mut Resender,
@@ -178,7 +161,10 @@ fn resend<W: Wire>(
     ensures same { W.identity wire.new ≡ W.identity wire.old }
 {
     repeat(wire, resender, peer_progress, is_due, front);
-    recall(wire, resender, peer_progress, front)
+    if peer_progress.reached > front {
+        return resender.repeat_own(wire, front);
+    }
+    false
 }
 
 /// Begins a round at this time: nothing went over the wire in it.

@@ -76,12 +76,8 @@ pub fn tick_now<R: Records, W: Wire>(
 {
     buffers.out.clear();
     let result = act(node, None, &mut buffers.out);
-    send_all(
-        wire,
-        buffers.out.as_slice(),
-        &mut buffers.resender,
-        &mut buffers.counts,
-    );
+    let (resender, counts) = (&mut buffers.resender, &mut buffers.counts);
+    send_all(wire, buffers.out.as_slice(), resender, counts);
     result
 }
 
@@ -216,29 +212,15 @@ fn take_one<R: Records, W: Wire>(
         return Ok(false);
     };
     buffers.counts.count_in(bytes.len());
-    if passes_over(
-        wire,
-        &mut buffers.resender,
-        &mut buffers.counts,
-        buffers.hears_asks,
-        bytes,
-    ) {
+    let (resender, counts) = (&mut buffers.resender, &mut buffers.counts);
+    if passes_over(wire, resender, counts, buffers.hears_asks, bytes) {
         return Ok(true);
     }
-    let result = receive(
-        node,
-        &mut buffers.peer_progress,
-        &mut buffers.heads,
-        &mut buffers.resender,
-        bytes,
-        &mut buffers.out,
-    );
-    send_all(
-        wire,
-        buffers.out.as_slice(),
-        &mut buffers.resender,
-        &mut buffers.counts,
-    );
+    let (progress, heads) = (&mut buffers.peer_progress, &mut buffers.heads);
+    let (resender, out) = (&mut buffers.resender, &mut buffers.out);
+    let result = receive(node, progress, heads, resender, bytes, out);
+    let (resender, counts) = (&mut buffers.resender, &mut buffers.counts);
+    send_all(wire, buffers.out.as_slice(), resender, counts);
     match result {
         Ok(()) => Ok(true),
         Err(fault) => Err(fault),

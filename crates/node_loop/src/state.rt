@@ -44,7 +44,7 @@ pub(crate) struct Sent {
 }
 
 /// What was sent to a member of the votes.
-#[derive(Clone, Copy)]
+#[derive(Clone, Copy, Default)]
 pub(crate) struct ResendProgress {
     /// The first position that it lacked when it was looked at last.
     pub(crate) from: u32,

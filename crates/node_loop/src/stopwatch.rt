@@ -36,19 +36,11 @@ impl<C: Clock> Stopwatch for SystemClock<'_, C> {
 fn between(start: Option<Instant>, now: Option<Instant>) -> u64
     ensures { result ≡ between start now }
 {
-    match start {
-        Some(start) => match now {
-            Some(now) => {
-                let passed = now
-                    .duration_since(start)
-                    .as_micros()
-                    .min(u128::from(u64::MAX));
-                passed as u64
-            }
-            None => 0,
-        },
-        None => 0,
-    }
+    let (Some(start), Some(now)) = (start, now) else {
+        return 0;
+    };
+    let passed = now.duration_since(start).as_micros();
+    passed.min(u128::from(u64::MAX)) as u64
 }
 
 /// The time since a reading of the clock, which is read once for that, in microseconds; none has passed where the clock

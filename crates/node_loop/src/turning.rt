@@ -97,11 +97,7 @@ pub fn turn<R: Records, W: Wire>(
     buffers.out.clear();
     let len = hear(wire, &mut buffers.bytes);
     let result = act(node, came(&buffers.bytes, len), &mut buffers.out);
-    send_all(
-        wire,
-        buffers.out.as_slice(),
-        &mut buffers.resender,
-        &mut buffers.counts,
-    );
+    let (resender, counts) = (&mut buffers.resender, &mut buffers.counts);
+    send_all(wire, buffers.out.as_slice(), resender, counts);
     result
 }

@@ -42,11 +42,8 @@ impl ResendProgress {
     fn new(room: usize) -> ResendProgress {
         ResendProgress {
             from: u32::MAX,
-            steps: 0,
-            end: 0,
-            again: 0,
             room,
-            filled: 0,
+            ..ResendProgress::default()
         }
     }
 
@@ -82,25 +79,20 @@ impl ResendProgress {
 
     /// The same after votes up to before this position were sent, if any were.
     fn after(self, from: u32, votes: Stretch, now: u64) -> ResendProgress {
-        let seen = ResendProgress {
-            from,
-            steps: self.steps(from),
-            ..self
-        };
-        match votes.position {
-            Some(end) => ResendProgress {
-                end,
-                again: now.saturating_add(PAUSE),
-                room: votes.room,
-                ..seen
-            },
-            None => seen,
+        let mut seen = self;
+        seen.from = from;
+        seen.steps = self.steps(from);
+        if let Some(end) = votes.position {
+            seen.end = end;
+            seen.again = now.saturating_add(PAUSE);
+            seen.room = votes.room;
         }
+        seen
     }
 }
 
 /// Votes in a row, among which a member's are sent to it.
-#[derive(Clone, Copy)]
+#[derive(Clone, Copy, Default)]
 pub(crate) struct Stretch {
     /// The number of the first.
     begin: usize,
@@ -151,15 +143,9 @@ impl Votes {
 
     /// Whether this member's vote at the position is kept, which is that of the last.
     fn has(&self, position: u32, to: u8) -> bool {
-        for vote in self.votes.iter().rev() {
-            if vote.position != position {
-                return false;
-            }
-            if vote.to == to {
-                return true;
-            }
-        }
-        false
+        let last = self.votes.iter().rev();
+        let mut votes = last.take_while(|vote| vote.position == position);
+        votes.any(|vote| vote.to == to)
     }
 
     /// Lets the oldest go, as long as there is no room for one more of that many bytes.
@@ -281,12 +267,7 @@ impl Votes {
     pub(crate) fn walk(&mut self, to: u8, from: u32, now: u64) -> Stretch
         ensures { votes_in self.new ≡ votes_in self.old }
     {
-        let mut all = Stretch {
-            begin: 0,
-            end: 0,
-            position: None,
-            room: 0,
-        };
+        let mut all = Stretch::default();
         let resent = match self.resent.get(usize::from(to)) {
             Some(resent) => resent.emptied(self.room, now),
             None => return all,

@@ -4,5 +4,6 @@ pub mod Budget
 pub mod Logged
 pub mod HitsCounted
 mod Digits
+mod Names
 mod Behind
 mod Posted

@@ -10,6 +10,11 @@ use pf_config::Config;
 use pf_scripts::{list, push_refusal};
 use std::alloc::{AllocError, Global};
 
+/// What pushes onto a text, and what makes an answer, gives.
+pub(crate) type Pushed = Result<(), AllocError>;
+
+pub(crate) type Answered = Result<Answer, AllocError>;
+
 /// What is answered: HTTP's status, and the body, which is what an operator reads.
 #[derive(Drop)]
 pub struct Answer {
@@ -62,11 +67,7 @@ impl Answer {
     }
 
     /// What an action lists at a configuration, or its refusal.
-    pub(crate) fn listed(
-        alloc: Global,
-        config: &Config,
-        action: &Action,
-    ) -> Result<Answer, AllocError>
+    pub(crate) fn listed(alloc: Global, config: &Config, action: &Action) -> Answered
         ensures { IfOk result (λ a. answer_value a ≡ answered (listed config.now (action_value action.now))) }
     {
         match list(alloc, config, action)? {

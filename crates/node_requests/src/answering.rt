@@ -37,10 +37,7 @@ fn with_number(accepted: Option<(u64, u64)>, changed: Changed) -> Option<(u64, u
 {
     match changed {
         Changed::Refused(_) | Changed::Memory => accepted,
-        Changed::Asked(_, number) => {
-            let first = accepted.map_or(number, |(first, _)| first);
-            Some((first, number))
-        }
+        Changed::Asked(_, number) => Some((accepted.map_or(number, |(first, _)| first), number)),
     }
 }
 

@@ -135,13 +135,11 @@ fn left_after(config: &Config, anchor: &Anchor, depth: u8, left: u32) -> Option<
 fn met(config: &Config) -> Option<u32>
     ensures { result ≡ within MET_MAX (most_met NESTED config.now []) }
 {
-    match config.anchor(&[]) {
-        Some(main) => {
-            let left = left_after(config, main, NESTED, MET_MAX)?;
-            Some(MET_MAX - left)
-        }
-        None => Some(0),
-    }
+    let Some(main) = config.anchor(&[]) else {
+        return Some(0);
+    };
+    let left = left_after(config, main, NESTED, MET_MAX)?;
+    Some(MET_MAX - left)
 }
 
 /// For how many packets one request is answered: none where a verdict may meet more rules than verdicts may.

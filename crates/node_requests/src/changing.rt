@@ -3,11 +3,11 @@
 ghost use Rattle.std.specs.Prelude.{◌≡◌, IfOk};
 ghost use Rattle.pf_entry.specs.Owned.{command_value};
 ghost use Rattle.node_requests.specs.Answers.{answer_value};
-ghost use Rattle.node_requests.specs.Changing.{Changes, AskedOnce, has_position, refused_by, change_answer};
+ghost use Rattle.node_requests.specs.Changing.{Changes, AskedOnce, has_position, change_answer};
 
 use crate::answer::Answer;
 use crate::figures::positions_left;
-use pf_node::{Command, Node, NodeFault};
+use pf_node::{Command, Node};
 use px_records::Records;
 use std::alloc::{AllocError, Global};
 
@@ -22,15 +22,6 @@ pub enum Changed {
     Memory,
 }
 
-/// What a fault of an ask is answered with.
-fn refused_by(fault: NodeFault) -> Changed
-    ensures { result ≡ refused_by fault }
-{
-    fault
-        .code()
-        .map_or(Changed::Memory, |code| Changed::Refused(code))
-}
-
 /// Asks the node to accept the command.
 fn ask_once<R: Records>(node: &mut Node<R>, command: &Command) -> Changed
     ensures { AskedOnce node.old node.new (command_value command.now) result }
@@ -38,7 +29,9 @@ fn ask_once<R: Records>(node: &mut Node<R>, command: &Command) -> Changed
     let me = node.membership().me();
     match node.ask(command) {
         Ok(number) => Changed::Asked(me, number),
-        Err(fault) => refused_by(fault),
+        Err(fault) => fault
+            .code()
+            .map_or(Changed::Memory, |code| Changed::Refused(code)),
     }
 }
 
@@ -73,10 +66,7 @@ impl Changed {
                 Ok(Answer { code: 202, body })
             }
             Changed::Refused(code) => Answer::refused(alloc, code, 0),
-            Changed::Memory => Ok(Answer {
-                code: 503,
-                body: String::new(alloc),
-            }),
+            Changed::Memory => Answer::of(alloc, 503, ""),
         }
     }
 }

@@ -5,7 +5,7 @@ ghost use Rattle.pf_node.specs.Nodes.{learned_by};
 ghost use Rattle.node_requests.specs.Answers.{answer_value};
 ghost use Rattle.node_requests.specs.EntryLines.{entry_line, line_shown, lines_before, entries_answer, log_answer};
 
-use crate::answer::Answer;
+use crate::answer::{Answer, Answered, Pushed};
 use crate::positions::push_position;
 use pf_node::Node;
 use pf_scripts::push_line;
@@ -29,25 +29,18 @@ enum Show {
 }
 
 /// Puts the line of a position's entry behind the text.
-fn push_entry<R: Records>(out: &mut String, node: &Node<R>, position: u32) -> Result<(), AllocError>
+fn push_entry<R: Records>(out: &mut String, node: &Node<R>, position: u32) -> Pushed
     ensures { OnOk result (string_bytes out.new ≡ string_bytes out.old ++ entry_line (learned_by node.now) position) }
 {
-    match node.learned(position) {
-        Some(bytes) => {
-            let digits = hex::encode(*out.allocator(), bytes)?;
-            push_line(out, digits.as_str())
-        }
-        None => Ok(()),
-    }
+    let Some(bytes) = node.learned(position) else {
+        return Ok(());
+    };
+    let digits = hex::encode(*out.allocator(), bytes)?;
+    push_line(out, digits.as_str())
 }
 
 /// Puts what is shown of a position behind the text.
-fn push_shown<R: Records>(
-    out: &mut String,
-    node: &Node<R>,
-    show: Show,
-    position: u32,
-) -> Result<(), AllocError>
+fn push_shown<R: Records>(out: &mut String, node: &Node<R>, show: Show, position: u32) -> Pushed
     ensures { OnOk result (string_bytes out.new ≡ string_bytes out.old ++ line_shown show node.now position) }
 {
     match show {
@@ -102,11 +95,7 @@ pub(crate) fn entries<R: Records>(
 /// The log from a position on, or its last 20 lines: the positions that are applied, each a line with the member that
 /// accepted its command, the number there, the command's arguments and its outcome. It ends after 1,000 lines, and
 /// after the line with which it has 262,144 bytes.
-pub(crate) fn log<R: Records>(
-    alloc: Global,
-    node: &Node<R>,
-    from: Option<u32>,
-) -> Result<Answer, AllocError>
+pub(crate) fn log<R: Records>(alloc: Global, node: &Node<R>, from: Option<u32>) -> Answered
     ensures { IfOk result (λ a. answer_value a ≡ log_answer node.now from) }
 {
     let applied = node.applied();

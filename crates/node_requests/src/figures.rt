@@ -1,14 +1,14 @@
 //! A node in numbers.
 
-ghost use Rattle.std.specs.Prelude.{◌≡◌, IfOk, ◌+◌, ◌-◌, length, map, min, option_copied};
+ghost use Rattle.std.specs.Prelude.{◌≡◌, IfOk, ◌+◌, ◌-◌, length, map, min};
 ghost use Rattle.pf_config.specs.Map.{rules_at, table_names};
 ghost use Rattle.px_model.specs.Step.{front, positions};
 ghost use Rattle.pf_node.specs.Nodes.{learned_by};
 ghost use Rattle.node_requests.specs.Requests.{AreFigures};
-ghost use Rattle.node_requests.specs.Sizes.{entries_of, entries_at};
+ghost use Rattle.node_requests.specs.Sizes.{entries_at};
 ghost use Rattle.node_requests.specs.inner.Counts.{AreCounts};
 
-use pf_config::{Config, Table};
+use pf_config::Config;
 use pf_node::Node;
 use pf_rules::Name;
 use px_core::POSITIONS;
@@ -55,20 +55,16 @@ struct Counts {
     addresses: usize,
 }
 
-/// How many entries a table has, none where it isn't there.
-fn entries_of(table: Option<&Table>) -> usize
-    ensures { result ≡ entries_of (option_copied table.entry) }
-{
-    table.map_or(0, |table| table.entry_count())
-}
-
 /// How many entries the tables of a path have.
 fn entries_at(config: &Config, path: &[Name], names: &[&str]) -> usize
     ensures { result ≡ entries_at config.now path.now (map (λ n. n.now) names.now) }
 {
     let mut entries = 0usize;
     for name in names {
-        entries = entries.saturating_add(entries_of(config.table(path, name)));
+        let found = config
+            .table(path, name)
+            .map_or(0, |table| table.entry_count());
+        entries = entries.saturating_add(found);
     }
     entries
 }

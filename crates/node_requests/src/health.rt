@@ -2,8 +2,8 @@
 
 ghost use Rattle.std.specs.Prelude.{◌≡◌, ◌≤◌, ◌+◌, IfOk, length, take};
 ghost use Rattle.node_requests.specs.Answers.{answer_value};
-ghost use Rattle.node_requests.specs.Health.{is_recent, is_shown, health_by, health_word, health_code};
-ghost use Rattle.node_requests.specs.Health.{ready_code, counted, health, health_answer, ready_answer};
+ghost use Rattle.node_requests.specs.Health.{is_recent, is_shown, health_word};
+ghost use Rattle.node_requests.specs.Health.{counted, health, health_answer, ready_answer};
 
 use crate::answer::Answer;
 use crate::counters::{Counters, PeerCounters};
@@ -89,35 +89,21 @@ impl Health {
         }
     }
 
-    /// 503 of a failed one alone.
-    fn health_code(self) -> u16
-        ensures { result ≡ health_code self }
-    {
-        if self == Health::Failed { 503 } else { 200 }
-    }
-
-    /// 200 of one that works alone.
-    fn ready_code(self) -> u16
-        ensures { result ≡ ready_code self }
-    {
-        if self == Health::Works { 200 } else { 503 }
-    }
-
-    /// Whether the node works at all.
+    /// Whether the node works at all: 503 of a failed one alone.
     pub(crate) fn health_answer(self, alloc: Global) -> Result<Answer, AllocError>
         ensures { IfOk result (λ a. answer_value a ≡ health_answer self) }
     {
-        let code = self.health_code();
         let body = format!(in alloc; "{}\n", self.word())?;
+        let code = if self == Health::Failed { 503 } else { 200 };
         Ok(Answer { code, body })
     }
 
-    /// Whether it is up with the others.
+    /// Whether it is up with the others: 200 of one that works alone.
     pub(crate) fn ready_answer(self, alloc: Global) -> Result<Answer, AllocError>
         ensures { IfOk result (λ a. answer_value a ≡ ready_answer self) }
     {
-        let code = self.ready_code();
         let body = format!(in alloc; "{}\n", self.word())?;
+        let code = if self == Health::Works { 200 } else { 503 };
         Ok(Answer { code, body })
     }
 }

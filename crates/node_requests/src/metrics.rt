@@ -1,20 +1,26 @@
 //! Numbers for Prometheus, in its text format 0.0.4.
 
-ghost use Rattle.std.specs.Prelude.{◌≡◌, ◌++◌, IfOk, OnOk, map, string_bytes};
-ghost use Rattle.node_requests.specs.Metrics.{heading, metrics_of, samples_of, figure_of};
+ghost use Rattle.std.specs.Prelude.{◌≡◌, ◌++◌, ℕ, List, IfOk, OnOk, map, string_bytes};
+ghost use Rattle.std.specs.List.{flat_map};
+ghost use Rattle.node_requests.specs.Metrics.{heading, metrics_of, sample, figure_of};
 ghost use Rattle.node_requests.specs.Metrics.{is_at, node_metrics, health_metrics, config_metrics, loop_metrics};
 ghost use Rattle.node_requests.specs.Metrics.{control_metrics, peer_heading, peers_of, metrics_text};
 ghost use Rattle.node_requests.specs.Answers.{answer_value, shown};
 
-use crate::answer::Answer;
+use crate::answer::{Answer, Answered, Pushed};
 use crate::counters::{Counters, PeerCounters};
 use crate::figures::Figures;
 use crate::health::Health;
-use std::alloc::{AllocError, Global};
+use std::alloc::Global;
+
+/// Metrics of one kind, a line each: its name, its number, and what it is for.
+macro_rules! rows {
+    ($($name:literal = $value:expr, $help:literal;)*) => { [$(($name, $help, $value)),*] };
+}
 
 /// Puts what a metric is for, and its kind, behind the output.
 #[tactic(auto, unfolding(crate::specs::Metrics::heading))]
-fn push_heading(out: &mut String, kind: &str, name: &str, help: &str) -> Result<(), AllocError>
+fn push_heading(out: &mut String, kind: &str, name: &str, help: &str) -> Pushed
     ensures { OnOk result (string_bytes out.new
         ≡ string_bytes out.old ++ heading kind.now name.now help.now) }
 {
@@ -22,7 +28,7 @@ fn push_heading(out: &mut String, kind: &str, name: &str, help: &str) -> Result<
 }
 
 /// Puts metrics of one kind behind the output.
-fn push_metrics(out: &mut String, kind: &str, rows: &[(&str, &str, u64)]) -> Result<(), AllocError>
+fn push_metrics(out: &mut String, kind: &str, rows: &[(&str, &str, u64)]) -> Pushed
     ensures { OnOk result (string_bytes out.new
         ≡ string_bytes out.old ++ metrics_of kind.now (map (λ r. (r.0.now, r.1.now, r.2)) rows.now)) }
 {
@@ -33,20 +39,13 @@ fn push_metrics(out: &mut String, kind: &str, rows: &[(&str, &str, u64)]) -> Res
     Ok(())
 }
 
-/// Puts one metric of several numbers behind the output.
+/// Puts the numbers of one metric behind the output.
 #[tactic(auto, unfolding(crate::specs::Metrics::sample))]
-fn push_samples(
-    out: &mut String,
-    kind: &str,
-    name: &str,
-    help: &str,
-    label: &str,
-    rows: &[(&str, u64)],
-) -> Result<(), AllocError>
+fn push_samples(out: &mut String, name: &str, label: &str, rows: &[(&str, u64)]) -> Pushed
     ensures { OnOk result (string_bytes out.new ≡ string_bytes out.old
-        ++ samples_of kind.now name.now help.now label.now (map (λ r. (r.0.now, r.1)) rows.now)) }
+        ++ flat_map (λ (r : List ℕ × ℕ). sample name.now label.now r.0 r.1)
+        (map (λ r. (r.0.now, r.1)) rows.now)) }
 {
-    push_heading(out, kind, name, help)?;
     for (of, value) in rows {
         writeln!(out, "{name}{{{label}=\"{of}\"}} {value}")?;
     }
@@ -97,11 +96,7 @@ fn peer_heading(figure: PeerFigure) -> (&'static str, &'static str, &'static str
 
 /// Puts a figure of peers behind the output, by their numbers as members, but for those that have none.
 #[tactic(auto, unfolding(crate::specs::Metrics::peers_of, crate::specs::Metrics::sample))]
-fn push_peers(
-    out: &mut String,
-    figure: PeerFigure,
-    peers: &[PeerCounters],
-) -> Result<(), AllocError>
+fn push_peers(out: &mut String, figure: PeerFigure, peers: &[PeerCounters]) -> Pushed
     ensures { OnOk result (string_bytes out.new ≡ string_bytes out.old ++ peers_of figure peers.now) }
 {
     let (kind, name, help) = peer_heading(figure);
@@ -115,37 +110,18 @@ fn push_peers(
 }
 
 /// How far the node is, how its store is, and how many members there are.
-fn push_node(out: &mut String, f: &Figures) -> Result<(), AllocError>
+fn push_node(out: &mut String, f: &Figures) -> Pushed
     ensures { OnOk result (string_bytes out.new ≡ string_bytes out.old ++ node_metrics f.now) }
 {
-    push_metrics(
-        out,
-        "gauge",
-        &[
-            (
-                "pfx_front",
-                "Least position not learned.",
-                u64::from(f.front),
-            ),
-            ("pfx_applied", "Positions applied.", u64::from(f.applied)),
-            ("pfx_round", "Round of the last prepare.", f.round),
-            (
-                "pfx_waiting",
-                "Commands asked here and not learned yet.",
-                f.waiting as u64,
-            ),
-            (
-                "pfx_failed",
-                "1 after a fault of the store.",
-                u64::from(f.has_failed),
-            ),
-            (
-                "pfx_members",
-                "Members of the cluster.",
-                u64::from(f.members),
-            ),
-        ],
-    )
+    let rows = rows! {
+        "pfx_front" = u64::from(f.front), "Least position not learned.";
+        "pfx_applied" = u64::from(f.applied), "Positions applied.";
+        "pfx_round" = f.round, "Round of the last prepare.";
+        "pfx_waiting" = f.waiting as u64, "Commands asked here and not learned yet.";
+        "pfx_failed" = u64::from(f.has_failed), "1 after a fault of the store.";
+        "pfx_members" = u64::from(f.members), "Members of the cluster.";
+    };
+    push_metrics(out, "gauge", &rows)
 }
 
 /// 1 of the same health, 0 of another one.
@@ -156,103 +132,64 @@ fn is_at(state: Health, health: Health) -> u64
 }
 
 /// The node's health: 1 at that one, and 0 at each other.
-fn push_health(out: &mut String, health: Health) -> Result<(), AllocError>
+fn push_health(out: &mut String, health: Health) -> Pushed
     ensures { OnOk result (string_bytes out.new ≡ string_bytes out.old ++ health_metrics health) }
 {
-    push_samples(
-        out,
-        "gauge",
-        "pfx_health",
-        "1 for the health of the node now.",
-        "state",
-        &[
-            ("ok", is_at(Health::Works, health)),
-            ("behind", is_at(Health::Behind, health)),
-            ("alone", is_at(Health::Alone, health)),
-            ("stuck", is_at(Health::Stuck, health)),
-            ("failed", is_at(Health::Failed, health)),
-        ],
-    )
+    let help = "1 for the health of the node now.";
+    push_heading(out, "gauge", "pfx_health", help)?;
+    let rows = [
+        ("ok", is_at(Health::Works, health)),
+        ("behind", is_at(Health::Behind, health)),
+        ("alone", is_at(Health::Alone, health)),
+        ("stuck", is_at(Health::Stuck, health)),
+        ("failed", is_at(Health::Failed, health)),
+    ];
+    push_samples(out, "pfx_health", "state", &rows)
 }
 
 /// How much its configuration has.
-fn push_config(out: &mut String, f: &Figures) -> Result<(), AllocError>
+fn push_config(out: &mut String, f: &Figures) -> Pushed
     ensures { OnOk result (string_bytes out.new ≡ string_bytes out.old ++ config_metrics f.now) }
 {
-    push_metrics(
-        out,
-        "gauge",
-        &[
-            (
-                "pfx_anchors",
-                "Paths with rules or tables.",
-                f.anchors as u64,
-            ),
-            ("pfx_rules", "Rules at all paths.", f.rules as u64),
-            ("pfx_tables", "Tables at all paths.", f.tables as u64),
-            (
-                "pfx_table_addresses",
-                "Entries in all tables.",
-                f.addresses as u64,
-            ),
-        ],
-    )
+    let rows = rows! {
+        "pfx_anchors" = f.anchors as u64, "Paths with rules or tables.";
+        "pfx_rules" = f.rules as u64, "Rules at all paths.";
+        "pfx_tables" = f.tables as u64, "Tables at all paths.";
+        "pfx_table_addresses" = f.addresses as u64, "Entries in all tables.";
+    };
+    push_metrics(out, "gauge", &rows)
 }
 
 /// What the loop counted.
-fn push_loop(out: &mut String, t: &Counters) -> Result<(), AllocError>
+fn push_loop(out: &mut String, t: &Counters) -> Pushed
     ensures { OnOk result (string_bytes out.new ≡ string_bytes out.old ++ loop_metrics t.now) }
 {
-    push_metrics(
-        out,
-        "counter",
-        &[
-            (
-                "pfx_unsent_total",
-                "Datagrams that the system failed to send.",
-                t.unsent,
-            ),
-            (
-                "pfx_dropped_total",
-                "Datagrams dropped: a wrong tag, an ask, or a part of one.",
-                t.dropped,
-            ),
-            (
-                "pfx_ignored_total",
-                "Datagrams that aren't for this member.",
-                t.ignored,
-            ),
-            ("pfx_turns_total", "Turns of the node.", t.turns),
-            ("pfx_ticks_total", "Ticks of its clock.", t.ticks),
-        ],
-    )
+    let rows = rows! {
+        "pfx_unsent_total" = t.unsent, "Datagrams that the system failed to send.";
+        "pfx_dropped_total" = t.dropped, "Datagrams dropped: a wrong tag, an ask, or a part of one.";
+        "pfx_ignored_total" = t.ignored, "Datagrams that aren't for this member.";
+        "pfx_turns_total" = t.turns, "Turns of the node.";
+        "pfx_ticks_total" = t.ticks, "Ticks of its clock.";
+    };
+    push_metrics(out, "counter", &rows)
 }
 
 /// How many requests were answered.
-fn push_control(out: &mut String, t: &Counters) -> Result<(), AllocError>
+fn push_control(out: &mut String, t: &Counters) -> Pushed
     ensures { OnOk result (string_bytes out.new ≡ string_bytes out.old ++ control_metrics t.now) }
 {
-    push_samples(
-        out,
-        "counter",
-        "pfx_control_requests_total",
-        "Requests at the control socket, by HTTP status.",
-        "code",
-        &[
-            ("2xx", t.served),
-            ("4xx", t.refused),
-            ("5xx", t.unavailable),
-        ],
-    )
+    let help = "Requests at the control socket, by HTTP status.";
+    push_heading(out, "counter", "pfx_control_requests_total", help)?;
+    let rows = [
+        ("2xx", t.served),
+        ("4xx", t.refused),
+        ("5xx", t.unavailable),
+    ];
+    push_samples(out, "pfx_control_requests_total", "code", &rows)
 }
 
 /// A node's numbers for Prometheus.
-pub(crate) fn metrics(
-    alloc: Global,
-    f: &Figures,
-    health: Health,
-    t: &Counters,
-) -> Result<Answer, AllocError>
+pub(crate) fn metrics(alloc: Global, f: &Figures, health: Health, t: &Counters) -> Answered
     ensures { IfOk result (λ a. answer_value a ≡ shown (metrics_text f.now health t.now)) }
 {
     let mut body = String::new(alloc);

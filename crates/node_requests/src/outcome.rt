@@ -7,12 +7,12 @@ ghost use Rattle.pf_node.specs.Nodes.{learned_by, applied_of, kept_of};
 ghost use Rattle.node_requests.specs.Outcomes.{kept_line};
 ghost use Rattle.node_requests.specs.inner.Outcomes.{outcome_line, counts_read, counts_in};
 
+use crate::answer::Pushed;
 use pf_command::Applied;
 use pf_entry::decode;
 use pf_node::{Node, Outcome};
 use pf_scripts::{is_counted, push_counts, push_refusal};
 use px_records::Records;
-use std::alloc::AllocError;
 
 /// Whether the counts of the command that bytes spell are shown.
 fn counts_read(bytes: &[u8]) -> bool
@@ -31,7 +31,7 @@ fn counts_at<R: Records>(node: &Node<R>, position: u32) -> bool
 }
 
 /// Puts an outcome behind the text.
-fn push_line(out: &mut String, counts: bool, outcome: Outcome) -> Result<(), AllocError>
+fn push_line(out: &mut String, counts: bool, outcome: Outcome) -> Pushed
     ensures { OnOk result (string_bytes out.new ≡ string_bytes out.old ++ outcome_line counts outcome) }
 {
     match outcome {
@@ -44,11 +44,7 @@ fn push_line(out: &mut String, counts: bool, outcome: Outcome) -> Result<(), All
 /// Puts what came of the command at a position behind the text, a line as a script prints it; nothing where that isn't
 /// kept any more.
 #[tactic(auto, using(crate::proofs::Lines::line_kept))]
-pub fn push_outcome<R: Records>(
-    out: &mut String,
-    node: &Node<R>,
-    position: u32,
-) -> Result<(), AllocError>
+pub fn push_outcome<R: Records>(out: &mut String, node: &Node<R>, position: u32) -> Pushed
     ensures { OnOk result (string_bytes out.new ≡ string_bytes out.old
         ++ kept_line (learned_by node.now) (applied_of node.now) (kept_of node.now) position) }
 {

@@ -81,14 +81,7 @@ fn is_value(name: &str, value: &str) -> bool
 fn has_name(name: &str, given: &[Parameter]) -> bool
     ensures { result ≡ has_name name.now (pairs_of given.now) }
 {
-    let mut left = given;
-    while let [first, rest @ ..] = left {
-        if first.name.as_str() == name {
-            return true;
-        }
-        left = rest;
-    }
-    false
+    value_of(name, given).is_some()
 }
 
 /// Whether each is one that the target takes, has a value of its form, and no name is given twice.

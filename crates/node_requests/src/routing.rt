@@ -9,8 +9,8 @@ ghost use Rattle.pf_arguments.specs.Asked.{Asked};
 ghost use Rattle.node_requests.specs.inner.Parameters.{pairs_of};
 ghost use Rattle.node_requests.specs.Routing.{is_newline, change_asked, lines_in, reads, routed_value, lists};
 ghost use Rattle.node_requests.specs.Routing.{looked_up, entry_asked};
-ghost use Rattle.node_requests.specs.Routing.{test_asked, log_asked, entries_asked, asked_at, target_asked};
-ghost use Rattle.node_requests.specs.Routing.{plain_asked, request_number, status_asked, behind, routed, read_value};
+ghost use Rattle.node_requests.specs.Routing.{test_asked, asked_at, target_asked};
+ghost use Rattle.node_requests.specs.Routing.{request_number, status_asked, plain_asked, behind, routed, read_value};
 
 use crate::listing::{rules, table, table_test, tables};
 use crate::query::{Parameter, are_parameters, number_in, parameters, position_of};
@@ -22,6 +22,9 @@ use std::alloc::{AllocError, Global};
 
 /// How many packets one request may have.
 const PACKETS_MAX: usize = 64;
+
+/// What is asked for, when out of memory nothing.
+type Asked<'a> = Result<Routed<'a>, AllocError>;
 
 /// The bytes before the first newline, and those behind it.
 fn cut_at_newline(body: &[u8]) -> (&[u8], &[u8])
@@ -53,10 +56,7 @@ fn lines(alloc: Global, text: &str) -> Result<Vec<&str>, AllocError>
 fn lines_in(alloc: Global, body: &[u8]) -> Result<Option<Vec<&str>>, AllocError>
     ensures { IfOk result (λ found. option_map (λ v. map (λ w. w.now) v.items) found ≡ lines_in body.now) }
 {
-    match text_of(body) {
-        Some(text) => Ok(Some(lines(alloc, text)?)),
-        None => Ok(None),
-    }
+    text_of(body).map(|text| lines(alloc, text)).transpose()
 }
 
 /// `N.NUMBER`
@@ -69,7 +69,7 @@ fn request_number(text: &str) -> Option<(u8, u64)>
 }
 
 /// A change: its arguments are the first line, the text is what is behind it.
-fn change_in<'a>(alloc: Global, body: &[u8]) -> Result<Routed<'a>, AllocError>
+fn change_in<'a>(alloc: Global, body: &[u8]) -> Asked<'a>
     ensures { IfOk result (λ r. routed_value r ≡ change_asked body.now) }
 {
     let (line, text) = cut_at_newline(body);
@@ -86,7 +86,7 @@ fn change_in<'a>(alloc: Global, body: &[u8]) -> Result<Routed<'a>, AllocError>
 }
 
 /// A change as an entry's bytes; the entry's origin and number don't count.
-fn entry_in<'a>(alloc: Global, body: &[u8]) -> Result<Routed<'a>, AllocError>
+fn entry_in<'a>(alloc: Global, body: &[u8]) -> Asked<'a>
     ensures { IfOk result (λ r. routed_value r ≡ entry_asked body.now) }
 {
     match decode(body) {
@@ -107,10 +107,7 @@ fn reads<'a>(given: &[Parameter], read: Read<'a>) -> Routed<'a>
 
 /// A read of what an action lists, or the number of its refusal.
 #[tactic(auto, using(pf_scripts::proofs::Acted::fault_numbered))]
-fn lists<'a>(
-    given: &[Parameter],
-    asked: Result<Action, CommandFault>,
-) -> Result<Routed<'a>, AllocError>
+fn lists<'a>(given: &[Parameter], asked: Result<Action, CommandFault>) -> Asked<'a>
     ensures { (a : Asked) → Answers asked a → IfOk result (λ r. routed_value r ≡ lists (pairs_of given.now) a) }
 {
     match asked {
@@ -128,7 +125,7 @@ fn table_test_in(alloc: Global, given: &[Parameter], body: &[u8]) -> Result<Acti
 }
 
 /// The verdicts for a line's packet each.
-fn test_in<'a>(alloc: Global, given: &[Parameter], body: &'a [u8]) -> Result<Routed<'a>, AllocError>
+fn test_in<'a>(alloc: Global, given: &[Parameter], body: &'a [u8]) -> Asked<'a>
     ensures { IfOk result (λ r. routed_value r ≡ test_asked (pairs_of given.now) body.now) }
 {
     let Some(packets) = lines_in(alloc, body)? else {
@@ -147,7 +144,7 @@ fn asked_at<'a>(
     given: &[Parameter],
     body: &'a [u8],
     json: bool,
-) -> Result<Routed<'a>, AllocError>
+) -> Asked<'a>
     ensures { IfOk result (λ r. routed_value r ≡ asked_at target (pairs_of given.now) body.now json) }
 {
     let from = position_of("from", given);
@@ -179,7 +176,7 @@ fn target_asked<'a>(
     query: &str,
     body: &'a [u8],
     json: bool,
-) -> Result<Routed<'a>, AllocError>
+) -> Asked<'a>
     ensures { IfOk result (λ r. routed_value r ≡ target_asked target query.now body.now json) }
 {
     let given = parameters(alloc, query)?;
@@ -190,12 +187,7 @@ fn target_asked<'a>(
 }
 
 /// What the path behind `/v1/requests/` asks for: what became of that request.
-fn status_asked<'a>(
-    alloc: Global,
-    method: &str,
-    name: &str,
-    query: &str,
-) -> Result<Routed<'a>, AllocError>
+fn status_asked<'a>(alloc: Global, method: &str, name: &str, query: &str) -> Asked<'a>
     ensures { IfOk result (λ r. routed_value r ≡ status_asked method.now name.now query.now) }
 {
     let Some((origin, number)) = request_number(name) else {
@@ -219,7 +211,7 @@ fn plain_asked<'a>(
     query: &str,
     body: &'a [u8],
     json: bool,
-) -> Result<Routed<'a>, AllocError>
+) -> Asked<'a>
     ensures { IfOk result (λ r. routed_value r ≡ plain_asked method.now path.now query.now body.now json) }
 {
     let Some(target) = Target::of(path) else {
@@ -250,7 +242,7 @@ pub fn request_in<'a>(
     query: &str,
     body: &'a [u8],
     json: bool,
-) -> Result<Routed<'a>, AllocError>
+) -> Asked<'a>
     ensures { IfOk result (λ r. routed_value r ≡ routed method.now path.now query.now body.now json) }
 {
     match behind(path) {

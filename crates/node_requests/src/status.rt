@@ -7,7 +7,7 @@ ghost use Rattle.node_requests.specs.Status.{identity, progress, stall, sizes, p
 ghost use Rattle.node_requests.specs.Status.{written, words, peer_line, status_lines};
 ghost use Rattle.node_requests.specs.Answers.{answer_value, shown};
 
-use crate::answer::Answer;
+use crate::answer::{Answer, Answered};
 use crate::counters::{Counters, PeerCounters};
 use crate::figures::Figures;
 use crate::health::Health;
@@ -157,12 +157,7 @@ fn push_peers(out: &mut String, peers: &[PeerCounters]) -> Result<(), AllocError
 }
 
 /// The lines of a node's status.
-pub(crate) fn status(
-    alloc: Global,
-    f: &Figures,
-    h: Health,
-    t: &Counters,
-) -> Result<Answer, AllocError>
+pub(crate) fn status(alloc: Global, f: &Figures, h: Health, t: &Counters) -> Answered
     ensures { IfOk result (λ a. answer_value a ≡ shown (status_lines f.now h t.now)) }
 {
     let mut body = String::new(alloc);

@@ -56,17 +56,7 @@ impl Target {
         match self {
             Target::Changes | Target::Entry | Target::TableTest | Target::Test | Target::Stop =>
                 "POST",
-            Target::Requests
-            | Target::Rules
-            | Target::Tables
-            | Target::Anchors
-            | Target::Table
-            | Target::Log
-            | Target::Entries
-            | Target::Status
-            | Target::Health
-            | Target::Ready
-            | Target::Metrics => "GET",
+            _ => "GET",
         }
     }
 
@@ -80,12 +70,7 @@ impl Target {
             Target::Anchors | Target::Test | Target::Requests | Target::Status => name == "at",
             Target::Log => name == "from" || name == "at",
             Target::Entries => name == "from" || name == "count" || name == "at",
-            Target::Changes
-            | Target::Entry
-            | Target::Health
-            | Target::Ready
-            | Target::Metrics
-            | Target::Stop => false,
+            _ => false,
         }
     }
 }

@@ -110,15 +110,9 @@ pub fn parse_address(text: &str) -> Option<Address>
     ensures { result ≡ address_of text.now }
 {
     let text = text.as_bytes();
-    match text.split_first() {
-        Some((first, behind)) => {
-            if *first == b'[' {
-                parse_six(behind)
-            } else {
-                parse_four(text)
-            }
-        }
-        None => parse_four(text),
+    match text {
+        [b'[', behind @ ..] => parse_six(behind),
+        _ => parse_four(text),
     }
 }
 

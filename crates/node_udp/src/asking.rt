@@ -62,15 +62,11 @@ fn ask_bytes(
     ensures short { OnOk result (is_over (asked_entry command.now) ≡ false) }
     ensures why { OnErr result ((result ≡ Err NodeFault.TooLong) ⊎ (result ≡ Err NodeFault.Memory)) }
 {
-    let bytes = match asked_bytes(alloc, command) {
-        Ok(bytes) => bytes,
-        Err(fault) => return Err(fault),
-    };
+    let bytes = asked_bytes(alloc, command)?;
     match asked_view(command, bytes.as_slice()) {
-        Some(entry) => match encode(alloc, m, node, &Message::Ask { entry }) {
-            Ok(datagram) => Ok(datagram),
-            Err(_) => Err(NodeFault::Memory),
-        },
+        Some(entry) => {
+            encode(alloc, m, node, &Message::Ask { entry }).map_err(|_| NodeFault::Memory)
+        }
         None => unreachable!(),
     }
 }
@@ -155,10 +151,7 @@ pub fn ask_once<W: Wire>(
     ensures why { OnErr result ((result ≡ Err NodeFault.TooLong) ⊎ (result ≡ Err NodeFault.Memory)) }
     ensures same { W.identity wire.new ≡ W.identity wire.old }
 {
-    let bytes = match ask_bytes(alloc, m, node, command) {
-        Ok(bytes) => bytes,
-        Err(fault) => return Err(fault),
-    };
+    let bytes = ask_bytes(alloc, m, node, command)?;
     let _sent = wire.send(node, bytes.as_slice());
     Ok(listen_on(m, node, waits, wire))
 }

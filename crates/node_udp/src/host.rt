@@ -65,8 +65,6 @@ pub(crate) fn find<R: Network>(rt: &R, text: &str) -> Option<Address>
     let Some((host, _)) = text.split_once(':') else {
         return None;
     };
-    match rt.look_up(host, port) {
-        Some(ip) => Some(Address { ip, port }),
-        None => None,
-    }
+    let ip = rt.look_up(host, port)?;
+    Some(Address { ip, port })
 }

@@ -48,10 +48,7 @@ impl Socket for UdpSocket {
     ghost is_timeless = { λ s. Unit {0} };
 
     fn receive(&mut self, into: &mut [u8]) -> Result<(usize, SocketAddr), ErrorKind> {
-        match self.recv_from(into) {
-            Ok(came) => Ok(came),
-            Err(error) => Err(error.kind()),
-        }
+        self.recv_from(into).map_err(|error| error.kind())
     }
 
     fn peek(&mut self) -> Result<(), ErrorKind> {
@@ -63,23 +60,16 @@ impl Socket for UdpSocket {
     }
 
     fn send(&mut self, bytes: &[u8], to: SocketAddr) -> Result<usize, ErrorKind> {
-        match self.send_to(bytes, to) {
-            Ok(n) => Ok(n),
-            Err(error) => Err(error.kind()),
-        }
+        self.send_to(bytes, to).map_err(|error| error.kind())
     }
 
     fn set_blocking(&mut self, is_blocking: bool) -> Result<(), ErrorKind> {
-        match self.set_nonblocking(!is_blocking) {
-            Ok(()) => Ok(()),
-            Err(error) => Err(error.kind()),
-        }
+        self.set_nonblocking(!is_blocking)
+            .map_err(|error| error.kind())
     }
 
     fn set_timeout(&mut self, timeout: Duration) -> Result<(), ErrorKind> {
-        match self.set_read_timeout(Some(timeout)) {
-            Ok(()) => Ok(()),
-            Err(error) => Err(error.kind()),
-        }
+        self.set_read_timeout(Some(timeout))
+            .map_err(|error| error.kind())
     }
 }

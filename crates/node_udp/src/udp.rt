@@ -151,10 +151,7 @@ fn is_asking(datagram: &[u8]) -> bool
     ensures { (g : Group) (from to : ℕ) (message : Message) →
         DatagramBytes g from to message datagram.now → result ≡ (from == CLIENT) }
 {
-    match Head::read(datagram) {
-        Some(head) => head.from == CLIENT,
-        None => false,
-    }
+    Head::read(datagram).is_some_and(|head| head.from == CLIENT)
 }
 
 /// Whether an address is one of these.
@@ -190,16 +187,10 @@ impl<R: Network + Clock + Copy> UdpWire<UdpSocket, R> {
             HasNoSocket (R.is_known rt.now) (R.is_unknown rt.now) (R.is_refused rt.now) (map (λ t. t.now) addrs.now)
             me }
     {
-        let peers = match addresses(rt, alloc, addrs) {
-            Ok(peers) => peers,
-            Err(fault) => return Err(fault),
-        };
-        let Some(own) = own_address(peers.as_slice(), me) else {
-            return Err(BindFault::NoSocket);
-        };
-        let Some(socket) = rt.bind_at(own, Duration::from_millis(u64::from(wait_ms))) else {
-            return Err(BindFault::NoSocket);
-        };
+        let peers = addresses(rt, alloc, addrs)?;
+        let own = own_address(peers.as_slice(), me).ok_or(BindFault::NoSocket)?;
+        let wait = Duration::from_millis(u64::from(wait_ms));
+        let socket = rt.bind_at(own, wait).ok_or(BindFault::NoSocket)?;
         Ok(UdpWire::with_socket(socket, *rt, peers, me, wait_ms))
     }
 }
@@ -461,10 +452,7 @@ impl<S: Socket, C: Clock> UdpWire<S, C> {
         } else {
             usize::from(to)
         };
-        match self.peers.get(place) {
-            Some(address) => Some(address.socket()),
-            None => None,
-        }
+        self.peers.get(place).map(|address| address.socket())
     }
 
     /// Whether all of the bytes were sent there.

@@ -83,9 +83,8 @@ pub(crate) fn take_up<R: Records>(
 {
     let end = replica.front();
     for position in *applied..end {
-        let entry = match replica.learned(position) {
-            None => return Ok(()),
-            Some(entry) => entry,
+        let Some(entry) = replica.learned(position) else {
+            return Ok(());
         };
         let outcome = apply_entry(alloc, config, entry)?;
         outcomes.put(outcome);

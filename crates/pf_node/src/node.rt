@@ -20,8 +20,8 @@ ghost use Rattle.pf_node.specs.Nodes.{applied_of, replica_of, kept_of};
 ghost use Rattle.pf_node.specs.Outcomes.{outcome_at};
 ghost use Rattle.pf_node.specs.Requests.{place_below};
 
-use crate::applying::take_up;
 use crate::asking::{asked_bytes, asked_entry};
+use crate::opening::bring_up;
 use crate::outcomes::Outcome;
 use crate::requests::place_below;
 use crate::state::Node;
@@ -52,10 +52,7 @@ impl<R: Records> Node<R> {
         if self.replica.has_failed() {
             return Err(NodeFault::Failed);
         }
-        let bytes = match asked_bytes(self.alloc, command) {
-            Ok(bytes) => bytes,
-            Err(fault) => return Err(fault),
-        };
+        let bytes = asked_bytes(self.alloc, command)?;
         match asked_entry(command, bytes.as_slice()) {
             Some(entry) => self.ask_entry(&entry),
             None => unreachable!(),
@@ -93,16 +90,7 @@ impl<R: Records> Node<R> {
         if self.replica.has_failed() {
             return Err(NodeFault::Failed);
         }
-        if take_up(
-            self.alloc,
-            &self.replica,
-            &mut self.config,
-            &mut self.applied,
-            &mut self.outcomes,
-            &mut self.numbers,
-        )
-        .is_err()
-        {
+        if bring_up(self).is_err() {
             return Err(NodeFault::Memory);
         }
         self.replica.tick(out)
@@ -123,14 +111,7 @@ impl<R: Records> Node<R> {
     {
         match self.replica.receive(bytes, out) {
             Ok(Received::Done) => {
-                let _outcome = take_up(
-                    self.alloc,
-                    &self.replica,
-                    &mut self.config,
-                    &mut self.applied,
-                    &mut self.outcomes,
-                    &mut self.numbers,
-                );
+                let _outcome = bring_up(self);
                 Ok(Received::Done)
             }
             Ok(Received::Ignored(fault)) => Ok(Received::Ignored(fault)),
@@ -211,13 +192,8 @@ impl<R: Records> Node<R> {
     pub fn position_of(&self, origin: u8, number: u64) -> Option<u32>
         ensures { result ≡ place_below (learned_by self.now) origin number (front (learned_by self.now)) }
     {
-        place_below(
-            &self.replica,
-            &self.numbers,
-            self.replica.front(),
-            origin,
-            number,
-        )
+        let end = self.replica.front();
+        place_below(&self.replica, &self.numbers, end, origin, number)
     }
 
     /// The entry learned at the position.
@@ -231,8 +207,7 @@ impl<R: Records> Node<R> {
     pub fn learned(&self, position: u32) -> Option<&[u8]>
         ensures { option_map (λ b. b.now) result ≡ option_map spelled (learned_by self.now position) }
     {
-        let entry = self.replica.learned(position)?;
-        Some(entry.bytes())
+        self.replica.learned(position).map(|entry| entry.bytes())
     }
 
     /// The round that the record has, as last committed; of a failed node as last known.

@@ -1,6 +1,6 @@
 //! A node from its record.
 
-ghost use Rattle.std.specs.Prelude.{◌≡◌, ◌≢◌, ◌<◌, IfErr, IfOk, OnOk, false};
+ghost use Rattle.std.specs.Prelude.{◌≡◌, ◌≢◌, ◌<◌, ◌≤◌, IfErr, IfOk, OnOk, false};
 ghost use Rattle.px_model.specs.Node.{Record};
 ghost use Rattle.px_model.specs.Spelling.{Bytes};
 ghost use Rattle.px_model.specs.Step.{front};
@@ -38,8 +38,9 @@ fn joined<R: Records>(alloc: Global, replica: Replica<R>) -> Result<Node<R>, R>
 }
 
 /// Applies all that is learned up to the first gap.
-fn bring_up<R: Records>(node: &mut Node<R>) -> Result<(), AllocError>
+pub(crate) fn bring_up<R: Records>(node: &mut Node<R>) -> Result<(), AllocError>
     ensures replica { node.new.replica ≡ node.old.replica }
+    ensures grown { applied_of node.old ≤ applied_of node.new }
     ensures done { OnOk result (applied_of node.new ≡ front (learned_by node.new)) }
 {
     take_up(
@@ -73,10 +74,7 @@ impl<R: Records> Node<R> {
         ensures good { IfOk result (λ n. R.is_honest (records_of n) → HasBadEntry R.Records records m.members → ⊥) }
         ensures refused { IfErr result (λ e. OpenRefused R.Records m.members records e.0 e.1) }
     {
-        let replica = match Replica::open(alloc, m, records) {
-            Ok(replica) => replica,
-            Err(refused) => return Err(refused),
-        };
+        let replica = Replica::open(alloc, m, records)?;
         let mut node = match joined(alloc, replica) {
             Ok(node) => node,
             Err(records) => return Err((NodeFault::Memory, records)),

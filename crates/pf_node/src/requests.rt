@@ -87,10 +87,8 @@ impl Numbers {
 fn is_request<R: Records>(replica: &Replica<R>, position: u32, origin: u8, number: u64) -> bool
     ensures { result ≡ is_request origin number (learned_by replica.now position) }
 {
-    match replica.learned(position) {
-        Some(entry) => entry.origin() == origin && entry.number() == number,
-        None => false,
-    }
+    let learned = replica.learned(position);
+    learned.is_some_and(|entry| entry.origin() == origin && entry.number() == number)
 }
 
 /// The last position below an end at which a request was learned.

@@ -35,8 +35,8 @@ loop-round-preserved g c = record {
   looks = looks_then c.loop-round._round 1 (g.T.Timer.timer_events c.args.timer.now) (g.T.Timer.timer_events c.loop-round.timer) (g.T.Timer.timer_events c.pass.new.timer)
       c.loop-round.invariant.looks c.in-Ok.ensures.looks;
   timed = timed_then c.args.start (g.S.Stopwatch.readings c.args.clock.now) (g.S.Stopwatch.readings c.loop-round.clock)
-      (g.S.Stopwatch.readings c.microseconds.new.clock) (g.T.Timer.timer_events c.args.timer.now) (g.T.Timer.timer_events c.loop-round.timer)
-      (g.T.Timer.timer_events c.pass.new.timer) c.microseconds.result c.loop-round.invariant.timed c.microseconds.ensures c.in-Ok.ensures.at;
+      (g.S.Stopwatch.readings c.microseconds-now.new.clock) (g.T.Timer.timer_events c.args.timer.now) (g.T.Timer.timer_events c.loop-round.timer)
+      (g.T.Timer.timer_events c.pass.new.timer) c.microseconds-now.result c.loop-round.invariant.timed c.microseconds-now.ensures c.in-Ok.ensures.at;
   same = c.pass.ensures.same ∙ c.loop-round.invariant.same;
 }
 

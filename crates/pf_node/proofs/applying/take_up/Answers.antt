@@ -8,9 +8,9 @@ use Rattle.pf_node.specs.inner.Requests.{AreWithin, AreBounds}
 use Rattle.pf_node.proofs.Places.{within_next, bounds_next, stretched_next}
 use Rattle.pf_node.proofs.applying.take_up.Goals as goal
 
-pub returns-in-None-clause-done : goal.returns-in-None-clause-done
-returns-in-None-clause-done g c =
-    absurd (learned_below (learned_by c.args.replica.now) c.loop-position.position (omega (arith, c.front-end.ensures.front)) (sym c.in-None.ensures))
+pub returns-in_default-clause-done : goal.returns-in_default-clause-done
+returns-in_default-clause-done g c =
+    absurd (learned_below (learned_by c.args.replica.now) c.loop-position.position (omega (arith, c.front-end.ensures.front)) (sym c.in_default.ensures))
 
 -- one position more is applied
 pub loop-position-preserved : goal.loop-position-preserved

@@ -7,55 +7,8 @@ use Rattle.pf_node.proofs.Recording.{recorded_kept}
 use Rattle.pf_node.proofs.Places.{within_kept, bounds_kept}
 use Rattle.pf_node.proofs.state.Node.receive.Goals as goal
 
-pub take_up-outcome-requires-clause-configured : goal.take_up-outcome-requires-clause-configured
-take_up-outcome-requires-clause-configured g c =
-    let n = c.args.self.now in
-    after_kept (learned_by n.replica) (learned_by c.receive.new.self) n.applied n.config n.configured n.behind
-    (received_below n.replica c.receive.new.self _ _ _ _ c.receive.ensures.received)
-
-pub take_up-outcome-requires-clause-behind : goal.take_up-outcome-requires-clause-behind
-take_up-outcome-requires-clause-behind g c =
-    let n = c.args.self.now in
-    let h = received_front n.replica c.receive.new.self _ _ _ _ c.receive.ensures.received in
-    omega (arith, n.behind, h)
-
-pub take_up-outcome-requires-clause-recorded : goal.take_up-outcome-requires-clause-recorded
-take_up-outcome-requires-clause-recorded g c =
-    let n = c.args.self.now in
-    recorded_kept (learned_by n.replica) (learned_by c.receive.new.self) n.applied n.outcomes.kept.items n.recorded n.behind
-    (received_below n.replica c.receive.new.self _ _ _ _ c.receive.ensures.received)
-
-pub take_up-outcome-requires-clause-numbered : goal.take_up-outcome-requires-clause-numbered
-take_up-outcome-requires-clause-numbered g c =
-    let n = c.args.self.now in
-    within_kept (learned_by n.replica) (learned_by c.receive.new.self) n.numbers.origin n.applied n.numbers.last n.numbered n.behind
-    (received_below n.replica c.receive.new.self _ _ _ _ c.receive.ensures.received)
-
-pub take_up-outcome-requires-clause-bounded : goal.take_up-outcome-requires-clause-bounded
-take_up-outcome-requires-clause-bounded g c =
-    let n = c.args.self.now in
-    bounds_kept (learned_by n.replica) (learned_by c.receive.new.self) n.numbers.origin n.applied n.numbers.bounds.items n.bounded n.stretched n.behind
-    (received_below n.replica c.receive.new.self _ _ _ _ c.receive.ensures.received)
-
-pub invariant_of-self-in-Err-1 : goal.invariant_of-self-in-Err-1
-invariant_of-self-in-Err-1 g c =
-    let n = c.args.self.now in
-    let h = received_front n.replica c.receive.new.self _ _ _ _ c.receive.ensures.received in
-    record {
-      configured = after_kept (learned_by n.replica) (learned_by c.receive.new.self) n.applied n.config n.configured n.behind
-          (received_below n.replica c.receive.new.self _ _ _ _ c.receive.ensures.received);
-      behind = omega (arith, n.behind, h);
-      recorded = recorded_kept (learned_by n.replica) (learned_by c.receive.new.self) n.applied n.outcomes.kept.items n.recorded n.behind
-          (received_below n.replica c.receive.new.self _ _ _ _ c.receive.ensures.received);
-      numbered = within_kept (learned_by n.replica) (learned_by c.receive.new.self) n.numbers.origin n.applied n.numbers.last n.numbered n.behind
-          (received_below n.replica c.receive.new.self _ _ _ _ c.receive.ensures.received);
-      bounded = bounds_kept (learned_by n.replica) (learned_by c.receive.new.self) n.numbers.origin n.applied n.numbers.bounds.items n.bounded n.stretched n.behind
-          (received_below n.replica c.receive.new.self _ _ _ _ c.receive.ensures.received);
-      stretched = n.stretched;
-    }
-
-pub invariant_of-self-in-Ignored-1 : goal.invariant_of-self-in-Ignored-1
-invariant_of-self-in-Ignored-1 g c =
+pub invariant_of-self : goal.invariant_of-self
+invariant_of-self g c =
     let n = c.args.self.now in
     let h = received_front n.replica c.receive.new.self _ _ _ _ c.receive.ensures.received in
     record {
