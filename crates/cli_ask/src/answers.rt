@@ -2,9 +2,10 @@
 
 ghost use Rattle.std.specs.Prelude.{◌≡◌, ◌≤◌, length};
 ghost use Rattle.cli_ask.specs.Answers.{all_match, behind_line, is_done, line_len};
-ghost use Rattle.cli_ask.specs.Answers.{outcome_behind, word_len};
+ghost use Rattle.cli_ask.specs.Answers.{word_len};
 
 use crate::call::Kind;
+use crate::commands::ASKED;
 
 /// How long the first line is, without its newline.
 #[tactic(auto, using(crate::proofs::Fronts::line_len_le))]
@@ -37,13 +38,6 @@ pub(crate) fn behind_line<'a>(body: &'a [u8], front: &[u8]) -> &'a [u8]
     }
 }
 
-/// What became of a command: what is behind the line `asked N.NUMBER`, if that comes first.
-pub(crate) fn outcome_behind(body: &[u8]) -> &[u8]
-    ensures { result.now ≡ outcome_behind body.now }
-{
-    behind_line(body, b"asked ")
-}
-
 /// Whether all addresses that were looked up are in the table, as by `3 of 3 match`.
 fn all_match(body: &[u8]) -> bool
     ensures { result ≡ all_match body.now }
@@ -68,7 +62,7 @@ pub(crate) fn is_done(kind: Kind, code: u16, body: &[u8]) -> bool
     match kind {
         Kind::Read | Kind::List | Kind::Test => code < 300,
         Kind::TableTest => code < 300 && all_match(body),
-        Kind::Sync => code < 300 && !outcome_behind(body).starts_with(b"refused"),
-        Kind::Change => code == 202 || code < 300 && outcome_behind(body).starts_with(b"ok"),
+        Kind::Sync => code < 300 && !behind_line(body, ASKED).starts_with(b"refused"),
+        Kind::Change => code == 202 || code < 300 && behind_line(body, ASKED).starts_with(b"ok"),
     }
 }

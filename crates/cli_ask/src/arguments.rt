@@ -1,14 +1,15 @@
 //! What is sent at a control socket for an operator's arguments.
 
-ghost use Rattle.std.specs.Prelude.{◌≡◌, IfOk, false, map, option_map, string_bytes};
+ghost use Rattle.std.specs.Prelude.{◌≡◌, IfOk, codes, false, map, option_map};
 ghost use Rattle.std.specs.List.{list_any};
-ghost use Rattle.clap.specs.Words.{found_of, rows_of};
+ghost use Rattle.clap.specs.Words.{first_of, found_of, rows_of};
+ghost use Rattle.cli_io.specs.Given.{is_given};
 ghost use Rattle.pf_entry.specs.Owned.{command_value};
 ghost use Rattle.pf_arguments.specs.Answers.{action_value, IsShort};
 ghost use Rattle.pf_arguments.specs.Asked.{is_too_long};
 ghost use Rattle.cli_ask.specs.Sending.{has_control};
-ghost use Rattle.cli_ask.specs.Calls.{call_value, list_call, lines_call, entry_call, change_call, action_call};
-ghost use Rattle.cli_ask.specs.Calls.{pfctl_call, read, sync, plain_call, valued_call, own_call};
+ghost use Rattle.cli_ask.specs.Calls.{call_value, lines_call, entry_call, change_call, action_call};
+ghost use Rattle.cli_ask.specs.Calls.{pfctl_call, sync, plain_call, valued_call, own_call};
 ghost use Rattle.cli_ask.specs.Calls.{options_have_control, has_table_option, has_ruleset_option, has_option};
 ghost use Rattle.cli_ask.specs.Calls.{call_of};
 ghost use Rattle.cli_ask.specs.Outcomes.{IsCall};
@@ -34,19 +35,6 @@ fn entry_call(alloc: Global, command: &Command, kind: Kind) -> Result<Call, Allo
         Err(EncodeFault::Memory) => Err(AllocError),
         Err(EncodeFault::TooLong) => unreachable!(),
     }
-}
-
-/// The request of a change. A ruleset that the grammar refuses is refused, unless `is_unchecked`.
-fn change_call(alloc: Global, command: &Command, is_unchecked: bool) -> Result<Call, Outcome>
-    requires { is_too_long (command_value command.now) ≡ false }
-    ensures { IsCall result (change_call is_unchecked (command_value command.now)) }
-{
-    if !is_unchecked {
-        if let Some(refused) = refused_command(alloc, command)? {
-            return Err(Outcome::Refused(refused));
-        }
-    }
-    Ok(entry_call(alloc, command, Kind::Change)?)
 }
 
 /// A load that changes nothing, since its text is refused wherever it is loaded.
@@ -98,12 +86,18 @@ pub(crate) fn has_option(matches: &ArgMatches<'_>) -> bool
 }
 
 impl Given<'_, '_> {
-    /// What reads a path.
-    fn list_call(&self, path: &str) -> Result<Call, AllocError>
-        ensures { IfOk result (λ c. call_value c
-            ≡ list_call (rows_of (found_of self.now.matches.now)) self.now.at path.now) }
+    /// The request of a change. A ruleset that the grammar refuses is refused, unless `--unchecked` is given.
+    fn change_call(&self, command: &Command) -> Result<Call, Outcome>
+        requires { is_too_long (command_value command.now) ≡ false }
+        ensures { IsCall result (change_call (is_given (first_of (codes "unchecked")
+            (rows_of (found_of self.now.matches.now)))) (command_value command.now)) }
     {
-        Ok(Call::get(self.alloc, self.target(path, self.at)?, Kind::List))
+        if !has_flag(self.matches, "unchecked") {
+            if let Some(refused) = refused_command(self.alloc, command)? {
+                return Err(Outcome::Refused(refused));
+            }
+        }
+        Ok(entry_call(self.alloc, command, Kind::Change)?)
     }
 
     /// The request that posts arguments to a path, each in a line of its own.
@@ -123,19 +117,18 @@ impl Given<'_, '_> {
         ensures { IsCall result (action_call (rows_of (found_of self.now.matches.now)) (map (λ r. r.now) rest.now)
             self.now.at (action_value action.now)) }
     {
-        match action {
-            Action::Change(command) => {
-                change_call(self.alloc, command, has_flag(self.matches, "unchecked"))
-            }
-            Action::CheckOnly(_) => Err(refused(USAGE)),
-            Action::ShowRules(_) => Ok(self.list_call("/v1/rules")?),
-            Action::ShowTables(_) => Ok(self.list_call("/v1/tables")?),
-            Action::ShowAnchors => Ok(self.list_call("/v1/anchors")?),
-            Action::TableShow(_, _) => Ok(self.list_call("/v1/table")?),
+        let path = match action {
+            Action::Change(command) => return self.change_call(command),
+            Action::CheckOnly(_) => return Err(refused(USAGE)),
+            Action::ShowRules(_) => "/v1/rules",
+            Action::ShowTables(_) => "/v1/tables",
+            Action::ShowAnchors => "/v1/anchors",
+            Action::TableShow(_, _) => "/v1/table",
             Action::TableTest(_, _, _) => {
-                Ok(self.lines_call("/v1/table-test", rest, Kind::TableTest)?)
+                return Ok(self.lines_call("/v1/table-test", rest, Kind::TableTest)?);
             }
-        }
+        };
+        Ok(Call::get(self.alloc, self.target(path, self.at)?, Kind::List))
     }
 
     /// The request that pfctl's options ask for, with the text that `-f` names.
@@ -151,41 +144,36 @@ impl Given<'_, '_> {
         }
     }
 
-    /// What reads a target.
-    fn read(&self, target: String) -> Option<Call>
-        ensures { option_map call_value result ≡ read (string_bytes target) }
-    {
-        Some(Call::get(self.alloc, target, Kind::Read))
-    }
-
     /// The request of one of the node's own subcommands without arguments.
     fn plain_call(&self, word: &str) -> Result<Option<Call>, AllocError>
         ensures { IfOk result (λ c. option_map call_value c
             ≡ plain_call (rows_of (found_of self.now.matches.now)) word.now self.now.at) }
     {
-        match word {
-            "status" => Ok(self.read(self.target("/v1/status", self.at)?)),
-            "health" => Ok(self.read(self.target("/readyz", 0)?)),
-            "metrics" => Ok(self.read(self.target("/metrics", 0)?)),
-            "log" => Ok(self.read(self.target("/v1/log", self.at)?)),
-            "sync" => Ok(Some(sync(self.alloc)?)),
+        let target = match word {
+            "status" => self.target("/v1/status", self.at)?,
+            "health" => self.target("/readyz", 0)?,
+            "metrics" => self.target("/metrics", 0)?,
+            "log" => self.target("/v1/log", self.at)?,
+            "sync" => return Ok(Some(sync(self.alloc)?)),
             "stop" => {
                 let target = String::from_str(self.alloc, "/v1/stop")?;
-                Ok(Some(Call::post(target, Vec::new(self.alloc), Kind::Read)))
+                return Ok(Some(Call::post(target, Vec::new(self.alloc), Kind::Read)));
             }
-            _ => Ok(None),
-        }
+            _ => return Ok(None),
+        };
+        Ok(Some(Call::get(self.alloc, target, Kind::Read)))
     }
 
     /// What one sends with a single argument.
     fn valued_call(&self, word: &str, value: &str) -> Result<Option<Call>, AllocError>
         ensures { IfOk result (λ c. option_map call_value c ≡ valued_call word.now value.now self.now.at) }
     {
-        match word {
-            "log" => Ok(self.read(self.path_with("/v1/log?from=", value)?)),
-            "request" => Ok(self.read(self.path_with("/v1/requests/", value)?)),
-            _ => Ok(None),
-        }
+        let path = match word {
+            "log" => "/v1/log?from=",
+            "request" => "/v1/requests/",
+            _ => return Ok(None),
+        };
+        Ok(Some(Call::get(self.alloc, self.path_with(path, value)?, Kind::Read)))
     }
 
     /// What a subcommand of the node itself sends, with arguments or without; none where there is no such subcommand.

@@ -2,10 +2,10 @@
 
 ghost use Rattle.std.specs.Prelude.{◌≡◌, ◌≤◌};
 ghost use Rattle.cli_ask.specs.Calls.{call_value};
-ghost use Rattle.cli_ask.specs.Asking.{answer_value, is_last, is_open, in_time, limit_of, OrMemory, AskedOn, AskedAt};
+ghost use Rattle.cli_ask.specs.Asking.{answer_value, is_last, in_time, limit_of, OrMemory, AskedOn, AskedAt};
 
 use crate::call::{Call, Kind};
-use crate::commands::{is_waiting, number_after, outcome_call, outcome_of, waiting};
+use crate::commands::{WAITING, number_after, outcome_call, outcome_of, waiting};
 use crate::control::Control;
 use crate::exchange::{Answered, AskFault, Deadline, PATIENCE};
 use std::alloc::Global;
@@ -41,23 +41,17 @@ impl<RT: Net> Pauses for RT {
     }
 }
 
-/// Whether it is to be asked again: the node answers that the request is waiting; or there is no answer to a request
-/// that makes no change, as while the node is restarted.
-fn is_open(call: &Call, found: &Answered) -> bool
-    ensures { result ≡ is_open (call_value call.now) (answer_value found.now) }
-{
-    match found {
-        Ok(reply) => is_waiting(reply.body.as_slice()),
-        Err(AskFault::Memory) => false,
-        Err(AskFault::NoAnswer | AskFault::BadAnswer) => call.is_repeatable,
-    }
-}
-
-/// Whether it isn't asked again.
+/// Whether it isn't asked again. It is unless the request is made once alone, where the node answers that the request
+/// is waiting; or there is no answer to a request that makes no change, as while the node is restarted.
 fn is_last(call: &Call, found: &Answered, is_once: bool) -> bool
     ensures { result ≡ is_last (call_value call.now) is_once (answer_value found.now) }
 {
-    is_once || !is_open(call, found)
+    let is_open = match found {
+        Ok(reply) => reply.body.as_slice() == WAITING,
+        Err(AskFault::Memory) => false,
+        Err(AskFault::NoAnswer | AskFault::BadAnswer) => call.is_repeatable,
+    };
+    is_once || !is_open
 }
 
 /// What is answered once the time is over: the answer, or where there is none the one before.

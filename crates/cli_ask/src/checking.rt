@@ -17,11 +17,11 @@ pub(crate) struct Refused {
     pub(crate) line: u64,
 }
 
+/// The refusal that was found, if any.
+pub(crate) type Found = Result<Option<Refused>, AllocError>;
+
 /// What a command is refused for whatever is at the node: a ruleset that the grammar refuses at its place.
-pub(crate) fn refused_command(
-    alloc: Global,
-    command: &Command,
-) -> Result<Option<Refused>, AllocError>
+pub(crate) fn refused_command(alloc: Global, command: &Command) -> Found
     ensures { IfOk result (λ r. r ≡ command_refusal (command_value command.now)) }
 {
     let Command::Load {
@@ -37,9 +37,9 @@ pub(crate) fn refused_command(
     match parse(alloc, text.as_slice(), place, *profile) {
         Ok(_rules) => Ok(None),
         Err(ParseFault::Memory) => Err(AllocError),
-        Err(ParseFault::Refused(refusal)) => Ok(Some(Refused {
-            code: refusal.cause.code(),
-            line: refusal.line,
-        })),
+        Err(ParseFault::Refused(refusal)) => {
+            let (code, line) = (refusal.cause.code(), refusal.line);
+            Ok(Some(Refused { code, line }))
+        }
     }
 }

@@ -3,7 +3,7 @@
 ghost use Rattle.std.specs.Prelude.{◌≡◌, IfOk, option_map};
 ghost use Rattle.cli_ask.specs.Calls.{call_value};
 ghost use Rattle.cli_ask.specs.Replies.{reply_value};
-ghost use Rattle.cli_ask.specs.Asking.{is_waiting, waiting, is_command, number_after};
+ghost use Rattle.cli_ask.specs.Asking.{waiting, is_command, number_after};
 ghost use Rattle.cli_ask.specs.Asking.{outcome_call};
 ghost use Rattle.cli_ask.specs.Asking.{code_of, joined, position_in, synced};
 ghost use Rattle.cli_ask.specs.Asking.{outcome_of, answer_value, OrMemory};
@@ -15,20 +15,13 @@ use crate::reply::{number, text_in};
 use std::alloc::{AllocError, Global};
 
 /// What a node answers whose time has not come yet.
-const WAITING: &[u8] = b"waiting\n";
+pub(crate) const WAITING: &[u8] = b"waiting\n";
 
 /// What a node answers that accepted a command, before its number.
-const ASKED: &[u8] = b"asked ";
+pub(crate) const ASKED: &[u8] = b"asked ";
 
 /// What it answers once a command is applied.
 const APPLIED: &[u8] = b"applied ";
-
-/// Whether a node answers that it is waiting.
-pub(crate) fn is_waiting(body: &[u8]) -> bool
-    ensures { result ≡ is_waiting body.now }
-{
-    body == WAITING
-}
 
 /// What replaces an answer to an accepted request that never came.
 pub(crate) fn waiting(alloc: Global) -> Result<Reply, AllocError>
@@ -46,10 +39,7 @@ pub(crate) fn waiting(alloc: Global) -> Result<Reply, AllocError>
 pub(crate) fn is_command(kind: Kind) -> bool
     ensures { result ≡ is_command kind }
 {
-    match kind {
-        Kind::Read | Kind::List | Kind::TableTest | Kind::Test => false,
-        Kind::Sync | Kind::Change => true,
-    }
+    matches!(kind, Kind::Sync | Kind::Change)
 }
 
 /// The number of a command whose outcome is waited for, by the answer that it was accepted: the first line, where it is
@@ -57,15 +47,10 @@ pub(crate) fn is_command(kind: Kind) -> bool
 pub(crate) fn number_after(kind: Kind, is_once: bool, body: &[u8]) -> Option<&str>
     ensures { option_map (λ n. n.now) result ≡ number_after kind is_once body.now }
 {
-    if !is_command(kind) || is_once {
-        return None;
-    }
+    (is_command(kind) && !is_once).then_some(())?;
     let rest = body.strip_prefix(ASKED)?;
     let (line, end) = rest.split_at(line_len(rest));
-    if end != b"\n".as_slice() {
-        return None;
-    }
-    text_in(line)
+    text_in((end == b"\n".as_slice()).then_some(line)?)
 }
 
 /// What asks for the outcome of a request.
@@ -82,24 +67,18 @@ pub(crate) fn outcome_call(alloc: Global, number: &str) -> Result<Call, AllocErr
 fn code_of(reply: &Reply) -> u16
     ensures { result ≡ code_of (reply_value reply.now) }
 {
-    if is_waiting(reply.body.as_slice()) {
-        503
-    } else {
-        reply.code
-    }
+    let is_waiting = reply.body.as_slice() == WAITING;
+    if is_waiting { 503 } else { reply.code }
 }
 
 /// The line that a command was accepted, and behind it what came of it.
-fn joined(first: Reply, second: Reply) -> Result<Reply, AllocError>
+fn joined(first: Reply, mut second: Reply) -> Result<Reply, AllocError>
     ensures { IfOk result (λ r. reply_value r ≡ joined (reply_value first) (reply_value second)) }
 {
     let mut body = first.body;
     body.extend_from_slice(behind_line(second.body.as_slice(), APPLIED))?;
-    Ok(Reply {
-        code: code_of(&second),
-        body,
-        ..second
-    })
+    second.code = code_of(&second);
+    Ok(Reply { body, ..second })
 }
 
 /// The position in the line that has it.

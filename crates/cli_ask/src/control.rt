@@ -51,10 +51,8 @@ fn printable(alloc: Global, reply: Reply) -> Answered
     ensures some { result ≡ Err fault.NoAnswer → ⊥ }
 {
     let text = shown(alloc, reply.body.as_slice())?.ok_or(AskFault::BadAnswer)?;
-    Ok(Reply {
-        body: text.into_bytes(),
-        ..reply
-    })
+    let body = text.into_bytes();
+    Ok(Reply { body, ..reply })
 }
 
 /// A peer that is reached over connections, by a clock.
@@ -84,10 +82,8 @@ impl<'a, RT: Net + Clock> Reached<'a, ControlSocket<'a, RT>, RT> {
     pub fn new(rt: &'a RT) -> Reached<'a, ControlSocket<'a, RT>, RT>
         ensures { ⟦<Reached<'a, ControlSocket<'a, RT>, RT> as Control>⟧.exchanged result [] }
     {
-        Reached {
-            dial: ControlSocket { rt, path: "" },
-            rt,
-        }
+        let dial = ControlSocket { rt, path: "" };
+        Reached { dial, rt }
     }
 }
 
@@ -136,9 +132,8 @@ pub fn read_at<'a, RT: Clock, C: ControlSockets<'a>>(
         (answer_value result) }
 {
     let mut socket = sockets.socket_at(path);
-    let deadline = Deadline::new(rt, PATIENCE);
     let call = Call::get(alloc, target, Kind::Read);
-    let reply = exchange(alloc, &mut socket, &call, deadline)?;
+    let reply = exchange(alloc, &mut socket, &call, Deadline::new(rt, PATIENCE))?;
     if reply.code != 200 {
         return Err(AskFault::BadAnswer);
     }

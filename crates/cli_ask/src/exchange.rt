@@ -125,8 +125,8 @@ pub struct Timed<'a, RT> {
 
 impl<RT: Clock> Read for Timed<'_, RT> {
     fn read(&mut self, into: &mut [u8]) -> io::Result<usize> {
-        let left = self.deadline.left(self.rt)?;
-        self.stream.set_read_timeout(Some(left))?;
+        self.stream
+            .set_read_timeout(Some(self.deadline.left(self.rt)?))?;
         self.stream.read(into)
     }
 }

@@ -5,7 +5,7 @@ ghost use Rattle.std.specs.Str.{str_eq_ignore_ascii_case};
 ghost use Rattle.httparse.specs.Spans.{IsHeaderWithin, header_bytes};
 ghost use Rattle.cli_ask.specs.Calls.{call_value};
 ghost use Rattle.cli_ask.specs.Replies.{request_head, request_bytes, number, text_of, field_in, number_in};
-ghost use Rattle.cli_ask.specs.Replies.{is_number, has_length};
+ghost use Rattle.cli_ask.specs.Replies.{has_length};
 ghost use Rattle.cli_ask.specs.Replies.{answer_of, reply_value, IsAnswer, IsNoAnswer};
 
 use crate::call::Call;
@@ -87,19 +87,14 @@ fn number_in(bytes: &[u8], fields: &[HeaderSpan], name: &[u8]) -> Option<u32>
     number(field_in(bytes, fields, name)?)
 }
 
-/// Whether a number is this length.
-fn is_number(len: usize, number: Option<u32>) -> bool
-    ensures { result ≡ is_number len number }
-{
-    number.is_some_and(|number| number as usize == len)
-}
-
 /// Whether the answer's header fields give its body this length, or give none.
 fn has_length(bytes: &[u8], fields: &[HeaderSpan], len: usize) -> bool
     requires { All (IsHeaderWithin (length bytes.now)) fields.now }
     ensures { result ≡ has_length len (map (header_bytes bytes.now) fields.now) }
 {
-    field_in(bytes, fields, b"content-length").is_none_or(|value| is_number(len, number(value)))
+    field_in(bytes, fields, b"content-length").is_none_or(|value| number(value).is_some_and(
+        |number| number as usize == len,
+    ))
 }
 
 /// What a head with these fields and a body answer.

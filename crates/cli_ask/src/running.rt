@@ -8,13 +8,12 @@ ghost use Rattle.cli_io.specs.Numbers.{number_at};
 ghost use Rattle.cli_io.specs.Sources.{IsText, IsNamed};
 ghost use Rattle.cli_ask.specs.Outcomes.{IsUnread, HasNoText};
 ghost use Rattle.cli_ask.specs.Outcomes.{Replied, AsksWith, Asks, Runs};
-ghost use Rattle.cli_ask.specs.Outcomes.{has_others, seconds_by, refusal_in, IsScript, IsNoScript};
+ghost use Rattle.cli_ask.specs.Outcomes.{has_others, IsScript, IsNoScript};
 ghost use Rattle.cli_ask.specs.Running.{Ran};
 
 use crate::arguments::has_option;
 use crate::asking::{Pauses, ask_at};
 use crate::call::Kind;
-use crate::checking::Refused;
 use crate::commands::is_command;
 use crate::control::{Control, Direct};
 use crate::exchange::Answered;
@@ -30,7 +29,7 @@ use cli_io::{
     source_named, value_in, values_in,
 };
 use pf_arguments::USAGE;
-use std::alloc::{AllocError, Global};
+use std::alloc::Global;
 use std::convert::AsStr;
 use std::io::{Read, Write};
 use std::time::Clock;
@@ -70,13 +69,6 @@ fn has_others(matches: &ArgMatches<'_>) -> bool
         || number_in(matches, "at").is_some()
 }
 
-/// For how many seconds it is waited for what comes of a script's change.
-fn seconds_by(wait: Option<u32>) -> u32
-    ensures { result ≡ seconds_by wait }
-{
-    wait.map_or(60, |seconds| seconds.max(1))
-}
-
 /// A run over what is lent to it.
 #[derive(Clone, Copy)]
 struct Run<'r, 'm, 'a, RT> {
@@ -100,13 +92,8 @@ impl<RT: Pauses + Clock + Sources> Run<'_, '_, '_, RT> {
     }
 
     /// Makes the request that the arguments ask for with this text.
-    fn ask_with<C: Control, E: Write>(
-        &self,
-        control: &mut C,
-        text: &[u8],
-        errors: &mut E,
-    ) -> Outcome
-        ensures { AsksWith (C.exchanged control.old) (C.exchanged control.new)
+    fn ask_with<C: Control, E: Write>(&self, peer: &mut C, text: &[u8], errors: &mut E) -> Outcome
+        ensures { AsksWith (C.exchanged peer.old) (C.exchanged peer.new)
             (rows_of (found_of self.now.matches.now)) text.now result }
     {
         let (alloc, matches) = (self.alloc, self.matches);
@@ -116,7 +103,7 @@ impl<RT: Pauses + Clock + Sources> Run<'_, '_, '_, RT> {
             Err(outcome) => return outcome,
         };
         let seconds = number_in(matches, "wait").unwrap_or(0);
-        let answer = ask_at(self.rt, alloc, control, &call, seconds);
+        let answer = ask_at(self.rt, alloc, peer, &call, seconds);
         replied(call.kind, answer, errors)
     }
 
@@ -146,17 +133,8 @@ impl<RT: Pauses + Clock + Sources> Run<'_, '_, '_, RT> {
         u64::from(number_in(self.matches, "from").unwrap_or(1))
     }
 
-    /// What a script is refused for before a node is asked, unless `--unchecked` is given.
-    fn refusal_in(&self, script: &[u8]) -> Result<Option<Refused>, AllocError>
-        ensures { IfOk result (λ r. r ≡ refusal_in (rows_of (found_of self.now.matches.now)) script.now) }
-    {
-        if has_flag(self.matches, "unchecked") {
-            return Ok(None);
-        }
-        refused_script(self.alloc, script, self.from())
-    }
-
-    /// The script that is asked, or why none is.
+    /// The script that is asked, or why none is: it may be refused before a node is asked, unless `--unchecked` is
+    /// given.
     fn script_in<R: Read>(&self, file: &str, reader: &mut R) -> Result<Vec<u8>, Outcome>
         ensures script { IfOk result (λ script. IsScript (rows_of (found_of self.now.matches.now)) file.now
             (IsText (RT.has self.now.rt.now) (R.remaining reader.old)) script.items) }
@@ -167,10 +145,12 @@ impl<RT: Pauses + Clock + Sources> Run<'_, '_, '_, RT> {
             return Err(refused(USAGE));
         }
         let script = self.text_for(Some(file), reader)?;
-        match self.refusal_in(script.as_slice())? {
-            None => Ok(script),
-            Some(refused) => Err(Outcome::Refused(refused)),
+        if !has_flag(self.matches, "unchecked") {
+            if let Some(refused) = refused_script(self.alloc, script.as_slice(), self.from())? {
+                return Err(Outcome::Refused(refused));
+            }
         }
+        Ok(script)
     }
 
     /// Asks at a control socket what the arguments ask for, or the changes of a script, and writes what that gives.
@@ -198,7 +178,7 @@ impl<RT: Pauses + Clock + Sources> Run<'_, '_, '_, RT> {
             alloc: self.alloc,
             script: script.as_slice(),
             from: self.from(),
-            seconds: seconds_by(number_in(self.matches, "wait")),
+            seconds: number_in(self.matches, "wait").map_or(60, |seconds| seconds.max(1)),
             is_terminal: self.is_terminal,
         };
         request.ask(control, writer, errors)

@@ -1,17 +1,15 @@
 //! The changes of a script in the form of `ctl`'s.
 
-ghost use Rattle.std.specs.Prelude.{◌≡◌, ◌<◌, ◌≤◌, Some, None, IfOk, IfErr, IfSome, OnOk, length, map, option_map};
-ghost use Rattle.pf_entry.specs.Owned.{command_value};
+ghost use Rattle.std.specs.Prelude.{◌≡◌, ◌<◌, ◌≤◌, Some, None, IfOk, IfErr, IfSome, OnOk, length, option_map};
 ghost use Rattle.pf_scripts.specs.WordsRead.{IsAskedAs};
 ghost use Rattle.cli_ask.specs.Calls.{call_value};
 ghost use Rattle.cli_ask.specs.Scripting.{call_for};
-ghost use Rattle.cli_ask.specs.Scripts.{items_left, items_in, change_value, found, begun_at, is_pfctl, IsBadAt};
-ghost use Rattle.cli_ask.specs.Scripts.{command_in, fault_of, script_refusal};
+ghost use Rattle.cli_ask.specs.Scripts.{items_left, items_in, change_value, found, IsBadAt};
+ghost use Rattle.cli_ask.specs.Scripts.{fault_of, script_refusal};
 
 use crate::call::{Call, Kind};
-use crate::checking::{Refused, refused_command};
+use crate::checking::{Found, Refused, refused_command};
 use pf_arguments::USAGE;
-use pf_entry::Command;
 use pf_scripts::{ChangeFault, cut_line, push_bytes, read_change, takes_text, words_in};
 use std::alloc::{AllocError, Global};
 
@@ -52,28 +50,6 @@ impl From<AllocError> for ScriptFault {
     }
 }
 
-/// The arguments of the next line that isn't empty, without its lines; none where no such line is left.
-fn next_words<'a>(alloc: Global, left: &mut Left<'a>) -> Result<Option<Change<'a>>, ScriptFault>
-    ensures found { IfOk result (λ c. items_left left.old None
-        ≡ begun_at (option_map change_value c) (items_left left.new)) }
-    ensures bad { IfErr result (λ f. IsBadAt f (items_left left.old None)) }
-    ensures less { IfOk result (λ c. IfSome c (λ _. length left.new.bytes.now < length left.old.bytes.now)) }
-{
-    while let Some((first, rest)) = cut_line(left.bytes) {
-        let line = left.line;
-        left.bytes = rest;
-        left.line = line.saturating_add(1);
-        match words_in(alloc, first.content)? {
-            Some(words) => if !words.is_empty() {
-                let text = Vec::new(alloc);
-                return Ok(Some(Change { line, words, text }));
-            },
-            None => return Err(ScriptFault::Line(line)),
-        }
-    }
-    Ok(None)
-}
-
 /// Puts the lines up to a line `.`, or to the end of the script, behind the text of a change.
 fn read_text(left: &mut Left<'_>, change: &mut Change<'_>) -> Result<(), AllocError>
     ensures found { OnOk result (items_left left.old (Some (change_value change.old))
@@ -91,50 +67,44 @@ fn read_text(left: &mut Left<'_>, change: &mut Change<'_>) -> Result<(), AllocEr
     Ok(())
 }
 
-/// Whether the first argument is pfctl.
-fn is_pfctl(words: &[&str]) -> bool
-    ensures { result ≡ is_pfctl (map (λ w. w.now) words.now) }
-{
-    matches!(words, [first, ..] if *first == "pfctl")
-}
+/// A change, or why there is none; none at the end of the script.
+type Next<'a> = Result<Option<Change<'a>>, ScriptFault>;
 
-/// The next change; none at the end of the script.
-pub(crate) fn next_change<'a>(
-    alloc: Global,
-    left: &mut Left<'a>,
-) -> Result<Option<Change<'a>>, ScriptFault>
+/// The next change: its first line is the next that isn't empty.
+pub(crate) fn next_change<'a>(alloc: Global, left: &mut Left<'a>) -> Next<'a>
     ensures found { IfOk result (λ c. items_left left.old None
         ≡ found (option_map change_value c) (items_left left.new None)) }
     ensures bad { IfErr result (λ f. IsBadAt f (items_left left.old None)) }
     ensures less { IfOk result (λ c. IfSome c (λ _. length left.new.bytes.now < length left.old.bytes.now)) }
 {
-    let Some(mut change) = next_words(alloc, left)? else {
-        return Ok(None);
-    };
-    if !is_pfctl(change.words.as_slice()) {
-        return Err(ScriptFault::Line(change.line));
+    while let Some((first, rest)) = cut_line(left.bytes) {
+        let line = left.line;
+        left.bytes = rest;
+        left.line = line.saturating_add(1);
+        let words = words_in(alloc, first.content)?.ok_or(ScriptFault::Line(line))?;
+        if let [first, ..] = words.as_slice() {
+            if *first != "pfctl" {
+                return Err(ScriptFault::Line(line));
+            }
+            let text = Vec::new(alloc);
+            let mut change = Change { line, words, text };
+            if takes_text(alloc, change.words.as_slice())? {
+                read_text(left, &mut change)?;
+            }
+            return Ok(Some(change));
+        }
     }
-    if takes_text(alloc, change.words.as_slice())? {
-        read_text(left, &mut change)?;
-    }
-    Ok(Some(change))
+    Ok(None)
 }
 
 impl Change<'_> {
-    /// The command that it asks for.
-    fn command(&self, alloc: Global) -> Result<Command, ChangeFault>
-        ensures { IsAskedAs result command_value (command_in (change_value self.now)) }
-    {
-        read_change(alloc, self.words.as_slice(), self.text.as_slice())
-    }
-
     /// What it is refused for before a node is asked, with the line of the script: 40, 24, 1 to 3, 41, and what the
     /// grammar refuses of a ruleset.
-    pub(crate) fn fault(&self, alloc: Global) -> Result<Option<Refused>, AllocError>
+    pub(crate) fn fault(&self, alloc: Global) -> Found
         ensures { IfOk result (λ r. r ≡ fault_of (change_value self.now)) }
     {
         let line = self.line;
-        match self.command(alloc) {
+        match read_change(alloc, self.words.as_slice(), self.text.as_slice()) {
             Ok(command) => Ok(refused_command(alloc, &command)?.map(|found| Refused {
                 line: line.saturating_add(found.line),
                 ..found
@@ -148,7 +118,7 @@ impl Change<'_> {
     pub(crate) fn call(&self, alloc: Global) -> Result<Call, ChangeFault>
         ensures { IsAskedAs result call_value (call_for (change_value self.now)) }
     {
-        let command = self.command(alloc)?;
+        let command = read_change(alloc, self.words.as_slice(), self.text.as_slice())?;
         Call::entry(alloc, &command, Kind::Change).map_err(|fault| {
             fault
                 .code()
@@ -159,17 +129,10 @@ impl Change<'_> {
 
 /// What the first change from this line on is refused for that is refused wherever it is asked; so is a line that asks
 /// for none.
-pub(crate) fn refused_script(
-    alloc: Global,
-    script: &[u8],
-    from: u64,
-) -> Result<Option<Refused>, AllocError>
-    ensures { IfOk result (λ r. r ≡ script_refusal from (items_in script.now)) }
+pub(crate) fn refused_script(alloc: Global, bytes: &[u8], from: u64) -> Found
+    ensures { IfOk result (λ r. r ≡ script_refusal from (items_in bytes.now)) }
 {
-    let mut left = Left {
-        bytes: script,
-        line: 1,
-    };
+    let mut left = Left { bytes, line: 1 };
     loop {
         match next_change(alloc, &mut left) {
             Ok(None) => return Ok(None),

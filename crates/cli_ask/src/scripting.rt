@@ -3,12 +3,13 @@
 ghost use Rattle.std.specs.Prelude.{◌≡◌, IfOk};
 ghost use Rattle.cli_ask.specs.Answers.{outcome_behind};
 ghost use Rattle.cli_ask.specs.Scripts.{change_value, items_in};
-ghost use Rattle.cli_ask.specs.Scripting.{call_for, printed, unsent, went_value, went_by_outcome, Makes};
+ghost use Rattle.cli_ask.specs.Scripting.{call_for, printed, went_value, went_by_outcome, Makes};
 ghost use Rattle.cli_ask.specs.Scripting.{end_text, Ended, AskedOne, AskedAll};
 
-use crate::answers::outcome_behind;
+use crate::answers::behind_line;
 use crate::asking::{Pauses, ask_at};
 use crate::checking::Refused;
+use crate::commands::ASKED;
 use crate::control::Control;
 use crate::exchange::{AskFault, Reply};
 use crate::outcome::refusal_line;
@@ -19,9 +20,6 @@ use pf_scripts::ChangeFault;
 use std::alloc::{AllocError, Global};
 use std::io::Write;
 use std::time::Clock;
-
-/// What comes of a change that was made.
-const MADE: &[u8] = b"ok";
 
 /// What is asked.
 #[derive(Clone, Copy)]
@@ -51,19 +49,11 @@ fn went_by(alloc: Global, reply: Reply) -> Result<Went, AllocError>
     ensures { IfOk result (λ went. printed went
         ≡ went_by_outcome (outcome_behind reply.body.items) reply.body.items) }
 {
-    let outcome = outcome_behind(reply.body.as_slice());
-    if outcome.starts_with(MADE) {
+    let outcome = behind_line(reply.body.as_slice(), ASKED);
+    if outcome.starts_with(b"ok") {
         return Ok(Went::Made(Vec::from_slice(alloc, outcome)?));
     }
     Ok(Went::Stopped(reply.body))
-}
-
-/// What is printed of a change whose arguments are refused.
-fn unsent(alloc: Global, code: u8) -> Result<Went, AllocError>
-    ensures { IfOk result (λ went. printed went ≡ unsent code) }
-{
-    let line = refusal_line(alloc, Refused { code, line: 0 })?;
-    Ok(Went::Stopped(line.into_bytes()))
 }
 
 /// Writes what ends a script, and the line at which it ended.
@@ -95,7 +85,10 @@ impl<RT: Pauses + Clock> ScriptRequest<'_, RT> {
     {
         let call = match change.call(self.alloc) {
             Ok(call) => call,
-            Err(ChangeFault::Refused(code)) => return Ok(unsent(self.alloc, code)?),
+            Err(ChangeFault::Refused(code)) => {
+                let line = refusal_line(self.alloc, Refused { code, line: 0 })?;
+                return Ok(Went::Stopped(line.into_bytes()));
+            }
             Err(ChangeFault::Memory) => return Err(AskFault::Memory),
         };
         let reply = ask_at(self.rt, self.alloc, control, &call, self.seconds)?;
@@ -138,10 +131,8 @@ impl<RT: Pauses + Clock> ScriptRequest<'_, RT> {
         ensures { AskedAll (C.exchanged control.old) (C.exchanged control.new) self.now.from self.now.seconds
             (items_in self.now.script.now) result (W.contents writer.old) (W.contents writer.new) }
     {
-        let mut left = Left {
-            bytes: self.script,
-            line: 1,
-        };
+        let bytes = self.script;
+        let mut left = Left { bytes, line: 1 };
         loop {
             let change = match next_change(self.alloc, &mut left) {
                 Ok(Some(change)) => change,

@@ -1,23 +1,16 @@
 //! Text of others for a terminal.
 
 ghost use Rattle.std.specs.Prelude.{◌≡◌, ◌++◌, IfOk, OnOk, option_map, string_bytes};
-ghost use Rattle.cli_ask.specs.Showing.{is_hidden, shown_char, shown_text, shown};
+ghost use Rattle.cli_ask.specs.Showing.{shown_char, shown_text, shown};
 
 use crate::reply::text_in;
 use std::alloc::{AllocError, Global};
 
-/// Whether a character is written as its number: control characters but newline and tab.
-fn is_hidden(c: char) -> bool
-    ensures { result ≡ is_hidden c }
-{
-    c.is_control() && c != '\n' && c != '\t'
-}
-
-/// Puts a character as it is printed behind a string.
+/// Puts a character as it is printed behind a string: control characters but newline and tab as their numbers.
 fn push_shown(out: &mut String, c: char) -> Result<(), AllocError>
     ensures { OnOk result (string_bytes out.new ≡ string_bytes out.old ++ shown_char c) }
 {
-    if is_hidden(c) {
+    if c.is_control() && c != '\n' && c != '\t' {
         return write!(out, "\\u{{{:x}}}", u32::from(c));
     }
     out.push(c)

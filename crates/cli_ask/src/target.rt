@@ -3,7 +3,7 @@
 ghost use Rattle.std.specs.Prelude.{◌≡◌, ◌==◌, OnOk, IfOk, option_map, string_bytes};
 ghost use Rattle.std.specs.List.{list_any};
 ghost use Rattle.clap.specs.Words.{found_of, rows_of};
-ghost use Rattle.cli_ask.specs.Calls.{mark, with_parameter, with_given, with_position, target_in, path_with};
+ghost use Rattle.cli_ask.specs.Calls.{with_given, with_position, target_in, path_with};
 
 use clap::ArgMatches;
 use cli_io::value_in;
@@ -20,31 +20,17 @@ fn has_query(target: &str) -> bool
     target.as_bytes().iter().any(|b| *b == b'?')
 }
 
-/// What is before a parameter: `&` behind another one.
-fn mark(target: &str) -> &'static str
-    ensures { result.now ≡ mark target.now }
-{
-    if has_query(target) { "&" } else { "?" }
-}
-
-/// Adds a parameter of the query.
-fn add_parameter(target: &mut String, name: &str, value: &str) -> Result<(), AllocError>
-    ensures { OnOk result (string_bytes target.new ≡ with_parameter name.now value.now (string_bytes target.old)) }
-{
-    let mark = mark(target.as_str());
-    write!(target, "{mark}{name}=")?;
-    utf8_percent_encode(value, NON_ALPHANUMERIC).append_to(target)
-}
-
-/// Adds a parameter, if it has a value.
-fn add_given(target: &mut String, name: &str, value: Option<&str>) -> Result<(), AllocError>
+/// Adds a parameter of the query, if it has a value; behind another one with `&`.
+fn add(target: &mut String, name: &str, value: Option<&str>) -> Result<(), AllocError>
     ensures { OnOk result (string_bytes target.new
         ≡ with_given name.now (option_map (λ v. v.now) value.entry) (string_bytes target.old)) }
 {
-    match value {
-        Some(value) => add_parameter(target, name, value),
-        None => Ok(()),
-    }
+    let Some(value) = value else {
+        return Ok(());
+    };
+    let mark = if has_query(target.as_str()) { "&" } else { "?" };
+    write!(target, "{mark}{name}=")?;
+    utf8_percent_encode(value, NON_ALPHANUMERIC).append_to(target)
 }
 
 /// Adds how many positions the node must have applied, if any.
@@ -52,7 +38,7 @@ fn add_position(alloc: Global, target: &mut String, at: u32) -> Result<(), Alloc
     ensures { OnOk result (string_bytes target.new ≡ with_position at (string_bytes target.old)) }
 {
     if at > 0 {
-        return add_parameter(target, "at", at.to_string(alloc)?.as_str());
+        return add(target, "at", Some(at.to_string(alloc)?.as_str()));
     }
     Ok(())
 }
@@ -72,8 +58,8 @@ impl Given<'_, '_> {
             ≡ target_in path.now (rows_of (found_of self.now.matches.now)) at) }
     {
         let mut target = String::from_str(self.alloc, path)?;
-        add_given(&mut target, "a", value_in(self.matches, "path"))?;
-        add_given(&mut target, "t", value_in(self.matches, "table"))?;
+        add(&mut target, "a", value_in(self.matches, "path"))?;
+        add(&mut target, "t", value_in(self.matches, "table"))?;
         add_position(self.alloc, &mut target, at)?;
         Ok(target)
     }

@@ -3,7 +3,7 @@
 ghost use Rattle.std.specs.Prelude.{◌≡◌, true, false, Some, OnOk};
 ghost use Rattle.cli_ask.specs.Calls.{call_value};
 ghost use Rattle.cli_ask.specs.Replies.{reply_value};
-ghost use Rattle.cli_ask.specs.Asking.{line_count, behind_lines, left_by, is_whole, IsOfOne, with_more};
+ghost use Rattle.cli_ask.specs.Asking.{behind_lines, left_by, is_whole, IsOfOne, with_more};
 ghost use Rattle.cli_ask.specs.Asking.{answer_value, parts_value, BegunParts, AskedVerdicts};
 
 use crate::asking::{Asking, Pauses};
@@ -15,13 +15,6 @@ use std::alloc::AllocError;
 
 /// How many times verdicts are asked for that a node doesn't answer at once, until all are of one position.
 const BEGINNINGS: u32 = 3;
-
-/// How many lines the text has.
-fn line_count(text: &[u8]) -> usize
-    ensures { result ≡ line_count text.now }
-{
-    text.iter().filter(|byte| **byte == b'\n').count()
-}
 
 /// What is behind that many lines.
 fn behind_lines(text: &[u8], count: usize) -> &[u8]
@@ -41,7 +34,8 @@ fn behind_lines(text: &[u8], count: usize) -> &[u8]
 fn left_by<'a>(so_far: &Reply, call: &'a Call) -> &'a [u8]
     ensures { result.now ≡ left_by (Some (reply_value so_far.now)) (call_value call.now).body }
 {
-    behind_lines(call.body.as_slice(), line_count(so_far.body.as_slice()))
+    let count = so_far.body.iter().filter(|byte| **byte == b'\n').count();
+    behind_lines(call.body.as_slice(), count)
 }
 
 /// Whether nothing is asked behind it: it isn't one of verdicts, or leaves no packet.

@@ -16,21 +16,13 @@ pub(crate) fn line_at(text: &[u8], before: usize) -> u64 {
     line_behind(text.get(..before).unwrap_or(text))
 }
 
-/// Whether a byte may be before a key in its line: a blank, a header's bracket, a quote.
-fn may_precede(byte: u8) -> bool {
-    matches!(byte, b' ' | b'\t' | b'[' | b'"' | b'\'')
-}
-
-/// Whether a byte is one of a bare key.
-fn is_of_key(byte: u8) -> bool {
-    byte.is_ascii_alphanumeric() || byte == b'-' || byte == b'_'
-}
-
 /// Whether the key is at this place, and ends there.
 fn is_key_at(text: &[u8], at: usize, key: &[u8]) -> bool {
     text.get(at..)
         .and_then(|rest| rest.strip_prefix(key))
-        .is_some_and(|after| !after.first().is_some_and(|byte| is_of_key(*byte)))
+        .is_some_and(|after| {
+            !matches!(after, [b'-' | b'_' | b'a'..=b'z' | b'A'..=b'Z' | b'0'..=b'9', ..])
+        })
 }
 
 /// The line, from 1, that begins with a key, blanks, brackets and quotes before it aside; none where no line does.
@@ -40,7 +32,8 @@ pub(crate) fn line_of(text: &[u8], key: &str) -> Option<u64> {
         if is_start && is_key_at(text, at, key.as_bytes()) {
             return Some(line_at(text, at));
         }
-        is_start = *byte == b'\n' || (is_start && may_precede(*byte));
+        is_start = *byte == b'\n'
+            || (is_start && matches!(byte, b' ' | b'\t' | b'[' | b'"' | b'\''));
     }
     None
 }

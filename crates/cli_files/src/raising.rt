@@ -1,9 +1,9 @@
 //! The raising of a member's start in its file of starts.
 
 ghost use Rattle.std.specs.Prelude.{◌≡◌, ◌≢◌, ◌<◌, ◌≤◌, List, ℕ, Err, Some, None, IfOk, IfErr, false, length};
-ghost use Rattle.std.specs.Prelude.{option_map, replicate};
+ghost use Rattle.std.specs.Prelude.{option_map};
 ghost use Rattle.cli_files.specs.StartsTexts.{starts_text, AreFit};
-ghost use Rattle.cli_files.specs.Raising.{unheard, AreKnown, Raises, IsSpent, ComesFirst, IsOfRead};
+ghost use Rattle.cli_files.specs.Raising.{AreKnown, Raises, IsSpent, ComesFirst, IsOfRead};
 ghost use Rattle.cli_files.specs.declared.known.KnownMember as declared;
 
 use crate::known::KnownMember;
@@ -14,20 +14,7 @@ use crate::starts_place::StartsPlace;
 use crate::starts_reading::read_starts;
 use crate::starts_writing::write_starts;
 use px_packet::Start;
-use std::alloc::{AllocError, Global};
-
-/// A cluster of which no member was heard.
-fn blank(alloc: Global, members: u8) -> Result<Vec<KnownMember>, AllocError>
-    ensures { IfOk result (λ known. known.items ≡ replicate members unheard) }
-{
-    let mut known = Vec::new(alloc);
-    let unheard = KnownMember {
-        start: Start::NEVER,
-        birth: 0,
-    };
-    known.resize(usize::from(members), unheard)?;
-    Ok(known)
-}
+use std::alloc::Global;
 
 /// What a string has of a cluster of that many members.
 fn known_in_text(alloc: Global, text: &[u8], members: u8) -> Result<Vec<KnownMember>, RaiseFault>
@@ -62,7 +49,11 @@ pub(crate) fn known_in(
 {
     match text {
         Some(text) => known_in_text(alloc, text.as_slice(), members),
-        None if may_be_made => Ok(blank(alloc, members)?),
+        // none of its members was heard
+        None if may_be_made => {
+            let (start, birth) = (Start::NEVER, 0);
+            Ok(vec![in alloc; KnownMember { start, birth }; usize::from(members)]?)
+        }
         None => Err(RaiseFault::Missing),
     }
 }

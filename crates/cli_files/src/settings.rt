@@ -1,6 +1,6 @@
 //! A file of settings that was read.
 
-ghost use Rattle.std.specs.Prelude.{◌≡◌, Some, None, map, option_map, option_and_then, IfOk, IfErr, IfSome, IsUtf8};
+ghost use Rattle.std.specs.Prelude.{◌≡◌, Some, None, map, option_map, option_and_then, IfOk, IfErr, IsUtf8};
 ghost use Rattle.toml.specs.Data.{Members, no_members, as_str, get_member};
 ghost use Rattle.toml.specs.Errors.{IsMemory};
 ghost use Rattle.toml.specs.Parse.{parse_document};
@@ -56,15 +56,6 @@ fn key_fault(text: &[u8], key: &str) -> FileFault
     }
 }
 
-/// What a table is refused for, if it is.
-fn table_fault(text: &[u8], table: &Table) -> Option<FileFault>
-    requires { parse_document text.now ≡ Some (table_view table.now) }
-    ensures none { result ≡ None → first_wrong (table_view table.now) ≡ None }
-    ensures some { IfSome result (λ fault. IsRefused fault text.now) }
-{
-    first_wrong(table).map(|key| key_fault(text, key))
-}
-
 impl NodeFile {
     /// A file without any setting.
     pub fn empty(alloc: Global) -> NodeFile
@@ -83,7 +74,7 @@ impl NodeFile {
         ensures refused { IfErr result (λ fault. IsRefused fault text.now) }
     {
         let table = table_from_slice(alloc, text).map_err(|error| syntax_fault(text, error))?;
-        match table_fault(text, &table) {
+        match first_wrong(&table).map(|key| key_fault(text, key)) {
             None => Ok(NodeFile { table }),
             Some(fault) => {
                 drop(table);

@@ -11,7 +11,6 @@ use crate::random_bytes::RandomBytes;
 use crate::starts_place::{StartsFile, StartsPlace};
 use px_packet::Start;
 use std::alloc::{AllocError, Global};
-use std::io;
 use std::random::RandomSource;
 use std::rt::Files;
 use std::time::{Clock, SystemTime};
@@ -34,15 +33,6 @@ pub fn starts_in<F: Files>(
     ensures why { (result ≢ Err RaiseFault.Spent) × (result ≢ Err RaiseFault.Unwritten) }
 {
     starts_at(alloc, &StartsFile { files, path }, members)
-}
-
-/// The number of the next four bytes of a random source.
-fn salt<R: RandomBytes>(source: &R) -> io::Result<u32>
-    ensures { IfOk result (λ n. (bytes : List ℕ) × R.gives source.now bytes × (n ≡ from_be_bytes w32 bytes)) }
-{
-    let mut bytes = [0u8; 4];
-    source.fill(&mut bytes)?;
-    Ok(u32::from_be_bytes(bytes))
 }
 
 /// A clock that reports the time in seconds since 1970.
@@ -85,7 +75,9 @@ fn raise_with<P: StartsPlace, C: Seconds, R: RandomBytes>(
     ensures started { IfOk result (λ start. 0 < start.number) }
 {
     let seconds = clock.seconds();
-    let salt = salt(random)?;
+    let mut bytes = [0u8; 4];
+    random.fill(&mut bytes)?;
+    let salt = u32::from_be_bytes(bytes);
     raise_at(alloc, place, members, me, may_be_made, seconds, salt)
 }
 

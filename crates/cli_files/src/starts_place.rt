@@ -42,19 +42,6 @@ fn folder_of(path: &str) -> &str {
     }
 }
 
-/// Writes a file that its owner alone may read: beside its place, synced, then renamed, and the folder synced.
-fn put<F: Files>(files: &F, alloc: Global, path: &str, text: &[u8]) -> Result<(), RaiseFault>
-    ensures { IfErr result IsOfWrite }
-{
-    let beside = format!(in alloc; "{path}-new")?;
-    let _gone = fs::remove_file(files, beside.as_str());
-    let mut file = make_private(files, beside.as_str())?;
-    file.write_all(text)?;
-    file.sync_all()?;
-    fs::rename(files, beside.as_str(), path)?;
-    Ok(fs::open(files, folder_of(path))?.sync_all()?)
-}
-
 impl<F: Files> StartsPlace for StartsFile<'_, F> {
     // no contract states what a file has
     ghost has = { λ _ _. ⊤ };
@@ -73,7 +60,15 @@ impl<F: Files> StartsPlace for StartsFile<'_, F> {
         }
     }
 
+    /// Writes a file that its owner alone may read: beside its place, synced, then renamed, and the folder synced.
     fn replace(&mut self, alloc: Global, text: &[u8]) -> Result<(), RaiseFault> {
-        put(self.files, alloc, self.path, text)
+        let StartsFile { files, path } = *self;
+        let beside = format!(in alloc; "{path}-new")?;
+        let _gone = fs::remove_file(files, beside.as_str());
+        let mut file = make_private(files, beside.as_str())?;
+        file.write_all(text)?;
+        file.sync_all()?;
+        fs::rename(files, beside.as_str(), path)?;
+        Ok(fs::open(files, folder_of(path))?.sync_all()?)
     }
 }

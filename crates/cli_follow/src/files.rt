@@ -21,6 +21,9 @@ use std::alloc::{AllocError, Global};
 use std::fs::{self, Files, OpenOptions};
 use std::io::{self, Write};
 
+/// What is made, unless out of memory.
+pub(crate) type Made<T> = Result<T, AllocError>;
+
 /// A file and its text.
 #[derive(Drop)]
 struct TextFile {
@@ -204,12 +207,7 @@ impl TextFiles {
     }
 
     /// Writes a file unless it is there, and answers whether it does now.
-    fn put_unless_there<F: Folders>(
-        &self,
-        folders: &mut F,
-        name: &str,
-        text: &str,
-    ) -> Result<bool, AllocError>
+    fn put_once<F: Folders>(&self, folders: &mut F, name: &str, text: &str) -> Made<bool>
         ensures put { IfOk result (λ is_put. Acted (F.done folders.old) (F.done folders.new) (λ acts.
             PutsOnce (string_bytes self.now.folder) self.now.written.items name.now text.now acts is_put)) }
         ensures none { OnErr result (Adds (F.done folders.old) (F.done folders.new) []) }
@@ -240,11 +238,7 @@ impl TextFiles {
     }
 
     /// Writes those files that aren't written so yet, and answers which are there.
-    fn put_each<F: Folders>(
-        &self,
-        folders: &mut F,
-        files: Vec<TextFile>,
-    ) -> Result<Vec<TextFile>, AllocError>
+    fn put_each<F: Folders>(&self, folders: &mut F, files: Vec<TextFile>) -> Made<Vec<TextFile>>
         ensures put { IfOk result (λ put. Acted (F.done folders.old) (F.done folders.new) (λ acts.
             Puts (string_bytes self.now.folder) self.now.written.items (map file_value files.items)
             acts put.items)) }
@@ -254,12 +248,8 @@ impl TextFiles {
     {
         let mut put = Vec::new(*self.written.allocator());
         for file in files {
-            let TextFile {
-                name,
-                text,
-                is_put: _,
-            } = file;
-            let is_put = self.put_unless_there(folders, name.as_str(), text.as_str())?;
+            let TextFile { name, text, .. } = file;
+            let is_put = self.put_once(folders, name.as_str(), text.as_str())?;
             put.push(TextFile { name, text, is_put })?;
         }
         Ok(put)
@@ -267,11 +257,7 @@ impl TextFiles {
 
     /// Writes those files that aren't written so yet, empty ones for paths that are gone, and answers whether all could
     /// be.
-    fn put_all<F: Folders>(
-        &mut self,
-        folders: &mut F,
-        files: Vec<TextFile>,
-    ) -> Result<bool, AllocError>
+    fn put_all<F: Folders>(&mut self, folders: &mut F, files: Vec<TextFile>) -> Made<bool>
         ensures folder { self.new.folder ≡ self.old.folder }
         ensures put { OnOk result (Acted (F.done folders.old) (F.done folders.new) (λ acts.
             Puts (string_bytes self.old.folder) self.old.written.items

@@ -10,6 +10,7 @@ ghost use Rattle.cli_follow.specs.Output.{Wanted};
 ghost use Rattle.cli_follow.specs.Output as code;
 ghost use Rattle.cli_follow.specs.inner.Seen.{follower_of, wanted_of, due_in, loads_of, Wrote, Written};
 
+use crate::files::Made;
 use crate::followed_configuration::{FollowedConfiguration, TakeFault};
 use crate::kernel::{Kernel, Step};
 use crate::members::members_reported;
@@ -260,11 +261,7 @@ impl Follower {
     }
 
     /// Takes the answer to the ask for the status.
-    pub(crate) fn informed(
-        &mut self,
-        alloc: Global,
-        answer: Result<Reply, AskFault>,
-    ) -> Result<Due, AllocError>
+    pub(crate) fn informed(&mut self, alloc: Global, answer: Result<Reply, AskFault>) -> Made<Due>
         requires guarded { (wanted_of self.old).is_guarded ≡ true }
         ensures due { IfOk result (λ d. (asks : ℕ) →
             after_status (wanted_of self.old) (follower_of asks self.old) answer

@@ -83,13 +83,8 @@ impl Kernel {
             self.now.members.items position) }
     {
         let (interfaces, members) = (self.interfaces.as_slice(), self.members.as_slice());
-        rendered_lines(
-            *self.members.allocator(),
-            config,
-            interfaces,
-            members,
-            position,
-        )
+        let alloc = *self.members.allocator();
+        rendered_lines(alloc, config, interfaces, members, position)
     }
 
     /// Whether this is what was handed out last, but for the names.

@@ -3,9 +3,10 @@
 ghost use Rattle.std.specs.Prelude.{◌≡◌, IfOk, map, option_map};
 ghost use Rattle.cli_follow.specs.Members.{some_texts, texts_on, members_reported};
 
+use crate::files::Made;
 use cli_nft::{Member, members_in};
 use pf_scripts::{cut_line, words_in};
-use std::alloc::{AllocError, Global};
+use std::alloc::Global;
 
 /// Texts, if there are some.
 fn some_texts<'w, 'a>(texts: &'w [&'a str]) -> Option<&'w [&'a str]>
@@ -29,10 +30,7 @@ fn texts_on<'w, 'a>(words: &'w [&'a str]) -> Option<&'w [&'a str]>
 
 /// Where the members listen by a node's status, of which a line names them; none where it doesn't.
 #[tactic(auto, unfolding(crate::specs::Members::members_reported))]
-pub(crate) fn members_reported(
-    alloc: Global,
-    status: &[u8],
-) -> Result<Option<Vec<Member>>, AllocError>
+pub(crate) fn members_reported(alloc: Global, status: &[u8]) -> Made<Option<Vec<Member>>>
     ensures { IfOk result (λ o. option_map (λ v. v.items) o ≡ members_reported status.now) }
 {
     let mut left = status;

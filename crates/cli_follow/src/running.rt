@@ -14,7 +14,7 @@ ghost use Rattle.cli_follow.specs.Places.{AreTurns, IsEnding, IsNoEnding, Follow
 ghost use Rattle.cli_follow.specs.Running.{RanOut, Ran};
 
 use crate::control::{Control, ControlSockets};
-use crate::files::{Folders, TextFiles, are_behind};
+use crate::files::{Folders, Made, TextFiles, are_behind};
 use crate::follower::{Due, Follower, WriteFault, is_again};
 use crate::options::command;
 use crate::places::{Places, places_for};
@@ -35,31 +35,8 @@ const PAUSE: u64 = 50;
 const NO_GUARD: &[u8] =
     b"pfx: no member guard: rules that drop the members' own datagrams cut this node off, and no command mends them\n";
 
-/// Logs that there is no answer, and why nobody answers, unless that was logged last.
-fn log_refusal<C: Control, E: Write>(
-    control: &C,
-    errors: &mut E,
-    fault: AskFault,
-    said: &mut Option<AskFault>,
-) {
-    if *said == Some(fault) {
-        return;
-    }
-    *said = Some(fault);
-    let code = fault.code().unwrap_or(NOBODY_ANSWERS);
-    let _logged = writeln!(errors, "pfx: refused {code}, asked again");
-    if fault == AskFault::NoAnswer {
-        control.report(errors);
-    }
-}
-
 /// Asks for entries after the given number of asks, and for the status where that is needed.
-fn ask<C: Control>(
-    alloc: Global,
-    control: &mut C,
-    asks: u64,
-    follower: &mut Follower,
-) -> Result<Due, AllocError>
+fn ask<C: Control>(alloc: Global, control: &mut C, asks: u64, follower: &mut Follower) -> Made<Due>
     ensures due { IfOk result (λ d. Leads (C.exchanged control.old) (C.exchanged control.new)
         (wanted_of follower.old) (AsksEntries (follower_of asks follower.old))
         (due_in (wanted_of follower.old) (follower_of (asks + 1) follower.new) d)) }
@@ -173,7 +150,8 @@ fn is_another(due: Due) -> bool
     matches!(due, Due::Another)
 }
 
-/// Reports once that there is no answer, and waits before it asks for entries again, except for the rest of an answer.
+/// Reports once that there is no answer, and why nobody answers, and waits before it asks for entries again, except for
+/// the rest of an answer.
 fn rest<RT: Pauses, C: Control, E: Write>(
     rt: &RT,
     control: &C,
@@ -181,16 +159,20 @@ fn rest<RT: Pauses, C: Control, E: Write>(
     due: Due,
     said: &mut Option<AskFault>,
 ) {
-    match due {
-        Due::More => *said = None,
-        Due::Nothing(fault) => {
-            log_refusal(control, errors, fault, said);
-            rt.pause(PAUSE);
+    let was = *said;
+    *said = None;
+    if let Due::Nothing(fault) = due {
+        *said = Some(fault);
+        if was != *said {
+            let code = fault.code().unwrap_or(NOBODY_ANSWERS);
+            let _logged = writeln!(errors, "pfx: refused {code}, asked again");
+            if fault == AskFault::NoAnswer {
+                control.report(errors);
+            }
         }
-        _ => {
-            *said = None;
-            rt.pause(PAUSE);
-        }
+    }
+    if !matches!(due, Due::More) {
+        rt.pause(PAUSE);
     }
 }
 
@@ -349,21 +331,16 @@ fn followed<RT: Files + Pauses + Sources, F: Folders, C: Control, W: Write, E: W
 }
 
 /// What is wrong with the arguments, on the output; out of memory, on standard error.
-fn refuse<W: Write, E: Write>(
-    alloc: Global,
-    error: &Error,
-    writer: &mut W,
-    errors: &mut E,
-) -> Status
-    ensures memory { kind_of error.now ≡ OutOfMemory →
+fn refuse<W: Write, E: Write>(alloc: Global, why: &Error, writer: &mut W, errors: &mut E) -> Status
+    ensures memory { kind_of why.now ≡ OutOfMemory →
         RanOut result (W.contents writer.old) (W.contents writer.new) }
     ensures ran { RanOut result (W.contents writer.old) (W.contents writer.new)
         ⊎ IsMisused result (W.contents writer.old) (W.contents writer.new) }
 {
-    if error.kind() == ErrorKind::OutOfMemory {
+    if why.kind() == ErrorKind::OutOfMemory {
         return memory(errors);
     }
-    misused(alloc, error, writer)
+    misused(alloc, why, writer)
 }
 
 /// What the subcommand `follow` asks for, the program's name first: the rules of a running node's configuration, whole,

@@ -34,6 +34,5 @@ pub fn make_private<F: Files>(files: &F, path: &str) -> io::Result<F::File> {
 
 /// Connects to a Unix socket and closes the connection: where nobody answers, the error is why.
 pub fn knock<R: Net>(net: &R, path: &str) -> io::Result<()> {
-    let _stream = UnixStream::connect(net, path)?;
-    Ok(())
+    UnixStream::connect(net, path).map(drop)
 }

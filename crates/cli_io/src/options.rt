@@ -5,11 +5,11 @@ ghost use Rattle.clap.specs.Words.{app_of, rule_of, found_of, rows_of, first_of,
 ghost use Rattle.clap.specs.declared.builder.command.Command.TheViews.{out-Command};
 ghost use Rattle.cli_io.specs.Given.{given_in, is_given, program_of};
 ghost use Rattle.cli_io.specs.Numbers.{number_at};
-ghost use Rattle.cli_io.specs.Options.{long_rule, rule_by, with_rules};
+ghost use Rattle.cli_io.specs.Options.{long_rule, value_rule, needed_if, rule_by, with_rules};
 
 use clap::ArgAction::{Append, Set, SetTrue};
-use clap::builder::ValueParser;
-use clap::{Arg, ArgAction, ArgMatches, Command, value_parser};
+use clap::builder::ValueParser::{Signed, Unsigned};
+use clap::{Arg, ArgAction, ArgMatches, Command};
 use std::alloc::{AllocError, Global};
 
 /// An option of a subcommand, or an argument behind the options: its name, its help, and what else it has.
@@ -49,6 +49,14 @@ fn long<'a>(alloc: Global, name: &'a str, help: &'a str, action: ArgAction) -> A
     Arg::new(alloc, name).long(name).action(action).help(help)
 }
 
+/// `--NAME VALUE`, and whether it has to be given.
+fn set<'a>(alloc: Global, name: &'a str, help: &'a str, needed: bool) -> Arg<'a>
+    ensures rule { rule_of result ≡ needed_if needed (value_rule name.entry.now) }
+    ensures local { result.global ≡ false }
+{
+    long(alloc, name, help, Set).required(needed)
+}
+
 /// The argument as `clap` has it.
 fn arg_of<'a>(alloc: Global, argument: Argument<'a>) -> Arg<'a>
     ensures rule { rule_of result ≡ rule_by argument.entry }
@@ -57,23 +65,19 @@ fn arg_of<'a>(alloc: Global, argument: Argument<'a>) -> Arg<'a>
     match argument {
         Argument::Flag(name, help) => long(alloc, name, help, SetTrue),
         Argument::ShortFlag(name, help, letter) => long(alloc, name, help, SetTrue).short(letter),
-        Argument::Value(name, help) => long(alloc, name, help, Set),
-        Argument::ShortValue(name, help, letter) => long(alloc, name, help, Set).short(letter),
-        Argument::Needed(name, help) => long(alloc, name, help, Set).required(true),
-        Argument::NeededIf(name, help, needed) => long(alloc, name, help, Set).required(needed),
+        Argument::Value(name, help) => set(alloc, name, help, false),
+        Argument::ShortValue(name, help, letter) => set(alloc, name, help, false).short(letter),
+        Argument::Needed(name, help) => set(alloc, name, help, true),
+        Argument::NeededIf(name, help, needed) => set(alloc, name, help, needed),
         Argument::Values(name, help) => long(alloc, name, help, Append).num_args(1..),
         Argument::Number(name, help, least, most) => {
-            long(alloc, name, help, Set).value_parser(ValueParser::Unsigned(least, most))
+            set(alloc, name, help, false).value_parser(Unsigned(least, most))
         }
         Argument::U8(name, help, needed) => {
-            long(alloc, name, help, Set)
-                .value_parser(value_parser!(u8))
-                .required(needed)
+            set(alloc, name, help, needed).value_parser(Signed(0, 255))
         }
         Argument::U32(name, help, needed) => {
-            long(alloc, name, help, Set)
-                .value_parser(value_parser!(u32))
-                .required(needed)
+            set(alloc, name, help, needed).value_parser(Signed(0, 4294967295))
         }
         Argument::Single(name, help) => Arg::new(alloc, name).action(Set).help(help),
         Argument::Several(name, help) => {
@@ -139,10 +143,7 @@ pub fn value_in<'a>(matches: &ArgMatches<'a>, id: &str) -> Option<&'a str>
 pub fn has_flag(matches: &ArgMatches<'_>, id: &str) -> bool
     ensures { result ≡ is_given (first_of id.now (rows_of (found_of matches.now))) }
 {
-    match value_in(matches, id) {
-        Some(value) => value == "true",
-        None => false,
-    }
+    value_in(matches, id).is_some_and(|value| value == "true")
 }
 
 /// The number of 32 bits that an option has.
@@ -156,8 +157,6 @@ pub fn number_in(matches: &ArgMatches<'_>, id: &str) -> Option<u32>
 pub fn given_in<'m, 'a>(matches: &'m ArgMatches<'a>, name: &str) -> Option<&'m ArgMatches<'a>>
     ensures { option_map (λ m. rows_of (found_of m.now)) result ≡ given_in name.now (subcommand_rows_of matches.now) }
 {
-    match matches.subcommand() {
-        Some((found, inner)) => if found == name { Some(inner) } else { None },
-        None => None,
-    }
+    let (found, inner) = matches.subcommand()?;
+    (found == name).then_some(inner)
 }

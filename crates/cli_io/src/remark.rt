@@ -1,7 +1,7 @@
 //! One line about a refusal that came.
 
 ghost use Rattle.std.specs.Prelude.{Some};
-ghost use Rattle.cli_io.specs.Explained.{remark, place_of};
+ghost use Rattle.cli_io.specs.Explained.{remark};
 
 use std::fmt;
 
@@ -19,26 +19,14 @@ pub struct Remark<'a> {
     pub code: u8,
 }
 
-/// The place of a refusal within its text.
-#[derive(Clone, Copy)]
-struct Place(Option<u64>);
-
-impl fmt::Display for Place {
-    ghost output = { λ p. Some (place_of p.0) };
-
-    fn fmt<W: fmt::Write>(&self, f: &mut fmt::Formatter<W>) -> fmt::Result {
-        match self.0 {
-            Some(line) => write!(f, ":{line}"),
-            None => Ok(()),
-        }
-    }
-}
-
 impl fmt::Display for Remark<'_> {
     ghost output = { λ r. Some (remark r.source.now r.line r.name.now r.code) };
 
     fn fmt<W: fmt::Write>(&self, f: &mut fmt::Formatter<W>) -> fmt::Result {
-        let place = Place(self.line);
-        write!(f, "{}{place}: {} ({})", self.source, self.name, self.code)
+        write!(f, "{}", self.source)?;
+        if let Some(line) = self.line {
+            write!(f, ":{line}")?;
+        }
+        write!(f, ": {} ({})", self.name, self.code)
     }
 }

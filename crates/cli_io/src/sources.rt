@@ -28,21 +28,16 @@ impl<F: Files> Sources for F {
     ghost has = { λ _ _ text. IsOfFile F.File.remaining text };
 
     fn source_at(&self, alloc: Global, path: &str) -> Result<Vec<u8>, InputFault> {
-        let Ok(mut file) = fs::open(self, path) else {
-            return Err(InputFault::Failed);
-        };
+        let mut file = fs::open(self, path).map_err(|_| InputFault::Failed)?;
         read_all(alloc, &mut file)
     }
 
     fn file_at(&self, alloc: Global, path: &str) -> io::Result<Vec<u8>> {
         let mut file = open_regular(self, path)?;
-        match read_all(alloc, &mut file) {
-            Ok(text) => Ok(text),
-            Err(InputFault::Memory) => Err(Error::from(ErrorKind::OutOfMemory)),
-            Err(InputFault::Failed | InputFault::TooLong) => {
-                Err(Error::new(ErrorKind::InvalidData, "a read failed"))
-            }
-        }
+        read_all(alloc, &mut file).map_err(|fault| match fault {
+            InputFault::Memory => Error::from(ErrorKind::OutOfMemory),
+            _ => Error::new(ErrorKind::InvalidData, "a read failed"),
+        })
     }
 }
 

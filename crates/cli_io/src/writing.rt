@@ -25,11 +25,8 @@ pub fn write_bytes<W: Write>(writer: &mut W, bytes: &[u8]) -> io::Result<()>
         match writer.write(rest) {
             Ok(0) => return Err(io::Error::from(IoKind::WriteZero)),
             Ok(n) => rest = &rest[n..],
-            Err(error) => {
-                if error.kind() != IoKind::Interrupted {
-                    return Err(error);
-                }
-            }
+            Err(error) if error.kind() == IoKind::Interrupted => (),
+            Err(error) => return Err(error),
         }
     }
     Err(io::Error::from(IoKind::Other))
@@ -42,10 +39,7 @@ pub fn out_of_memory<W: Write>(writer: &mut W) -> Status
     ensures failed { result ≡ Status.Failed →
         AppendsFront (W.contents writer.old) (W.contents writer.new) (line (codes "memory")) }
 {
-    match write_bytes(writer, b"memory\n") {
-        Ok(()) => Status::Memory,
-        Err(_) => Status::Failed,
-    }
+    write_bytes(writer, b"memory\n").map_or(Status::Failed, |()| Status::Memory)
 }
 
 /// Writes what is wrong with the arguments.
@@ -55,14 +49,10 @@ pub fn misused<W: Write>(alloc: Global, error: &Error, writer: &mut W) -> Status
     ensures failed { kind_of error.now ≡ OutOfMemory → result ≡ Status.Failed →
         AppendsFront (W.contents writer.old) (W.contents writer.new) (line (codes "memory")) }
 {
-    if error.kind() == ErrorKind::OutOfMemory {
-        return out_of_memory(writer);
-    }
-    let Ok(text) = error.to_string(alloc) else {
-        return out_of_memory(writer);
-    };
-    match writer.write_all(text.as_bytes()) {
-        Ok(()) => Status::Usage,
-        Err(_) => Status::Failed,
+    match error.to_string(alloc) {
+        Ok(text) if error.kind() != ErrorKind::OutOfMemory => writer
+            .write_all(text.as_bytes())
+            .map_or(Status::Failed, |()| Status::Usage),
+        _ => out_of_memory(writer),
     }
 }

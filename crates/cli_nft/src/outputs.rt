@@ -2,11 +2,8 @@
 
 ghost use Rattle.std.specs.Prelude.{◌≡◌, Some, IfOk, option_map};
 ghost use Rattle.nft_rules.specs.Seen.{machine_of};
-ghost use Rattle.pf_grammar.specs.Reading.{reading};
-ghost use Rattle.pf_grammar.specs.declared.place.Place.TheVariants.{Main};
-ghost use Rattle.pf_rules.specs.declared.profile.Profile.TheVariants.{Two};
-ghost use Rattle.cli_nft.specs.Outputs.{refused, refused_at, written_lines};
-ghost use Rattle.cli_nft.specs.Outputs.{loaded_of, output, config_output};
+ghost use Rattle.cli_nft.specs.Outputs.{refused, written_lines};
+ghost use Rattle.cli_nft.specs.Outputs.{output, config_output};
 ghost use Rattle.cli_nft.specs.Seen.{written};
 ghost use Rattle.nft_text.specs.Loading.{rendered_lines};
 
@@ -39,17 +36,6 @@ fn refused(alloc: Global, code: u8) -> Result<Written, AllocError>
     })
 }
 
-/// The refusal of a ruleset.
-fn refused_at(alloc: Global, code: u8, line: u64) -> Result<Written, AllocError>
-    ensures { IfOk result (λ w. written w ≡ refused_at code line) }
-{
-    let text = format!(in alloc; "refused {code} line {line}\n")?;
-    Ok(Written {
-        text,
-        refused: true,
-    })
-}
-
 /// The lines of a configuration.
 fn written_lines(
     alloc: Global,
@@ -74,34 +60,10 @@ fn written_lines(
     }
 }
 
-/// What is written for a machine over this input, whose ruleset is loaded as the main one of an empty configuration.
-fn loaded_of(
-    alloc: Global,
-    machine: &[MachineInterface],
-    members: &[Member],
-    position: u32,
-    input: &[u8],
-) -> Result<Written, AllocError>
-    ensures { IfOk result (λ w. written w ≡ loaded_of (machine_of machine.now) members.now position
-        (reading Main Two input.now)) }
-{
-    let rules = match parse(alloc, input, Place::Main, Profile::Two) {
-        Ok(rules) => rules,
-        Err(ParseFault::Memory) => return Err(AllocError),
-        Err(ParseFault::Refused(refusal)) => {
-            return refused_at(alloc, refusal.cause.code(), refusal.line);
-        }
-    };
-    let mut config = Config::new(alloc)?;
-    match config.load(&Path::main(alloc), rules) {
-        Ok(()) => written_lines(alloc, &config, machine, members, position),
-        Err(fault) => refused(alloc, fault.code().ok_or(AllocError)?),
-    }
-}
-
 /// What `check --nft` writes over a file of interfaces, none where it can't be read, and this input: the three lines
 /// of the text's rules on that machine, behind the guard of these members, under names of that position, or a refusal.
-/// `refused 40`: there are no such members. `refused 89`: the file doesn't list interfaces.
+/// `refused 40`: there are no such members. `refused 89`: the file doesn't list interfaces. The ruleset is loaded as the
+/// main one of an empty configuration.
 #[tactic(auto, unfolding(crate::specs::Outputs::output))]
 pub fn nft_output(
     alloc: Global,
@@ -119,9 +81,25 @@ pub fn nft_output(
     let Some(text) = file else {
         return refused(alloc, BAD_INTERFACES);
     };
-    match machine_in(alloc, text)? {
-        Some(machine) => loaded_of(alloc, &machine, members, position, input),
-        None => refused(alloc, BAD_INTERFACES),
+    let Some(machine) = machine_in(alloc, text)? else {
+        return refused(alloc, BAD_INTERFACES);
+    };
+    let rules = match parse(alloc, input, Place::Main, Profile::Two) {
+        Ok(rules) => rules,
+        Err(ParseFault::Memory) => return Err(AllocError),
+        Err(ParseFault::Refused(refusal)) => {
+            let (code, line) = (refusal.cause.code(), refusal.line);
+            let text = format!(in alloc; "refused {code} line {line}\n")?;
+            return Ok(Written {
+                text,
+                refused: true,
+            });
+        }
+    };
+    let mut config = Config::new(alloc)?;
+    match config.load(&Path::main(alloc), rules) {
+        Ok(()) => written_lines(alloc, &config, &machine, members, position),
+        Err(fault) => refused(alloc, fault.code().ok_or(AllocError)?),
     }
 }
 

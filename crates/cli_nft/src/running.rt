@@ -33,18 +33,14 @@ fn has_nft<S: AsStr>(arguments: &[S]) -> bool
 pub fn asks_nft<S: AsStr>(arguments: &[S]) -> bool
     ensures { result ≡ asks_nft (map S.text arguments.now) }
 {
-    match arguments {
-        [_, first, rest @ ..] => first.as_str() == "check" && has_nft(rest),
-        _ => false,
-    }
+    matches!(arguments, [_, first, rest @ ..] if first.as_str() == "check" && has_nft(rest))
 }
 
+/// What a file has, none where it can't be read; an error where it is out of memory.
+type Contents = Result<Option<Vec<u8>>, AllocError>;
+
 /// The text of the file of interfaces, none where it can't be read.
-fn interfaces_in<T: Sources>(
-    sources: &T,
-    alloc: Global,
-    inner: &ArgMatches<'_>,
-) -> Result<Option<Vec<u8>>, AllocError>
+fn interfaces_in<T: Sources>(sources: &T, alloc: Global, inner: &ArgMatches<'_>) -> Contents
     ensures { IfOk result (λ text. IsAt (T.has sources.now)
         (first_of (codes "interfaces") (rows_of (found_of inner.now))) (option_map (λ v. v.items) text)) }
 {
@@ -55,11 +51,7 @@ fn interfaces_in<T: Sources>(
 }
 
 /// The text at a path, none where it can't be read or is longer than an input may be.
-pub fn read_file<T: Sources>(
-    sources: &T,
-    alloc: Global,
-    path: &str,
-) -> Result<Option<Vec<u8>>, AllocError>
+pub fn read_file<T: Sources>(sources: &T, alloc: Global, path: &str) -> Contents
     ensures { IfOk result (λ o. IfSome o (λ text. T.has sources.now path.now text.items)) }
 {
     match sources.source_at(alloc, path) {
@@ -126,12 +118,6 @@ pub fn run_nft<T: Sources, S: AsStr, R: Read, W: Write>(
         return out_of_memory(writer);
     };
     let position = number_in(inner, "position").unwrap_or(0);
-    answer(
-        alloc,
-        file.as_deref(),
-        members.as_deref(),
-        position,
-        reader,
-        writer,
-    )
+    let (file, members) = (file.as_deref(), members.as_deref());
+    answer(alloc, file, members, position, reader, writer)
 }

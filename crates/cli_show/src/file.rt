@@ -25,17 +25,12 @@ fn is_empty(rt: &HostRuntime, path: &str) -> bool {
     fs::metadata(rt, path).map_or(true, |found| found.len() == 0)
 }
 
-/// Whether this is a file.
-fn is_file(rt: &HostRuntime, path: &str) -> bool {
-    fs::metadata(rt, path).is_ok_and(|found| found.is_file())
-}
-
 /// The database in a file. Where there is no file 70 comes, and none is made; 73 where it has no byte and no log of
 /// writes.
 fn open_file(rt: &HostRuntime, path: &str) -> Result<Connection<FileStore<File>>, Closed>
     ensures fresh { IfOk result IsNew }
 {
-    if !is_file(rt, path) {
+    if !fs::metadata(rt, path).is_ok_and(|found| found.is_file()) {
         return Err(Closed::Refused(STORE_FAILED));
     }
     let log = format!(in rt.alloc(); "{path}-wal").map_err(|_| Closed::Memory)?;
@@ -91,13 +86,11 @@ impl Databases for HostRuntime {
     }
 }
 
+/// What is shown of a store, or why nothing is.
+type Answer = Result<Shown, Closed>;
+
 /// What is shown of the store in a file.
-fn show_file<D: Databases>(
-    dbs: &D,
-    alloc: Global,
-    path: &str,
-    wanted: Wanted<'_>,
-) -> Result<Shown, Closed>
+fn show_file<D: Databases>(dbs: &D, alloc: Global, path: &str, wanted: Wanted<'_>) -> Answer
     ensures shown { IfOk result (λ shown. ShowsFile ⟦<FileStore<File> as Store>⟧
         ⟦<SqlRecords<FileStore<File>> as Records>⟧ (D.holds dbs.now path.now) (D.closed dbs.now) wanted.entry shown) }
     ensures refused { IfErr result (λ c. D.refuses dbs.now path.now c ⊎ RefusesFile ⟦<FileStore<File> as Store>⟧

@@ -5,15 +5,15 @@ ghost use Rattle.pf_arguments.specs.Answers.{action_value};
 ghost use Rattle.pf_scripts.specs.Listings.{listed};
 ghost use Rattle.cli_show.specs.Writing.{refused, answered, verdicts, shown_value};
 
-use crate::shown::Shown;
+use crate::shown::{Made, Shown};
 use pf_arguments::Action;
 use pf_config::Config;
 use pf_eval::verdict_for;
 use pf_scripts::{list, push_line, push_refusal};
-use std::alloc::{AllocError, Global};
+use std::alloc::Global;
 
 /// A text as it is shown.
-pub(crate) fn as_shown(alloc: Global, text: &str, refused: bool) -> Result<Shown, AllocError>
+pub(crate) fn as_shown(alloc: Global, text: &str, refused: bool) -> Made<Shown>
     ensures bytes { IfOk result (λ s. s.bytes.items ≡ text.now) }
     ensures refused { IfOk result (λ s. s.refused ≡ refused) }
 {
@@ -22,7 +22,7 @@ pub(crate) fn as_shown(alloc: Global, text: &str, refused: bool) -> Result<Shown
 }
 
 /// A refusal, with the line of a refused text, else 0.
-pub(crate) fn refused(alloc: Global, code: u8, at: u64) -> Result<Shown, AllocError>
+pub(crate) fn refused(alloc: Global, code: u8, at: u64) -> Made<Shown>
     ensures { IfOk result (λ s. shown_value s ≡ refused code at) }
 {
     let mut text = String::new(alloc);
@@ -31,11 +31,7 @@ pub(crate) fn refused(alloc: Global, code: u8, at: u64) -> Result<Shown, AllocEr
 }
 
 /// What an action lists, or its refusal.
-pub(crate) fn show_listing(
-    alloc: Global,
-    config: &Config,
-    action: &Action,
-) -> Result<Shown, AllocError>
+pub(crate) fn show_listing(alloc: Global, config: &Config, action: &Action) -> Made<Shown>
     ensures { IfOk result (λ s. shown_value s ≡ answered (listed config.now (action_value action.now))) }
 {
     match list(alloc, config, action)? {
@@ -45,11 +41,7 @@ pub(crate) fn show_listing(
 }
 
 /// A verdict line for each packet's text in turn, up to the first that is no packet, which is 30.
-pub(crate) fn show_verdicts(
-    alloc: Global,
-    config: &Config,
-    packets: &[&str],
-) -> Result<Shown, AllocError>
+pub(crate) fn show_verdicts(alloc: Global, config: &Config, packets: &[&str]) -> Made<Shown>
     ensures { IfOk result (λ s. shown_value s ≡ verdicts config.now (map (λ p. p.now) packets.now)) }
 {
     let mut text = String::new(alloc);

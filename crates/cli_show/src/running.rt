@@ -49,13 +49,11 @@ impl<RT: Stores + Sources> Request<'_, '_, '_, RT> {
         let Some(file) = value_in(self.matches, "interfaces") else {
             return Outcome::Refused(USAGE);
         };
-        match read_file(self.rt, self.alloc, file) {
-            Ok(Some(text)) => self.shown(Wanted::Nft {
-                interfaces: Some(text.as_slice()),
-            }),
-            Ok(None) => self.shown(Wanted::Nft { interfaces: None }),
-            Err(_) => Outcome::Memory,
-        }
+        let Ok(text) = read_file(self.rt, self.alloc, file) else {
+            return Outcome::Memory;
+        };
+        let interfaces = text.as_deref();
+        self.shown(Wanted::Nft { interfaces })
     }
 
     /// The lines of the log that the arguments ask for.
@@ -139,11 +137,8 @@ pub fn run_show<RT: Stores + Sources, S: AsStr, W: Write>(
         Ok(matches) => matches,
         Err(error) => return misused(alloc, &error, writer),
     };
-    match given_in(&matches, "show") {
-        Some(inner) => {
-            let outcome = outcome_of(rt, alloc, inner);
-            write_outcome(alloc, outcome, writer)
-        }
-        None => Status::Usage,
-    }
+    let Some(inner) = given_in(&matches, "show") else {
+        return Status::Usage;
+    };
+    write_outcome(alloc, outcome_of(rt, alloc, inner), writer)
 }

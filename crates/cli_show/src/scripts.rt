@@ -9,7 +9,7 @@ ghost use Rattle.cli_show.specs.Scripts.{lines_read, log_script, ShowsScript, Ha
 ghost use Rattle.cli_show.specs.Writing.{OrNone};
 
 use crate::pfctl::refused;
-use crate::shown::Shown;
+use crate::shown::{Made, Shown};
 use cli_io::NO_SCRIPT;
 use pf_command::{ApplyFault, apply};
 use pf_config::Config;
@@ -21,12 +21,7 @@ use std::alloc::{AllocError, Global};
 
 /// Puts the command that bytes spell behind a script, unless it is refused at this configuration, where it is done.
 #[tactic(auto, using(crate::proofs::LogScripts::done_lines, crate::proofs::LogScripts::refused_lines))]
-fn push_done(
-    alloc: Global,
-    script: &mut Vec<u8>,
-    config: &mut Config,
-    bytes: &[u8],
-) -> Result<(), AllocError>
+fn push_done(alloc: Global, script: &mut Vec<u8>, config: &mut Config, bytes: &[u8]) -> Made<()>
     ensures configuration { OnOk result (config.new ≡ after_read config.old (reading bytes.now)) }
     ensures script { OnOk result (script.new.items
         ≡ script.old.items ++ lines_read config.old (reading bytes.now)) }
@@ -35,25 +30,21 @@ fn push_done(
         return Ok(());
     };
     match apply(alloc, config, &view.command) {
-        Ok(_) => {
-            let entry = view.to_entry(alloc)?;
-            push_change(script, &entry.command)
-        }
+        Ok(_) => push_change(script, &view.to_entry(alloc)?.command),
         Err(ApplyFault::Refused(_, _)) => Ok(()),
         Err(ApplyFault::Memory) => Err(AllocError),
     }
 }
 
 /// The script of all commands of the log that weren't refused.
-fn log_script<R: Records>(alloc: Global, node: &Node<R>) -> Result<Vec<u8>, AllocError>
+fn log_script<R: Records>(alloc: Global, node: &Node<R>) -> Made<Vec<u8>>
     ensures { IfOk result (λ s. s.items ≡ log_script (learned_by node.now) (applied_of node.now)) }
 {
     let mut script = Vec::new(alloc);
     let mut config = Config::new(alloc)?;
     for position in 0..node.applied() {
-        let entry = match node.entry(position) {
-            Some(entry) => entry,
-            None => unreachable!(),
+        let Some(entry) = node.entry(position) else {
+            unreachable!();
         };
         push_done(alloc, &mut script, &mut config, entry.bytes())?;
     }
@@ -61,11 +52,7 @@ fn log_script<R: Records>(alloc: Global, node: &Node<R>) -> Result<Vec<u8>, Allo
 }
 
 /// The same, if it gives this configuration.
-fn log_dump<R: Records>(
-    alloc: Global,
-    node: &Node<R>,
-    config: &Config,
-) -> Result<Option<Vec<u8>>, AllocError>
+fn log_dump<R: Records>(alloc: Global, node: &Node<R>, config: &Config) -> Made<Option<Vec<u8>>>
     ensures script { IfOk result (λ o. IfSome o
         (λ s. s.items ≡ log_script (learned_by node.now) (applied_of node.now))) }
     ensures done { IfOk result (λ o. IfSome o (λ s. IsDoneTo s.items config.now)) }
@@ -73,15 +60,12 @@ fn log_dump<R: Records>(
         (IsDoneTo (log_script (learned_by node.now) (applied_of node.now)) config.now → ⊥)) }
 {
     let script = log_script(alloc, node)?;
-    if gives(alloc, &script, config)? {
-        return Ok(Some(script));
-    }
-    Ok(None)
+    Ok(gives(alloc, &script, config)?.then_some(script))
 }
 
 /// A script that gives the node's configuration: one load a path, and where a path's rules are too long for that the
 /// commands of the log that weren't refused. 91 where neither gives it.
-pub(crate) fn show_script<R: Records>(alloc: Global, node: &Node<R>) -> Result<Shown, AllocError>
+pub(crate) fn show_script<R: Records>(alloc: Global, node: &Node<R>) -> Made<Shown>
     ensures { IfOk result (λ s. OrNone s
         (ShowsScript (learned_by node.now) (applied_of node.now) (config_of node.now))
         (HasScript (learned_by node.now) (applied_of node.now) (config_of node.now))) }

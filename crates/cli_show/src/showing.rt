@@ -12,7 +12,7 @@ use crate::figures::show_figures;
 use crate::logged::show_log;
 use crate::pfctl::{as_shown, show_listing, show_verdicts};
 use crate::scripts::show_script;
-use crate::shown::{Shown, Wanted};
+use crate::shown::{Made, Shown, Wanted};
 use crate::texts::show_texts;
 use cli_nft::config_output;
 use pf_config::Config;
@@ -22,12 +22,7 @@ use px_replica::{Membership, NodeFault};
 use std::alloc::{AllocError, Global};
 
 /// The configuration as what nft(8) loads; a store knows no addresses of members, so there is no guard.
-fn show_nft(
-    alloc: Global,
-    file: Option<&[u8]>,
-    config: &Config,
-    position: u32,
-) -> Result<Shown, AllocError>
+fn show_nft(alloc: Global, file: Option<&[u8]>, config: &Config, position: u32) -> Made<Shown>
     ensures { IfOk result (λ s. shown_value s
         ≡ of_kernel (config_output (option_map (λ t. t.now) file.entry) [] position config.now)) }
 {
@@ -36,11 +31,7 @@ fn show_nft(
 }
 
 /// What is shown of a node's configuration and log.
-pub fn show_node<R: Records>(
-    alloc: Global,
-    node: &Node<R>,
-    wanted: Wanted<'_>,
-) -> Result<Shown, AllocError>
+pub fn show_node<R: Records>(alloc: Global, node: &Node<R>, wanted: Wanted<'_>) -> Made<Shown>
     ensures { IfOk result (λ s. Shows (learned_by node.now) (applied_of node.now) (kept_of node.now)
         (config_of node.now) wanted.entry s) }
 {

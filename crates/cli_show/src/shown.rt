@@ -1,6 +1,10 @@
 //! What is to be shown of a record, and what is shown.
 
 use pf_arguments::Action;
+use std::alloc::AllocError;
+
+/// What was made, unless it was out of memory.
+pub(crate) type Made<T> = Result<T, AllocError>;
 
 /// What is to be shown of a record.
 #[derive(Clone, Copy)]

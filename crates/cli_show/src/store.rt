@@ -9,13 +9,13 @@ ghost use Rattle.px_store.specs.Judging.{owner_in};
 ghost use Rattle.px_store.specs.Tables.{schema_3};
 ghost use Rattle.px_store.specs.View.{connection_of};
 ghost use Rattle.px_store.specs.declared.formats.Format.TheVariants.{Three};
-ghost use Rattle.cli_show.specs.Stores.{identity_of, ShowsStore, LeavesRecord, closed_by, closed_of, closed_for};
+ghost use Rattle.cli_show.specs.Stores.{identity_of, ShowsStore, LeavesRecord, closed_by};
 ghost use Rattle.cli_show.specs.Stores.{IsClosed, IsOwned, IsRefusedTo, IsUnowned};
 
 use crate::showing::show_record;
 use crate::shown::{Shown, Wanted};
 use px_records::Records;
-use px_replica::{Membership, NodeFault};
+use px_replica::Membership;
 use px_store::{AdoptFault, Format, Identity, SqlRecords, format_in, owner_in};
 use sqlite::{Alter, Connection};
 use std::alloc::Global;
@@ -35,13 +35,6 @@ fn closed_by(code: Option<u8>) -> Closed
     ensures { result ≡ closed_by code }
 {
     code.map_or(Closed::Memory, |code| Closed::Refused(code))
-}
-
-/// What the refusal of a store gives.
-fn closed_of(refusal: AdoptFault) -> Closed
-    ensures { result ≡ closed_of refusal }
-{
-    closed_by(refusal.code())
 }
 
 /// Whose record it is, as the store has it.
@@ -76,15 +69,15 @@ fn member_in<S: Alter>(conn: &mut Connection<S>) -> Result<Membership, Closed>
         LeavesOld (state S.Store conn.old) (state S.Store conn.new) }
 {
     if !is_three(conn) {
-        return Err(closed_of(AdoptFault::StoreVersion));
+        return Err(closed_by(AdoptFault::StoreVersion.code()));
     }
     let owner = match owner_in(conn) {
         Ok(owner) => owner,
-        Err(fault) => return Err(closed_of(fault)),
+        Err(fault) => return Err(closed_by(fault.code())),
     };
     match Membership::new(owner.cluster, owner.members, owner.node) {
         Some(m) => Ok(m),
-        None => Err(closed_of(AdoptFault::BadStore)),
+        None => Err(closed_by(AdoptFault::BadStore.code())),
     }
 }
 
@@ -110,15 +103,8 @@ fn adopted<S: Alter + Drop>(
 {
     match SqlRecords::reopen(alloc, conn, identity) {
         Ok(records) => Ok(records),
-        Err((fault, conn)) => Err((closed_of(fault), conn)),
+        Err((fault, conn)) => Err((closed_by(fault.code()), conn)),
     }
-}
-
-/// What a fault of a record that doesn't open gives.
-fn closed_for(fault: NodeFault) -> Closed
-    ensures { result ≡ closed_for fault }
-{
-    closed_by(fault.code())
 }
 
 /// What is shown of the record in a store of format 3, and the record, which is as it was: of the configuration after
@@ -152,6 +138,6 @@ pub fn show_store<S: Alter + Drop>(
     let (shown, records) = show_record(alloc, m, records, wanted);
     match shown {
         Ok(shown) => Ok((shown, records)),
-        Err(fault) => Err((closed_for(fault), records.release())),
+        Err(fault) => Err((closed_by(fault.code()), records.release())),
     }
 }

@@ -1,10 +1,10 @@
 //! Rulesets as pfctl(8) loads them.
 
-ghost use Rattle.std.specs.Prelude.{◌≡◌, ◌++◌, OnOk, IfOk, map, string_bytes};
+ghost use Rattle.std.specs.Prelude.{◌≡◌, IfOk, map, string_bytes};
 ghost use Rattle.pf_dump.specs.Done.{AreDoneTo};
 ghost use Rattle.pf_dump.specs.Seen.{text_of};
 ghost use Rattle.pf_dump.specs.Written.{texts_of};
-ghost use Rattle.cli_show.specs.Texts.{shown_text, shown_texts, ShowsTexts};
+ghost use Rattle.cli_show.specs.Texts.{shown_texts, ShowsTexts};
 ghost use Rattle.cli_show.specs.Writing.{OrNone};
 
 use crate::pfctl::{as_shown, refused};
@@ -15,21 +15,14 @@ use pf_config::Config;
 use pf_dump::{PathText, texts};
 use std::alloc::{AllocError, Global};
 
-/// Puts a ruleset behind others, and before it a comment that is the command which loads it.
-fn push_text(out: &mut String, text: &PathText<'_>) -> Result<(), AllocError>
-    ensures { OnOk result (string_bytes out.new ≡ string_bytes out.old ++ shown_text (text_of text.now)) }
-{
-    let path = PathArguments(text.path);
-    write!(out, "# pfctl {path}-f -\n{}", text.text)
-}
-
-/// Texts one behind the other.
+/// Texts one behind the other, before each a comment that is the command which loads it.
 fn joined_texts(alloc: Global, texts: &[PathText<'_>]) -> Result<String, AllocError>
     ensures { IfOk result (λ s. string_bytes s ≡ shown_texts (map text_of texts.now)) }
 {
     let mut out = String::new(alloc);
     for text in texts {
-        push_text(&mut out, text)?;
+        let path = PathArguments(text.path);
+        write!(out, "# pfctl {path}-f -\n{}", text.text)?;
     }
     Ok(out)
 }
@@ -39,11 +32,9 @@ fn joined_texts(alloc: Global, texts: &[PathText<'_>]) -> Result<String, AllocEr
 pub(crate) fn show_texts(alloc: Global, config: &Config) -> Result<Shown, AllocError>
     ensures { IfOk result (λ s. OrNone s (ShowsTexts config.now) (AreDoneTo (texts_of config.now) config.now)) }
 {
-    match texts(alloc, config)? {
-        Some(texts) => {
-            let text = joined_texts(alloc, &texts)?;
-            as_shown(alloc, text.as_str(), false)
-        }
-        None => refused(alloc, NO_SCRIPT, 0),
-    }
+    let Some(texts) = texts(alloc, config)? else {
+        return refused(alloc, NO_SCRIPT, 0);
+    };
+    let text = joined_texts(alloc, &texts)?;
+    as_shown(alloc, text.as_str(), false)
 }

@@ -2,8 +2,8 @@
 
 ghost use Rattle.std.specs.Prelude.{◌≡◌, is_some, map};
 ghost use Rattle.clap.specs.Words.{first_of, found_of, rows_of};
-ghost use Rattle.cli_show.specs.Running.{has_ruleset_option, has_other_option, has_listing, rest_of, kind_behind};
-ghost use Rattle.cli_show.specs.Running.{alone, kind_by, kind_given, goes_with, has_window, if_together, kind_of};
+ghost use Rattle.cli_show.specs.Running.{has_listing, rest_of, kind_behind};
+ghost use Rattle.cli_show.specs.Running.{alone, kind_by, kind_given, has_window, if_together, kind_of};
 
 use clap::ArgMatches;
 use cli_io::{has_flag, value_in, values_in};
@@ -41,28 +41,17 @@ fn has_option(matches: &ArgMatches<'_>, id: &str) -> bool
     value_in(matches, id).is_some()
 }
 
-/// Whether an option of pfctl's for a ruleset is there.
-fn has_ruleset_option(matches: &ArgMatches<'_>) -> bool
-    ensures { result ≡ has_ruleset_option (rows_of (found_of matches.now)) }
-{
-    has_option(matches, "path") || has_option(matches, "file") || has_flag(matches, "check")
-}
-
-/// Whether another one of pfctl's is there.
-fn has_other_option(matches: &ArgMatches<'_>) -> bool
-    ensures { result ≡ has_other_option (rows_of (found_of matches.now)) }
-{
-    has_option(matches, "flush")
-        || has_option(matches, "table")
-        || has_option(matches, "change")
-        || has_option(matches, "show")
-}
-
 /// Whether an option of pfctl's is there.
 fn has_listing(matches: &ArgMatches<'_>) -> bool
     ensures { result ≡ has_listing (rows_of (found_of matches.now)) }
 {
-    has_ruleset_option(matches) || has_other_option(matches)
+    has_option(matches, "path")
+        || has_option(matches, "file")
+        || has_flag(matches, "check")
+        || has_option(matches, "flush")
+        || has_option(matches, "table")
+        || has_option(matches, "change")
+        || has_option(matches, "show")
 }
 
 /// What arguments without options ask for.
@@ -81,10 +70,7 @@ fn kind_behind(rest: &[&str]) -> Option<Kind>
 fn alone(kind: Kind, rest: &[&str]) -> Option<Kind>
     ensures { result ≡ alone kind (map (λ w. w.now) rest.now) }
 {
-    match rest {
-        [] => Some(kind),
-        _ => None,
-    }
+    rest.is_empty().then_some(kind)
 }
 
 /// What is asked for by these options and the arguments behind them; none where they don't go together.
@@ -101,25 +87,17 @@ fn kind_by(nft: bool, pf: bool, script: bool, listing: bool, rest: &[&str]) -> O
     }
 }
 
-/// Whether these options go with what is asked for: `--interfaces` with `--nft`, `--from` and `--count` with the log.
-fn goes_with(interfaces: bool, window: bool, kind: Kind) -> bool
-    ensures { result ≡ goes_with interfaces window kind }
-{
-    match kind {
-        Kind::Nft => !window,
-        Kind::Log => !interfaces,
-        _ => !interfaces && !window,
-    }
-}
-
-/// What is asked for where these options go with it.
+/// What is asked for where these options go with it: `--interfaces` with `--nft`, `--from` and `--count` with the log.
 fn if_together(interfaces: bool, window: bool, kind: Option<Kind>) -> Option<Kind>
     ensures { result ≡ if_together interfaces window kind }
 {
-    match kind {
-        Some(kind) if goes_with(interfaces, window, kind) => Some(kind),
-        _ => None,
-    }
+    let kind = kind?;
+    let goes_with = match kind {
+        Kind::Nft => !window,
+        Kind::Log => !interfaces,
+        _ => !interfaces && !window,
+    };
+    goes_with.then_some(kind)
 }
 
 /// What `--nft`, `--pf`, `--script` and the arguments ask for.

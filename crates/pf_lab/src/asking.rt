@@ -8,24 +8,23 @@ ghost use Rattle.pf_lab.specs.Asking.{change_in, is_allowed, change_of};
 ghost use Rattle.pf_lab.specs.inner.Seen.{Reads};
 ghost use Rattle.pf_entry.specs.Owned.{command_value};
 
-use crate::fault::{LineFault, UNKNOWN};
+use crate::fault::{LineFault, Read, UNKNOWN};
 use clap::ArgMatches;
 use pf_arguments::{Action, Command, from_matches};
 use pf_scripts::{file_in, is_standard, matches_in};
 use std::alloc::Global;
 
 /// The change that matches ask for; any other action is 40, after the faults of the arguments.
-fn change_in(alloc: Global, matches: &ArgMatches<'_>, text: &[u8]) -> Result<Command, LineFault>
+fn change_in(alloc: Global, matches: &ArgMatches<'_>, text: &[u8]) -> Read<Command>
     ensures { Reads command_value result (change_in (asked (given_in (rows_of (found_of matches.now))) text.now)) }
 {
     match from_matches(alloc, matches, text) {
         Ok(Action::Change(command)) => Ok(command),
         Ok(_) => Err(UNKNOWN),
-        Err(fault) => Err(
-            fault
-                .code()
-                .map_or(LineFault::Memory, |code| LineFault::Refused(code)),
-        ),
+        Err(fault) => match fault.code() {
+            Some(code) => Err(LineFault::Refused(code)),
+            None => Err(LineFault::Memory),
+        },
     }
 }
 
@@ -41,11 +40,7 @@ fn is_allowed(file: Option<&str>, text: Option<&[u8]>) -> bool
 
 /// The change that pfctl's arguments ask for; the first argument stands for pfctl itself. `text` is what follows the
 /// line, none where no text may.
-pub(crate) fn command_in(
-    alloc: Global,
-    words: &[&str],
-    text: Option<&[u8]>,
-) -> Result<Command, LineFault>
+pub(crate) fn command_in(alloc: Global, words: &[&str], text: Option<&[u8]>) -> Read<Command>
     ensures { Reads command_value result (change_of (map (λ w. w.now) words.now) (option_copied text.entry)) }
 {
     let Some(matches) = matches_in(alloc, words)? else {

@@ -5,8 +5,8 @@ ghost use Rattle.std.specs.List.{list_any};
 ghost use Rattle.pf_lab.specs.Scripts.{LabValue, marked};
 ghost use Rattle.pf_lab.specs.inner.Benches.{IsBench};
 
+use crate::fault::Pushed;
 use crate::state::Lab;
-use std::alloc::AllocError;
 
 /// A lab, and of its messages what was delivered and what was shown.
 #[derive(Drop)]
@@ -38,7 +38,7 @@ impl Bench {
     }
 
     /// The message counts as delivered, if there is one.
-    pub(crate) fn mark(&mut self, message: Option<usize>) -> Result<(), AllocError>
+    pub(crate) fn mark(&mut self, message: Option<usize>) -> Pushed
         ensures { (v : LabValue) → IsBench self.old v → OnOk result (IsBench self.new (marked message v)) }
     {
         match message {

@@ -41,6 +41,9 @@ pub enum Outcome {
     Stopped,
 }
 
+/// What became of an event, or why it doesn't happen.
+pub(crate) type Stepped = Result<Outcome, LabFault>;
+
 /// Why an event doesn't happen. The lab is the same world as before.
 #[derive(Clone, Copy, Debug, PartialEq, Eq, Error)]
 pub enum LabFault {

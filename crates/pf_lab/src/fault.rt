@@ -4,7 +4,7 @@ ghost use Rattle.std.specs.Prelude.{◌≡◌};
 ghost use Rattle.pf_lab.specs.declared.fault.LineFault.TheVariants.{Memory};
 
 use pf_arguments::USAGE;
-use std::alloc::{AllocError, AllocFailed};
+use std::alloc::AllocError;
 
 /// Why a line gives nothing.
 #[derive(Clone, Copy, PartialEq, Eq)]
@@ -14,6 +14,12 @@ pub(crate) enum LineFault {
     /// The number of the refusal, which is printed.
     Refused(u8),
 }
+
+/// What a line gives, or why it gives nothing.
+pub(crate) type Read<T> = Result<T, LineFault>;
+
+/// Whether there was memory for what is printed.
+pub(crate) type Pushed = Result<(), AllocError>;
 
 /// The number of an unknown line, and of arguments that don't go together.
 pub(crate) const UNKNOWN: LineFault = LineFault::Refused(USAGE);
@@ -25,14 +31,6 @@ impl From<AllocError> for LineFault {
     ghost from_gives = { λ _ e. e ≡ Memory };
 
     fn from(_e: AllocError) -> LineFault {
-        LineFault::Memory
-    }
-}
-
-impl<T: Drop> From<AllocFailed<T>> for LineFault {
-    ghost from_gives = { λ _ e. e ≡ Memory };
-
-    fn from(_e: AllocFailed<T>) -> LineFault {
         LineFault::Memory
     }
 }

@@ -17,18 +17,13 @@ ghost use Rattle.pf_lab.specs.Outcomes.{Reports, is_unknown, outcome_in};
 ghost use Rattle.px_core.specs.declared.limits.TheConstants.{MEMBERS};
 
 use crate::coming::What;
-use crate::event::{LabFault, Outcome};
+use crate::event::{LabFault, Outcome, Stepped};
 use crate::host::Host;
 use pf_entry::CLIENT;
 use px_replica::Datagram;
 
 /// What the member `m` receives happens in the world.
-pub(crate) fn run_at(
-    hosts: &mut Vec<Host>,
-    m: u8,
-    what: What,
-    out: &mut Vec<Datagram>,
-) -> Result<Outcome, LabFault>
+pub(crate) fn run_at(hosts: &mut Vec<Host>, m: u8, what: What, out: &mut Vec<Datagram>) -> Stepped
     requires empty { out.old.items ≡ [] }
     requires askable { IsAskable what }
     ensures happens { (g : Group) (w : World Bytes) (a : Action Bytes) (sent : List datagrams.Datagram) →
@@ -65,7 +60,7 @@ pub(crate) fn empty_at(hosts: &mut Vec<Host>, m: usize, up: bool)
 }
 
 /// The member `m` stops before its input changes anything.
-pub(crate) fn stop_before_at(hosts: &mut Vec<Host>, m: u8) -> Result<Outcome, LabFault>
+pub(crate) fn stop_before_at(hosts: &mut Vec<Host>, m: u8) -> Stepped
     ensures happens { (g : Group) (w : World Bytes) (a : Action Bytes) (x : Input Bytes)
         (sent : List datagrams.Datagram) →
         HostsAre hosts.old.items g sent w → comes_to w a ≡ Some (m, x) →
@@ -91,7 +86,7 @@ pub(crate) fn stop_before_at(hosts: &mut Vec<Host>, m: u8) -> Result<Outcome, La
 }
 
 /// The member `m` stops after its change is recorded, before anything is sent.
-pub(crate) fn stop_after_at(hosts: &mut Vec<Host>, m: u8, what: What) -> Result<Outcome, LabFault>
+pub(crate) fn stop_after_at(hosts: &mut Vec<Host>, m: u8, what: What) -> Stepped
     requires askable { IsAskable what }
     ensures happens { (g : Group) (w : World Bytes) (a : Action Bytes) (sent : List datagrams.Datagram) →
         HostsAre hosts.old.items g sent w → Came g w a m what.entry →
@@ -129,19 +124,11 @@ fn keep_members(out: &mut Vec<Datagram>)
     out.retain(|d| d.to != CLIENT);
 }
 
-/// Moves datagrams to the end of a list that has room for them.
-fn join(sent: &mut Vec<Datagram>, out: &mut Vec<Datagram>)
-    requires { vec_len sent.old + vec_len out.old ≤ vec_capacity sent.old }
-    ensures { sent.new.items ≡ sent.old.items ++ out.old.items }
-{
-    let _moved = sent.append(out);
-}
-
 /// What goes to members joins what was sent, where there is room.
 pub(crate) fn send_on(sent: &mut Vec<Datagram>, out: &mut Vec<Datagram>)
     requires { vec_len sent.old + vec_len out.old ≤ vec_capacity sent.old }
     ensures { sent.new.items ≡ sent.old.items ++ for_members out.old.items }
 {
     keep_members(out);
-    join(sent, out);
+    let _moved = sent.append(out);
 }

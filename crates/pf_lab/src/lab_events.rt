@@ -38,17 +38,12 @@ impl Lab {
             (outcome_in g.members w (Runs (action_of action.now))) }
         ensures stays { (g : Group) (w : World Bytes) → IsWorld self.old g w → OnErr result (IsWorld self.new g w) }
     {
-        if self.sent.reserve(MESSAGES).is_err() {
-            return Err(LabFault::Memory);
-        }
+        self.sent.reserve(MESSAGES).map_err(|_| LabFault::Memory)?;
         let mut out = Vec::new(self.alloc);
-        let outcome = match what_comes(self.sent.as_slice(), action, bytes) {
-            None => return Err(LabFault::BadEvent),
-            Some((m, what)) => match run_at(&mut self.hosts, m, what, &mut out) {
-                Ok(outcome) => outcome,
-                Err(fault) => return Err(fault),
-            },
+        let Some((m, what)) = what_comes(self.sent.as_slice(), action, bytes) else {
+            return Err(LabFault::BadEvent);
         };
+        let outcome = run_at(&mut self.hosts, m, what, &mut out)?;
         send_on(&mut self.sent, &mut out);
         Ok(outcome)
     }
@@ -150,9 +145,8 @@ fn host(alloc: Global, members: u8, m: u8) -> Result<Host, LabFault>
     ensures host { IfOk result (λ s. IsHost start (cluster_of members) m (state_of s) (group_of s)) }
     ensures memory { OnErr result (result ≡ Err LabFault.Memory) }
 {
-    let group = match Membership::new(0, members, m) {
-        Some(group) => group,
-        None => unreachable!(),
+    let Some(group) = Membership::new(0, members, m) else {
+        unreachable!();
     };
     let records = MemoryRecords::new(alloc, members);
     match Node::open(alloc, group, records) {
@@ -172,15 +166,10 @@ impl Lab {
         let mut hosts = Vec::new(alloc);
         for m in 0..members {
             let host = host(alloc, members, m)?;
-            if hosts.push(host).is_err() {
-                return Err(LabFault::Memory);
-            }
+            hosts.push(host).map_err(|_| LabFault::Memory)?;
         }
-        Ok(Lab {
-            hosts,
-            sent: Vec::new(alloc),
-            alloc,
-        })
+        let sent = Vec::new(alloc);
+        Ok(Lab { hosts, sent, alloc })
     }
 }
 

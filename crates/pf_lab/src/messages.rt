@@ -12,10 +12,10 @@ ghost use Rattle.px_wire.specs.Seen.{message_of, accepted_of};
 ghost use Rattle.pf_lab.specs.Shown.{kind_word, ballot_part, position_part, entry_part, accepted_part};
 ghost use Rattle.pf_lab.specs.Shown.{message_parts, message_line};
 
+use crate::fault::Pushed;
 use px_model::{EntryView, Message, Proposal};
 use px_replica::Datagram;
 use px_wire::{Membership, MessageView, decode};
-use std::alloc::AllocError;
 
 /// The name of a message's kind.
 fn kind_of(message: &MessageView<'_>) -> &'static str
@@ -38,14 +38,14 @@ fn kind_of(message: &MessageView<'_>) -> &'static str
 }
 
 /// ` bROUND.NODE`
-fn push_ballot(out: &mut String, ballot: u64) -> Result<(), AllocError>
+fn push_ballot(out: &mut String, ballot: u64) -> Pushed
     ensures { OnOk result (string_bytes out.new ≡ string_bytes out.old ++ ballot_part ballot) }
 {
     write!(out, " b{}.{}", ballot / 256, ballot % 256)
 }
 
 /// ` eORIGIN.NUMBER`
-fn push_entry(out: &mut String, entry: &EntryView<'_>) -> Result<(), AllocError>
+fn push_entry(out: &mut String, entry: &EntryView<'_>) -> Pushed
     ensures { OnOk result (string_bytes out.new
         ≡ string_bytes out.old ++ entry_part (view_of entry.now).origin (view_of entry.now).number) }
 {
@@ -53,7 +53,7 @@ fn push_entry(out: &mut String, entry: &EntryView<'_>) -> Result<(), AllocError>
 }
 
 /// The ballot and the position of a message.
-fn push_place(out: &mut String, ballot: u64, position: u32) -> Result<(), AllocError>
+fn push_place(out: &mut String, ballot: u64, position: u32) -> Pushed
     ensures { OnOk result (string_bytes out.new
         ≡ string_bytes out.old ++ (ballot_part ballot ++ position_part position)) }
 {
@@ -62,10 +62,7 @@ fn push_place(out: &mut String, ballot: u64, position: u32) -> Result<(), AllocE
 }
 
 /// ` none`, or the accepted ballot and entry.
-fn push_accepted(
-    out: &mut String,
-    accepted: &Option<Proposal<EntryView<'_>>>,
-) -> Result<(), AllocError>
+fn push_accepted(out: &mut String, accepted: &Option<Proposal<EntryView<'_>>>) -> Pushed
     ensures { OnOk result (string_bytes out.new ≡ string_bytes out.old ++ accepted_part (accepted_of accepted.now)) }
 {
     match accepted {
@@ -78,7 +75,7 @@ fn push_accepted(
 }
 
 /// A message's fields, each after a blank. No member sends another a message that is for clients or from them.
-fn push_parts(out: &mut String, message: &MessageView<'_>) -> Result<(), AllocError>
+fn push_parts(out: &mut String, message: &MessageView<'_>) -> Pushed
     ensures { OnOk result (string_bytes out.new ≡ string_bytes out.old ++ message_parts (message_of message.now)) }
 {
     match message {
@@ -134,13 +131,7 @@ fn push_parts(out: &mut String, message: &MessageView<'_>) -> Result<(), AllocEr
 }
 
 /// `K KIND FROM>TO`, and the message's fields.
-fn push_message(
-    out: &mut String,
-    k: usize,
-    from: u8,
-    to: u8,
-    message: &MessageView<'_>,
-) -> Result<(), AllocError>
+fn push_message(out: &mut String, k: usize, from: u8, to: u8, message: &MessageView<'_>) -> Pushed
     ensures { OnOk result (string_bytes out.new
         ≡ string_bytes out.old ++ message_line k from to (message_of message.now)) }
 {
@@ -150,12 +141,7 @@ fn push_message(
 }
 
 /// The line of the message of this number, among that many members.
-pub(crate) fn push_datagram(
-    out: &mut String,
-    members: u8,
-    k: usize,
-    datagram: &Datagram,
-) -> Result<(), AllocError>
+pub(crate) fn push_datagram(out: &mut String, members: u8, k: usize, datagram: &Datagram) -> Pushed
     ensures { (x : Envelope Bytes) → 1 ≤ members → members ≤ MEMBERS →
         IsSpelled (cluster_of members) x datagram.now → OnOk result
         (string_bytes out.new ≡ string_bytes out.old ++ sent_line k (Some x)) }

@@ -43,8 +43,7 @@ pub(crate) fn number_in(word: &str) -> Option<u64>
 pub(crate) fn node_in(word: &str) -> Result<u8, LineFault>
     ensures { Reads (λ m. m) result (node_of word.now) }
 {
-    let number = number_in(word).ok_or(UNKNOWN)?;
-    Ok(number.min(255) as u8)
+    Ok(number_in(word).ok_or(UNKNOWN)?.min(255) as u8)
 }
 
 /// The message that the argument names.

@@ -2,7 +2,7 @@
 
 ghost use Rattle.std.specs.Prelude.{◌≡◌, map, option_map};
 ghost use Rattle.std.specs.Option.{option_copied};
-ghost use Rattle.pf_lab.specs.LabLines.{only, ask_of, action_of, event_of, test_of, bare, line_asked};
+ghost use Rattle.pf_lab.specs.LabLines.{only, action_of, event_of, test_of, bare, line_asked};
 ghost use Rattle.pf_lab.specs.inner.Seen.{Reads, action_value, event_value, line_value};
 
 use crate::asking::command_in;
@@ -38,18 +38,6 @@ fn only<'a>(words: &[&'a str]) -> Result<&'a str, LineFault>
     }
 }
 
-/// `NODE WORDS`
-fn ask_in(alloc: Global, words: &[&str], text: Option<&[u8]>) -> Result<LabAction, LineFault>
-    ensures { Reads action_value result (ask_of (map (λ w. w.now) words.now) (option_copied text.entry)) }
-{
-    let [node, ..] = words else {
-        return Err(UNKNOWN);
-    };
-    let node = node_in(*node)?;
-    let command = command_in(alloc, words, text)?;
-    Ok(LabAction::Ask(node, command))
-}
-
 /// `ask NODE WORDS`, `tick NODE` or `deliver K`; `text` is what is behind the line, none where no text may.
 fn action_in(alloc: Global, words: &[&str], text: Option<&[u8]>) -> Result<LabAction, LineFault>
     ensures { Reads action_value result (action_of (map (λ w. w.now) words.now) (option_copied text.entry)) }
@@ -57,16 +45,15 @@ fn action_in(alloc: Global, words: &[&str], text: Option<&[u8]>) -> Result<LabAc
     let [first, rest @ ..] = words else {
         return Err(UNKNOWN);
     };
-    if *first == "ask" {
-        return ask_in(alloc, rest, text);
+    match *first {
+        "ask" => {
+            let node = node_in(*rest.first().ok_or(UNKNOWN)?)?;
+            Ok(LabAction::Ask(node, command_in(alloc, rest, text)?))
+        }
+        "tick" => Ok(LabAction::Tick(node_in(only(rest)?)?)),
+        "deliver" => Ok(LabAction::Deliver(message_in(only(rest)?)?)),
+        _ => Err(UNKNOWN),
     }
-    if *first == "tick" {
-        return Ok(LabAction::Tick(node_in(only(rest)?)?));
-    }
-    if *first == "deliver" {
-        return Ok(LabAction::Deliver(message_in(only(rest)?)?));
-    }
-    Err(UNKNOWN)
 }
 
 /// An action, its stop, or `restart NODE`.
@@ -76,16 +63,12 @@ fn event_in(alloc: Global, words: &[&str], text: &[u8]) -> Result<LabEvent, Line
     let [first, rest @ ..] = words else {
         return Err(UNKNOWN);
     };
-    if *first == "stop-before" {
-        return Ok(LabEvent::StopBefore(action_in(alloc, rest, None)?));
+    match *first {
+        "stop-before" => Ok(LabEvent::StopBefore(action_in(alloc, rest, None)?)),
+        "stop-after" => Ok(LabEvent::StopAfter(action_in(alloc, rest, None)?)),
+        "restart" => Ok(LabEvent::Restart(node_in(only(rest)?)?)),
+        _ => Ok(LabEvent::Runs(action_in(alloc, words, Some(text))?)),
     }
-    if *first == "stop-after" {
-        return Ok(LabEvent::StopAfter(action_in(alloc, rest, None)?));
-    }
-    if *first == "restart" {
-        return Ok(LabEvent::Restart(node_in(only(rest)?)?));
-    }
-    Ok(LabEvent::Runs(action_in(alloc, words, Some(text))?))
 }
 
 /// `test NODE PACKET`
@@ -102,16 +85,12 @@ fn test_in<'w, 'a>(words: &'w [&'a str]) -> Result<LabLine<'w, 'a>, LineFault>
 fn bare<'w, 'a>(word: &str) -> Option<LabLine<'w, 'a>>
     ensures { option_map line_value result ≡ bare word.now }
 {
-    if word == "run" {
-        return Some(LabLine::Run);
+    match word {
+        "run" => Some(LabLine::Run),
+        "state" => Some(LabLine::State),
+        "sent" => Some(LabLine::Sent),
+        _ => None,
     }
-    if word == "state" {
-        return Some(LabLine::State);
-    }
-    if word == "sent" {
-        return Some(LabLine::Sent);
-    }
-    None
 }
 
 /// What a line with these arguments asks for; `text` is what follows it.

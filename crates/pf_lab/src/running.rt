@@ -21,7 +21,7 @@ ghost use Rattle.pf_lab.specs.inner.Labs.{IsAnswered, IsLabs};
 ghost use Rattle.px_core.specs.declared.limits.TheConstants.{MEMBERS};
 
 use crate::coming::What;
-use crate::event::{LabFault, Outcome};
+use crate::event::{LabFault, Outcome, Stepped};
 use crate::host::Host;
 use pf_node::Node;
 use px_model::EntryView;
@@ -29,7 +29,7 @@ use px_records::MemoryRecords;
 use px_replica::{Datagram, NodeFault};
 
 /// The outcome of a refusal.
-fn refused(fault: NodeFault) -> Result<Outcome, LabFault>
+fn refused(fault: NodeFault) -> Stepped
     requires { IsLabs fault }
     ensures refused { (a : Answer Bytes) → IsRefusedBy fault a →
         OnOk result ((code : ℕ) × (a ≡ Refused code)) }
@@ -49,7 +49,7 @@ fn refused(fault: NodeFault) -> Result<Outcome, LabFault>
 }
 
 /// A command is asked of a node over a record in memory.
-fn ask(node: &mut Node<MemoryRecords>, entry: &EntryView) -> Result<Outcome, LabFault>
+fn ask(node: &mut Node<MemoryRecords>, entry: &EntryView) -> Stepped
     requires works { has_failed node.old ≡ false }
     requires sound { IsSound (membership_of node.old).members (state_in node.old).stored }
     requires command { is_command (view_of entry.now).command ≡ true }
@@ -73,7 +73,7 @@ fn ask(node: &mut Node<MemoryRecords>, entry: &EntryView) -> Result<Outcome, Lab
 }
 
 /// The clock of a node over a record in memory ticks.
-fn tick(node: &mut Node<MemoryRecords>, out: &mut Vec<Datagram>) -> Result<Outcome, LabFault>
+fn tick(node: &mut Node<MemoryRecords>, out: &mut Vec<Datagram>) -> Stepped
     requires empty { out.old.items ≡ [] }
     requires works { has_failed node.old ≡ false }
     requires sound { IsSound (membership_of node.old).members (state_in node.old).stored }
@@ -96,11 +96,7 @@ fn tick(node: &mut Node<MemoryRecords>, out: &mut Vec<Datagram>) -> Result<Outco
 }
 
 /// A datagram arrives at a node over a record in memory.
-fn receive(
-    node: &mut Node<MemoryRecords>,
-    bytes: &[u8],
-    out: &mut Vec<Datagram>,
-) -> Result<Outcome, LabFault>
+fn receive(node: &mut Node<MemoryRecords>, bytes: &[u8], out: &mut Vec<Datagram>) -> Stepped
     requires empty { out.old.items ≡ [] }
     requires works { has_failed node.old ≡ false }
     requires sound { IsSound (membership_of node.old).members (state_in node.old).stored }
@@ -126,7 +122,7 @@ fn receive(
 
 impl Host {
     /// What the member receives is answered as the model answers it.
-    pub(crate) fn take(&mut self, what: What, out: &mut Vec<Datagram>) -> Result<Outcome, LabFault>
+    pub(crate) fn take(&mut self, what: What, out: &mut Vec<Datagram>) -> Stepped
         requires empty { out.old.items ≡ [] }
         requires askable { IsAskable what }
         ensures went { (x : Input Bytes) → IsInput (group (group_of self.old)) (group_of self.old).me what.entry x →

@@ -14,20 +14,20 @@ ghost use Rattle.pf_lab.specs.Scripts.{of_node, learned_lines, verdict_line, sen
 ghost use Rattle.pf_lab.specs.inner.Benches.{IsBench, Does, IsOfMember};
 
 use crate::bench::Bench;
-use crate::fault::NOT_THERE;
+use crate::fault::{NOT_THERE, Pushed};
 use crate::messages::push_datagram;
 use pf_config::Config;
 use pf_node::Node;
 use pf_scripts::{push_line, push_refusal, test_packet};
 use px_model::EntryView;
 use px_records::MemoryRecords;
-use std::alloc::{AllocError, Global};
+use std::alloc::AllocError;
 
 /// Nothing is learned that many positions or more past a node's front.
 const WINDOW: u32 = 64;
 
 /// ` round R front F applied A`; out of memory where less is applied than the front.
-fn push_progress(out: &mut String, node: &Node<MemoryRecords>) -> Result<(), AllocError>
+fn push_progress(out: &mut String, node: &Node<MemoryRecords>) -> Pushed
     ensures { (s : NodeState Bytes) → IsShown s node.now →
         OnOk result (string_bytes out.new ≡ string_bytes out.old ++ progress s) }
 {
@@ -39,7 +39,7 @@ fn push_progress(out: &mut String, node: &Node<MemoryRecords>) -> Result<(), All
 }
 
 /// `node N round R front F applied A`, or `node N stopped`
-fn push_node(out: &mut String, m: u8, node: Option<&Node<MemoryRecords>>) -> Result<(), AllocError>
+fn push_node(out: &mut String, m: u8, node: Option<&Node<MemoryRecords>>) -> Pushed
     ensures { (s : NodeState Bytes) → IsOfMember s (option_copied node.entry) →
         OnOk result (string_bytes out.new ≡ string_bytes out.old ++ node_line m s) }
 {
@@ -52,7 +52,7 @@ fn push_node(out: &mut String, m: u8, node: Option<&Node<MemoryRecords>>) -> Res
 }
 
 /// `POSITION ORIGIN.NUMBER`
-fn push_learned(out: &mut String, position: u32, entry: &EntryView<'_>) -> Result<(), AllocError>
+fn push_learned(out: &mut String, position: u32, entry: &EntryView<'_>) -> Pushed
     ensures { OnOk result (string_bytes out.new
         ≡ string_bytes out.old ++ entry_line position (Some (view_of entry.now))) }
 {
@@ -60,7 +60,7 @@ fn push_learned(out: &mut String, position: u32, entry: &EntryView<'_>) -> Resul
 }
 
 /// A line for each position that the node has learned, upwards.
-fn push_log(out: &mut String, node: &Node<MemoryRecords>) -> Result<(), AllocError>
+fn push_log(out: &mut String, node: &Node<MemoryRecords>) -> Pushed
     ensures { OnOk result (string_bytes out.new
         ≡ string_bytes out.old ++ log_lines (learned_by node.now) (front (learned_by node.now) + 64)) }
 {
@@ -76,7 +76,7 @@ fn push_log(out: &mut String, node: &Node<MemoryRecords>) -> Result<(), AllocErr
 
 /// What a node has learned, and that it is stopped where it is.
 #[tactic(auto, using(crate::proofs::Lines::learned_shown, crate::proofs::Lines::stopped_shown))]
-fn push_learned_by(out: &mut String, node: Option<&Node<MemoryRecords>>) -> Result<(), AllocError>
+fn push_learned_by(out: &mut String, node: Option<&Node<MemoryRecords>>) -> Pushed
     ensures { (s : NodeState Bytes) → IsOfMember s (option_copied node.entry) →
         OnOk result (string_bytes out.new ≡ string_bytes out.old ++ of_running s learned_lines) }
 {
@@ -99,25 +99,20 @@ fn configuration(node: &Node<MemoryRecords>) -> Result<&Config, AllocError>
 
 /// The verdict of a node for a packet, and that it is stopped where it is.
 #[tactic(auto, using(crate::proofs::Lines::verdict_shown, crate::proofs::Lines::stopped_shown))]
-fn push_verdict(
-    alloc: Global,
-    out: &mut String,
-    node: Option<&Node<MemoryRecords>>,
-    packet: &[&str],
-) -> Result<(), AllocError>
+fn push_verdict(out: &mut String, node: Option<&Node<MemoryRecords>>, packet: &[&str]) -> Pushed
     ensures { (s : NodeState Bytes) → IsOfMember s (option_copied node.entry) →
         OnOk result (string_bytes out.new
         ≡ string_bytes out.old ++ of_running s (verdict_line (map (λ w. w.now) packet.now))) }
 {
     match node {
-        Some(node) => test_packet(alloc, configuration(node)?, packet)?.push_to(out),
+        Some(node) => test_packet(*out.allocator(), configuration(node)?, packet)?.push_to(out),
         None => push_line(out, "stopped"),
     }
 }
 
 impl Bench {
     /// Prints how far each node is.
-    pub(crate) fn show_state(&self, out: &mut String) -> Result<(), AllocError>
+    pub(crate) fn show_state(&self, out: &mut String) -> Pushed
         ensures { (v : LabValue) → IsBench self.now v → OnOk result
             (string_bytes out.new ≡ string_bytes out.old ++ state_lines v.world v.members) }
     {
@@ -128,7 +123,7 @@ impl Bench {
     }
 
     /// Prints what the node has learned.
-    pub(crate) fn show_log(&self, m: u8, out: &mut String) -> Result<(), AllocError>
+    pub(crate) fn show_log(&self, m: u8, out: &mut String) -> Pushed
         ensures { (v : LabValue) → IsBench self.now v → OnOk result
             (string_bytes out.new ≡ string_bytes out.old ++ of_node v m learned_lines) }
     {
@@ -139,23 +134,18 @@ impl Bench {
     }
 
     /// Prints the node's verdict for a packet.
-    pub(crate) fn show_verdict(
-        &self,
-        m: u8,
-        packet: &[&str],
-        out: &mut String,
-    ) -> Result<(), AllocError>
+    pub(crate) fn show_verdict(&self, m: u8, packet: &[&str], out: &mut String) -> Pushed
         ensures { (v : LabValue) → IsBench self.now v → OnOk result (string_bytes out.new
             ≡ string_bytes out.old ++ of_node v m (verdict_line (map (λ w. w.now) packet.now))) }
     {
         if m >= self.members {
             return push_refusal(out, NOT_THERE, 0);
         }
-        push_verdict(self.lab.alloc, out, self.lab.node(m), packet)
+        push_verdict(out, self.lab.node(m), packet)
     }
 
     /// Prints the messages that weren't shown yet.
-    fn push_sent(&self, out: &mut String) -> Result<(), AllocError>
+    fn push_sent(&self, out: &mut String) -> Pushed
         ensures { (v : LabValue) → IsBench self.now v → OnOk result (string_bytes out.new
             ≡ string_bytes out.old ++ sent_lines v.world.sent v.shown (length v.world.sent)) }
     {
@@ -168,7 +158,7 @@ impl Bench {
     }
 
     /// The same, and they count as shown.
-    pub(crate) fn show_sent(&mut self, out: &mut String) -> Result<(), AllocError>
+    pub(crate) fn show_sent(&mut self, out: &mut String) -> Pushed
         ensures { (v : LabValue) → IsBench self.old v → OnOk result (Does (prints (all_shown v)
             (sent_lines v.world.sent v.shown (length v.world.sent))) self.new
             (string_bytes out.old) (string_bytes out.new)) }

@@ -9,7 +9,7 @@ ghost use Rattle.pf_lab.specs.inner.Seen.{line_value};
 ghost use Rattle.pf_lab.specs.inner.Benches.{IsBench, Does, Steps};
 
 use crate::bench::Bench;
-use crate::fault::LineFault;
+use crate::fault::{LineFault, Pushed};
 use crate::reading::{LabLine, line_in};
 use pf_arguments::USAGE;
 use pf_scripts::{Line, Waiting, push_bytes, push_refusal, takes_text, words_in};
@@ -25,9 +25,12 @@ fn is_followed(alloc: Global, words: &[&str]) -> Result<bool, AllocError>
     }
 }
 
+/// The line that waits for its text, if any.
+type Waits<'a> = Result<Option<Waiting<'a>>, AllocError>;
+
 impl Bench {
     /// Does what a line asks for.
-    fn run_line(&mut self, line: LabLine<'_, '_>, out: &mut String) -> Result<(), AllocError>
+    fn run_line(&mut self, line: LabLine<'_, '_>, out: &mut String) -> Pushed
         ensures { (v : LabValue) → IsBench self.old v → OnOk result
             (Does (done v (line_value line.entry)) self.new (string_bytes out.old) (string_bytes out.new)) }
     {
@@ -42,12 +45,7 @@ impl Bench {
     }
 
     /// Runs what a line's arguments ask for, or prints its refusal; `text` is what follows it.
-    pub(crate) fn run_words(
-        &mut self,
-        words: &[&str],
-        text: &[u8],
-        out: &mut String,
-    ) -> Result<(), AllocError>
+    pub(crate) fn run_words(&mut self, words: &[&str], text: &[u8], out: &mut String) -> Pushed
         ensures { (v : LabValue) → IsBench self.old v → OnOk result
             (Does (words_done v (map (λ w. w.now) words.now) text.now) self.new
             (string_bytes out.old) (string_bytes out.new)) }
@@ -60,11 +58,7 @@ impl Bench {
     }
 
     /// Runs a line with these arguments, unless a ruleset follows it.
-    fn begin<'a>(
-        &mut self,
-        words: Option<Vec<&'a str>>,
-        out: &mut String,
-    ) -> Result<Option<Waiting<'a>>, AllocError>
+    fn begin<'a>(&mut self, words: Option<Vec<&'a str>>, out: &mut String) -> Waits<'a>
         ensures { (v : LabValue) → IsBench self.old v → IfOk result (λ w. Steps
             (at_words v (option_map (λ u. map (λ x. x.now) u.items) words.entry))
             self.new (option_map waiting_of w) (string_bytes out.old) (string_bytes out.new)) }
@@ -90,26 +84,20 @@ impl Bench {
         waiting: Option<Waiting<'a>>,
         line: Line<'a>,
         out: &mut String,
-    ) -> Result<Option<Waiting<'a>>, AllocError>
+    ) -> Waits<'a>
         ensures { (v : LabValue) → IsBench self.old v → IfOk result (λ w. Steps
             (stepped v (option_map waiting_of waiting.entry) (line_of line.entry))
             self.new (option_map waiting_of w) (string_bytes out.old) (string_bytes out.new)) }
     {
-        match waiting {
-            None => {
-                let words = words_in(self.lab.alloc, line.content)?;
-                self.begin(words, out)
-            }
-            Some(waiting) => {
-                if line.content == b".".as_slice() {
-                    self.run_words(&waiting.words, &waiting.text, out)?;
-                    return Ok(None);
-                }
-                let words = waiting.words;
-                let mut text = waiting.text;
-                push_bytes(&mut text, line)?;
-                Ok(Some(Waiting { words, text }))
-            }
+        let Some(mut waiting) = waiting else {
+            let words = words_in(self.lab.alloc, line.content)?;
+            return self.begin(words, out);
+        };
+        if line.content == b".".as_slice() {
+            self.run_words(&waiting.words, &waiting.text, out)?;
+            return Ok(None);
         }
+        push_bytes(&mut waiting.text, line)?;
+        Ok(Some(waiting))
     }
 }

@@ -8,15 +8,14 @@ ghost use Rattle.pf_tool.specs.inner.Calls.{asked, test_value};
 ghost use Rattle.pf_tool.specs.inner.Output.{Renders};
 
 use crate::call::{Call, Check, Test};
-use crate::output::Output;
+use crate::output::{Made, Output};
 use crate::source::Runner;
 use cli_io::{InputFault, Sources, read_all};
-use std::alloc::AllocError;
 use std::io::Read;
 
 impl<T: Sources> Runner<'_, T> {
     /// `check FILE..`, or `check` of the input.
-    fn check(&self, check: &Check<'_, '_>, input: &[u8]) -> Result<Output, AllocError>
+    fn check(&self, check: &Check<'_, '_>, input: &[u8]) -> Made<Output>
         ensures { IfOk result (λ o. Renders self.now.reporter o (IsAnswer (T.has self.now.sources.now)
             self.now.reporter.table.now
             (check_as check.now.place check.now.quiet (map (λ f. f.now) check.now.files.now)) input.now)) }
@@ -28,7 +27,7 @@ impl<T: Sources> Runner<'_, T> {
 
     /// `test` under the rules of a file or of the input, for packets given as arguments and in lines: those of a file;
     /// without a file and without arguments, the input's.
-    fn test(&self, test: &Test<'_, '_>, input: &[u8]) -> Result<Output, AllocError>
+    fn test(&self, test: &Test<'_, '_>, input: &[u8]) -> Made<Output>
         ensures { IfOk result (λ o. Renders self.now.reporter o (IsAnswer (T.has self.now.sources.now)
             self.now.reporter.table.now
             (test_value (option_copied test.now.file) (option_copied test.now.more) test.now.quiet
@@ -44,7 +43,7 @@ impl<T: Sources> Runner<'_, T> {
     }
 
     /// What a call writes over this input and over files.
-    fn output_over(&self, call: &Call<'_, '_>, input: &[u8]) -> Result<Output, AllocError>
+    fn output_over(&self, call: &Call<'_, '_>, input: &[u8]) -> Made<Output>
         ensures { IfOk result (λ o. Renders self.now.reporter o (IsAnswer (T.has self.now.sources.now)
             self.now.reporter.table.now (asked call.now) input.now)) }
     {

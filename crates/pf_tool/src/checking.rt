@@ -5,7 +5,7 @@ ghost use Rattle.pf_tool.specs.Tool.{check_output, checked_source, checked_sourc
 ghost use Rattle.pf_tool.specs.inner.Output.{written, rendered};
 ghost use Rattle.pf_tool.specs.inner.Sources.{source_in};
 
-use crate::output::Output;
+use crate::output::{Made, Output};
 use crate::reporting::Reporter;
 use crate::source::Source;
 use pf_grammar::{ParseFault, Place, Profile, parse, show};
@@ -14,12 +14,7 @@ use std::alloc::AllocError;
 impl Reporter<'_> {
     /// What `check` writes over the text of this source: the ruleset that it gives at the place, or its refusal.
     #[tactic(auto, unfolding(crate::specs::Tool::check_output))]
-    pub(crate) fn check_output(
-        &self,
-        source: &str,
-        place: Place,
-        text: &[u8],
-    ) -> Result<Output, AllocError>
+    pub(crate) fn check_output(&self, source: &str, place: Place, text: &[u8]) -> Made<Output>
         ensures { IfOk result (λ o. written o ≡ rendered self.now (check_output source.now place text.now)) }
     {
         match parse(self.alloc, text, place, Profile::Two) {
@@ -30,7 +25,7 @@ impl Reporter<'_> {
     }
 
     /// What `check` writes over a ruleset, which may be one that can't be read.
-    fn checked_source(&self, place: Place, source: &Source<'_>) -> Result<Output, AllocError>
+    fn checked_source(&self, place: Place, source: &Source<'_>) -> Made<Output>
         ensures { IfOk result (λ o. written o ≡ rendered self.now (checked_source place (source_in source.now))) }
     {
         match source.text.as_deref() {
@@ -41,11 +36,7 @@ impl Reporter<'_> {
 
     /// What `check` writes over these rulesets in turn.
     #[tactic(auto, unfolding(crate::specs::Tool::checked_sources))]
-    pub(crate) fn checked_sources(
-        &self,
-        place: Place,
-        sources: &[Source<'_>],
-    ) -> Result<Output, AllocError>
+    pub(crate) fn checked_sources(&self, place: Place, sources: &[Source<'_>]) -> Made<Output>
         ensures { IfOk result (λ o. written o
             ≡ rendered self.now (checked_sources place (map source_in sources.now))) }
     {

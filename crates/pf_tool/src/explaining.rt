@@ -5,14 +5,13 @@ ghost use Rattle.std.specs.Option.{option_copied};
 ghost use Rattle.pf_tool.specs.Tool.{explained};
 ghost use Rattle.pf_tool.specs.inner.Output.{written, rendered};
 
-use crate::output::Output;
+use crate::output::{Made, Output};
 use crate::reporting::Reporter;
 use cli_io::{Explanation, explain_all};
-use std::alloc::AllocError;
 
 impl Reporter<'_> {
     /// What `explain` writes: a refusal's paragraph, or all of the table.
-    pub(crate) fn explained(&self, row: Option<&Explanation>) -> Result<Output, AllocError>
+    pub(crate) fn explained(&self, row: Option<&Explanation>) -> Made<Output>
         ensures { IfOk result (λ o. written o ≡ rendered self.now
             (explained self.now.table.now (option_copied row.entry))) }
     {

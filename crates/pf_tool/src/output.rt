@@ -11,6 +11,9 @@ use cli_io::UNREADABLE;
 use pf_grammar::Refusal;
 use std::alloc::{AllocError, Global};
 
+/// What was made, unless it was out of memory.
+pub(crate) type Made<T> = Result<T, AllocError>;
+
 /// How a run ends that wrote all of its output.
 #[derive(Clone, Copy)]
 pub(crate) enum Ending {
@@ -40,7 +43,7 @@ impl Output {
     }
 
     /// Puts another output behind this one; the run ends as refused where one of them does.
-    pub(crate) fn append(&mut self, other: &Output) -> Result<(), AllocError>
+    pub(crate) fn append(&mut self, other: &Output) -> Made<()>
         ensures { OnOk result (written self.new ≡ both (written self.old) (written other.now)) }
     {
         self.text.push_str(other.text.as_str())?;
@@ -64,7 +67,7 @@ impl Output {
 }
 
 /// The line of a refusal.
-fn refused_text(alloc: Global, line: Option<u64>, code: u8) -> Result<String, AllocError>
+fn refused_text(alloc: Global, line: Option<u64>, code: u8) -> Made<String>
     ensures { IfOk result (λ text. string_bytes text ≡ refused_text line code) }
 {
     let mut text = String::new(alloc);
@@ -84,12 +87,7 @@ impl Reporter<'_> {
     }
 
     /// A source is refused with this number, at its line where the refusal names one.
-    pub(crate) fn refused(
-        &self,
-        source: &str,
-        line: Option<u64>,
-        code: u8,
-    ) -> Result<Output, AllocError>
+    pub(crate) fn refused(&self, source: &str, line: Option<u64>, code: u8) -> Made<Output>
         ensures { IfOk result (λ o. written o ≡ rendered self.now (refused source.now line code)) }
     {
         let text = refused_text(self.alloc, line, code)?;
@@ -98,18 +96,14 @@ impl Reporter<'_> {
     }
 
     /// The text of a ruleset is refused.
-    pub(crate) fn refused_ruleset(
-        &self,
-        source: &str,
-        refusal: Refusal,
-    ) -> Result<Output, AllocError>
+    pub(crate) fn refused_ruleset(&self, source: &str, refusal: Refusal) -> Made<Output>
         ensures { IfOk result (λ o. written o ≡ rendered self.now (refused_ruleset source.now refusal)) }
     {
         self.refused(source, Some(refusal.line), refusal.cause.code())
     }
 
     /// What is written of a source that can't be read.
-    pub(crate) fn unread(&self, source: &str) -> Result<Output, AllocError>
+    pub(crate) fn unread(&self, source: &str) -> Made<Output>
         ensures { IfOk result (λ o. written o ≡ rendered self.now (unread source.now)) }
     {
         self.refused(source, None, UNREADABLE)

@@ -8,10 +8,11 @@ ghost use Rattle.pf_tool.specs.Messages.{name_of, message_line};
 ghost use Rattle.pf_eval.specs.Seen.{judgement_of};
 
 use crate::deciding::decided_line;
+use crate::output::Made;
 use cli_io::{Explanation, Remark, Shown, explanation, write_bytes};
 use pf_config::Config;
 use pf_eval::Verdict;
-use std::alloc::{AllocError, Global};
+use std::alloc::Global;
 use std::io::Write;
 
 /// Which messages are written.
@@ -53,12 +54,7 @@ impl Reporter<'_> {
     }
 
     /// The line of a refusal, empty where refusals aren't reported.
-    pub(crate) fn refusal(
-        &self,
-        source: &str,
-        line: Option<u64>,
-        code: u8,
-    ) -> Result<String, AllocError>
+    pub(crate) fn refusal(&self, source: &str, line: Option<u64>, code: u8) -> Made<String>
         ensures { IfOk result (λ text. string_bytes text ≡ message_line self.now.level self.now.table.now
             (Refuses source.now line code)) }
     {
@@ -76,12 +72,7 @@ impl Reporter<'_> {
     }
 
     /// The line of the rule that decides, for the packet with this number; empty where rules aren't reported.
-    pub(crate) fn decision(
-        &self,
-        n: usize,
-        config: &Config,
-        found: &Verdict<'_>,
-    ) -> Result<String, AllocError>
+    pub(crate) fn decision(&self, n: usize, config: &Config, found: &Verdict<'_>) -> Made<String>
         ensures { IfOk result (λ text. string_bytes text ≡ message_line self.now.level self.now.table.now
             (Decides n config.now (judgement_of found.now))) }
     {

@@ -5,6 +5,7 @@ ghost use Rattle.std.specs.Option.{option_copied};
 ghost use Rattle.pf_tool.specs.Tool.{AreRules, AreTexts};
 ghost use Rattle.pf_tool.specs.inner.Sources.{source_in};
 
+use crate::output::Made;
 use crate::reporting::Reporter;
 use cli_io::{InputFault, Sources};
 use std::alloc::AllocError;
@@ -26,11 +27,7 @@ pub(crate) struct Runner<'r, T> {
 
 impl<T: Sources> Runner<'_, T> {
     /// The text of a file; without a file the input.
-    pub(crate) fn source_or<'a>(
-        &self,
-        file: Option<&'a str>,
-        input: &[u8],
-    ) -> Result<Source<'a>, AllocError>
+    pub(crate) fn source_or<'a>(&self, file: Option<&'a str>, input: &[u8]) -> Made<Source<'a>>
         ensures { IfOk result (λ s. AreRules (T.has self.now.sources.now) (option_copied file.entry) (source_in s)
             input.now) }
     {
@@ -47,11 +44,7 @@ impl<T: Sources> Runner<'_, T> {
     }
 
     /// The rulesets of files, in turn; without files that of the input.
-    pub(crate) fn sources_or<'a>(
-        &self,
-        paths: &[&'a str],
-        input: &[u8],
-    ) -> Result<Vec<Source<'a>>, AllocError>
+    pub(crate) fn sources_or<'a>(&self, paths: &[&'a str], input: &[u8]) -> Made<Vec<Source<'a>>>
         ensures { IfOk result (λ v. AreTexts (T.has self.now.sources.now) (map (λ p. p.now) paths.now)
             (map source_in v.items) input.now) }
     {

@@ -9,7 +9,7 @@ ghost use Rattle.pf_tool.specs.Tool.{test_output, tested_sources};
 ghost use Rattle.pf_tool.specs.inner.Output.{written, rendered};
 ghost use Rattle.pf_tool.specs.inner.Sources.{source_in};
 
-use crate::output::Output;
+use crate::output::{Made, Output};
 use crate::packets::packet_texts;
 use crate::reporting::Reporter;
 use crate::source::Source;
@@ -23,7 +23,7 @@ use std::alloc::AllocError;
 
 impl Reporter<'_> {
     /// What is written of the packet with this number, which is none.
-    fn refused_packet(&self, n: usize) -> Result<Output, AllocError>
+    fn refused_packet(&self, n: usize) -> Made<Output>
         ensures { IfOk result (λ o. written o ≡ rendered self.now (refused_packet n)) }
     {
         let source = format!(in self.alloc; "packet {n}")?;
@@ -31,7 +31,7 @@ impl Reporter<'_> {
     }
 
     /// A verdict line for each packet text in turn, up to the first that is no packet, and which rules decide.
-    fn verdict_lines(&self, config: &Config, packets: &[&str]) -> Result<Output, AllocError>
+    fn verdict_lines(&self, config: &Config, packets: &[&str]) -> Made<Output>
         ensures { IfOk result (λ o. written o ≡ rendered self.now
             (verdict_lines config.now 1 (map (λ p. p.now) packets.now))) }
     {
@@ -56,12 +56,7 @@ impl Reporter<'_> {
     }
 
     /// The ruleset of a source is loaded as the main one of an empty configuration, which then answers.
-    fn tested_over(
-        &self,
-        source: &str,
-        rules: Ruleset,
-        packets: &[&str],
-    ) -> Result<Output, AllocError>
+    fn tested_over(&self, source: &str, rules: Ruleset, packets: &[&str]) -> Made<Output>
         ensures { IfOk result (λ o. written o ≡ rendered self.now (tested_over source.now
             (map (λ p. p.now) packets.now) (load_ruleset empty [] (ruleset_of rules)))) }
     {
@@ -74,12 +69,7 @@ impl Reporter<'_> {
 
     /// What `test PACKET..` writes over the text of this source.
     #[tactic(auto, unfolding(crate::specs::Tool::test_output))]
-    pub(crate) fn test_output(
-        &self,
-        source: &str,
-        packets: &[&str],
-        text: &[u8],
-    ) -> Result<Output, AllocError>
+    pub(crate) fn test_output(&self, source: &str, packets: &[&str], text: &[u8]) -> Made<Output>
         ensures { IfOk result (λ o. written o ≡ rendered self.now
             (test_output source.now (map (λ p. p.now) packets.now) text.now)) }
     {
@@ -97,7 +87,7 @@ impl Reporter<'_> {
         packets: &[&str],
         rules: &Source<'_>,
         lines: &Source<'_>,
-    ) -> Result<Output, AllocError>
+    ) -> Made<Output>
         ensures { IfOk result (λ o. written o ≡ rendered self.now
             (tested_sources (map (λ p. p.now) packets.now) (source_in rules.now) (source_in lines.now))) }
     {

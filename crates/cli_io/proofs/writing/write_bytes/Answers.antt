@@ -4,7 +4,7 @@ use Rattle.std.proofs.lemmas.List.{take_rest}
 use Rattle.std.proofs.KnownBytes.{Appends-trans}
 use Rattle.std.specs.Io.KnownBytes.{Appends, Keeps}
 use Rattle.cli_io.proofs.writing.write_bytes.Goals as goal
-use Rattle.cli_io.proofs.writing.write_bytes.Goals.{in-Ok, in-Err+else-ne}
+use Rattle.cli_io.proofs.writing.write_bytes.Goals.{in-Ok, in-Err}
 
 kept : (a b c : Option (List ℕ)) (bs : List ℕ) → Appends a b bs → Keeps b c → Appends a c bs
 kept None b c bs p q = tt
@@ -29,6 +29,6 @@ loop-preserved g c =
             moved _ done rest n split ∙ ap (λ l. (done ++ take n rest) ++ l) (sym left),
             Appends-trans _ _ _ _ _ appended w.in-Ok.ensures.bytes,
           )
-      | in-Err+else-ne w ↦
+      | in-Err w ↦
           (done, split ∙ ap (λ r. done ++ r.now) (sym w.rest-is), kept _ _ _ _ appended w.in-Err.ensures.bytes)
     ]

@@ -35,6 +35,6 @@ returns g c =
     let rows = rows_of (found_of c.in-Some.inner.now) in
     let e = given_parsed _ arguments matches.matches c.in-Ok.ensures matches.ensures.kinds matches.ensures.matches ∙ sym c.in-Some.ensures in
     let has = g.T.Sources.has c.args.sources.now in
-    let there = subst (λ (t : Option (List ℕ)). IsAt has (first_of (codes "interfaces") rows) t) (sym c.as_deref.ensures.value) c.in-Ok-interfaces_in.ensures in
-    ran_by has _ rows _ _ _ _ _ _ _ e there (c.as_deref-2.ensures.value ∙ c.in-Ok-members_in.ensures ∙ ap members_in c.values_in.ensures)
+    let there = subst (λ (t : Option (List ℕ)). IsAt has (first_of (codes "interfaces") rows) t) (sym c.as_deref-file.ensures.value) c.in-Ok-interfaces_in.ensures in
+    ran_by has _ rows _ _ _ _ _ _ _ e there (c.as_deref-members.ensures.value ∙ c.in-Ok-members_in.ensures ∙ ap members_in c.values_in.ensures)
     (c.unwrap_or-position.ensures ∙ ap (λ o. unwrap_or o 0) c.number_in.ensures) c.answer.ensures

@@ -11,7 +11,7 @@ use Rattle.cli_show.proofs.scripts.log_script.Goals as goal
 -- what is applied is learned
 pub unreachable-requires : goal.unreachable-requires
 unreachable-requires g c =
-    learned_below (learned_by c.args.node.now) c.loop-position.position (omega (arith, c.applied-position-end.ensures.behind)) (sym c.in-None.ensures)
+    learned_below (learned_by c.args.node.now) c.loop-position.position (omega (arith, c.applied-position-end.ensures.behind)) (sym c.in_default.ensures)
 
 -- one position more
 pub loop-position-preserved : goal.loop-position-preserved

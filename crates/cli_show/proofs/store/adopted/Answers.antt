@@ -1,4 +1,6 @@
 -- what opened the store has it
+use Rattle.std.proofs.Common.{◌∙◌, ap}
+use Rattle.cli_show.specs.Stores.{closed_by}
 use Rattle.px_store.specs.declared.formats.Format.TheVariants.{Three}
 use Rattle.cli_show.proofs.store.adopted.Goals as goal
 
@@ -13,7 +15,7 @@ returns-in-Err-clause-refused g c = λ clean. (
   c.in-Err.ensures.refused clean,
   λ began. record {
     fault = c.in-Err.fault;
-    numbered = c.closed_of.ensures;
+    numbered = c.closed_by.ensures ∙ ap closed_by c.code.ensures;
     judged = c.in-Err.ensures.judged clean Three began;
   },
 )

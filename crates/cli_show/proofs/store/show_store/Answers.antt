@@ -1,9 +1,9 @@
 -- what is shown of the record is shown of the rows
-use Rattle.std.proofs.Common.{subst, sym, inl}
+use Rattle.std.proofs.Common.{◌∙◌, ap, subst, sym, inl}
 use Rattle.sqlite.specs.Held.{state}
 use Rattle.sqlite.specs.State.{HasCleanDisk}
 use Rattle.px_store.specs.View.{connection_of}
-use Rattle.cli_show.specs.Stores.{identity_of, LeavesRecord}
+use Rattle.cli_show.specs.Stores.{closed_by, identity_of, LeavesRecord}
 use Rattle.cli_show.proofs.Closing.{closed_refused, closed_unopened}
 use Rattle.cli_show.proofs.Reading.{shows_store, leaves_old, leaves_record, leaves_less}
 use Rattle.cli_show.proofs.store.show_store.Goals as goal
@@ -36,10 +36,10 @@ returns-in-Err-shown-clause-closed g c = λ clean.
     let back = subst (λ h. HasCleanDisk (state g.S.Store h)) c.release.ensures clean in
     let was = c.show_record-shown.ensures.was back in
     let came = c.in-Ok-adopted.ensures.clean was in
-    closed_unopened c.args.conn (state g.S.Store c.member_in.new.conn) c.closed_for.result
+    closed_unopened c.args.conn (state g.S.Store c.member_in.new.conn) c.closed_by.result
     (record { began = c.in-Ok.ensures.began; owner = identity_of c.in-Ok.m; names = c.in-Ok.ensures.owner came })
     c.show_record-shown.result.0 c.in-Err-shown.fault c.in-Ok-adopted.records c.show_record-shown.result.1
-    (c.in-Ok.ensures.stays came) back was c.closed_for.ensures c.in-Err-shown.is c.show_record-shown.ensures.refused c.in-Ok-adopted.ensures.rows
+    (c.in-Ok.ensures.stays came) back was (c.closed_by.ensures ∙ ap closed_by c.code.ensures) c.in-Err-shown.is c.show_record-shown.ensures.refused c.in-Ok-adopted.ensures.rows
 
 -- ---- what is left of it
 

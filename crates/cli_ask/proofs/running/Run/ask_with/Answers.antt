@@ -15,7 +15,7 @@ returns g c =
       call = call_value c.in-Ok.call;
       answer = answer_value c.ask_at-answer.result;
       wanted = ap (λ (n : ℕ). call_of rows c.args.text.now n) (sym at) ∙ c.in-Ok.ensures;
-      asked = subst (λ (n : ℕ). AskedAt (g.C.Control.exchanged c.args.control.now) (g.C.Control.exchanged c.ask_at-answer.new.control) (call_value c.in-Ok.call) n
+      asked = subst (λ (n : ℕ). AskedAt (g.C.Control.exchanged c.args.peer.now) (g.C.Control.exchanged c.ask_at-answer.new.control) (call_value c.in-Ok.call) n
           (answer_value c.ask_at-answer.result)) wait c.ask_at-answer.ensures;
       replied = c.replied.ensures;
     })

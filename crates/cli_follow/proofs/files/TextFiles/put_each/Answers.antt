@@ -18,7 +18,7 @@ pub loop-file-preserved : goal.loop-file-preserved
 loop-file-preserved g c =
     let file : TextFile = record { name = c.in-Some.file.name; text = c.in-Some.file.text; is_put = c.in_ok-is_put.is_put } in
     record {
-      put = puts_more (g.F.Folders.done c.args.folders.now) (g.F.Folders.done c.loop-file.folders) (g.F.Folders.done c.put_unless_there.new.folders) (string_bytes c.args.self.now.folder)
+      put = puts_more (g.F.Folders.done c.args.folders.now) (g.F.Folders.done c.loop-file.folders) (g.F.Folders.done c.put_once.new.folders) (string_bytes c.args.self.now.folder)
           c.args.self.now.written.items c.loop-file.put.items c.push.new.self.items file c.as_str.result.now c.as_str-in-loop-file.result.now c.as_str.ensures.value
           c.as_str-in-loop-file.ensures.value c.in_ok-push.ensures.items c.loop-file.invariant.put c.in_ok-is_put.ensures.put;
       files = one_more file_value c.loop-file.put.items c.push.new.self.items _ c.in-Some.file _ _ _ c.loop-file.invariant.files c.in_ok-push.ensures.items
@@ -28,7 +28,7 @@ loop-file-preserved g c =
 pub returns-in_err-push-clause-front : goal.returns-in_err-push-clause-front
 returns-in_err-push-clause-front g c =
     let x = g.F.Folders.done c.args.folders.now in
-    let z = g.F.Folders.done c.put_unless_there.new.folders in
+    let z = g.F.Folders.done c.put_once.new.folders in
     let folder = string_bytes c.args.self.now.folder in
     let old = c.args.self.now.written.items in
     let file : TextFile = record { name = c.in-Some.file.name; text = c.in-Some.file.text; is_put = c.in_ok-is_put.is_put } in

@@ -9,7 +9,7 @@ pub loop-m-preserved : goal.loop-m-preserved
 loop-m-preserved c =
     let hosts = c.loop-m.hosts.items in
     let s = c.in_ok-host.host in
-    let items : c.push.new.self.items ≡ hosts ++ s ∷ [] = search (rules, c.push.ensures.items, c.is_err.ensures.value, c.if-is_err.false) in
+    let items : c.push.new.self.items ≡ hosts ++ s ∷ [] = search (rules, c.push.ensures.items) in
     let more : length (hosts ++ s ∷ []) ≡ length hosts + 1 = length-append hosts (s ∷ []) in
     let long : length c.push.new.self.items ≡ length (hosts ++ s ∷ []) = ap length items in
     record {

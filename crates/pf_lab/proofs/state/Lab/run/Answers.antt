@@ -18,7 +18,7 @@ returns-clause-happens c g w world =
     let room : c.send_on.new.sent.items ≡ sent ++ for_members c.run_at.new.out.items = search (rules, c.send_on.ensures, c.reserve.ensures.items) in
     let came = c.in-Some.ensures.came g w (subst (λ (ds : List Datagram). AreSpelled g w.sent ds) (sym kept) world.is_spelled) in
     subst (λ (ds : List Datagram). HostsAre c.run_at.new.hosts.items g ds (happens same g.members w (Runs a))) (sym room)
-    (c.in-Ok.ensures.happens g w a sent world came)
+    (c.in_ok-outcome.ensures.happens g w a sent world came)
 
 pub returns-clause-reported : goal.returns-clause-reported
 returns-clause-reported c g w world =
@@ -26,4 +26,4 @@ returns-clause-reported c g w world =
     let a = action_of c.args.action.now in
     let kept : c.as_slice.result.now ≡ sent = search (rules, c.as_slice.ensures.value, c.reserve.ensures.items) in
     let came = c.in-Some.ensures.came g w (subst (λ (ds : List Datagram). AreSpelled g w.sent ds) (sym kept) world.is_spelled) in
-    c.in-Ok.ensures.reported g w a sent world came
+    c.in_ok-outcome.ensures.reported g w a sent world came

@@ -3,7 +3,7 @@ use Rattle.std.specs.List.{list_any}
 use Rattle.std.specs.Prelude.{string_bytes}
 use Rattle.cli_follow.specs.Files.{is_there}
 use Rattle.cli_follow.proofs.Puts.{already_there, put_there}
-use Rattle.cli_follow.proofs.files.TextFiles.put_unless_there.Goals as goal
+use Rattle.cli_follow.proofs.files.TextFiles.put_once.Goals as goal
 
 pub returns-then-is_written : goal.returns-then-is_written
 returns-then-is_written g c =

@@ -1,6 +1,6 @@
 use Rattle.std.proofs.Common.{◌≡◌, ◌≤◌, None, length}
 use Rattle.cli_ask.specs.Scripts.{items_left}
-use Rattle.cli_ask.proofs.script.next_words.Given as goal
+use Rattle.cli_ask.proofs.script.next_change.Given as goal
 
 -- the lines so far are empty
 abbrev pub invariant-loop-first : goal.invariant-loop-first

@@ -1,7 +1,0 @@
-use Rattle.std.proofs.Common.{◌≤◌, length}
-use Rattle.std.specs.Io.KnownBytes.{Consumes}
-use Rattle.cli_files.proofs.key_reading.read_text.Given as goal
-
--- what was read so far was taken from the front of what the reader had, and is within the limit
-abbrev pub invariant-loop : goal.invariant-loop
-invariant-loop g l = Consumes (g.R.Read.remaining l.fn.reader) (g.R.Read.remaining l.reader) l.text.items × (length l.text.items ≤ 65)
