@@ -127,14 +127,22 @@ pub(crate) fn call_in<'m, 'a>(
     ensures { option_map asked result ≡ called table.now (subcommand_rows_of matches.now) }
 {
     let (subcommand, inner) = matches.subcommand()?;
-    match subcommand {
-        "check" => Some(check_call(inner)),
-        "test" => test_call(inner),
-        "ctl" => Some(Call::Ctl),
-        "lab" => Some(Call::Lab),
-        "explain" => explain_call(table, value_in(inner, "code")),
-        _ => None,
+    if subcommand == "check" {
+        return Some(check_call(inner));
     }
+    if subcommand == "test" {
+        return test_call(inner);
+    }
+    if subcommand == "ctl" {
+        return Some(Call::Ctl);
+    }
+    if subcommand == "lab" {
+        return Some(Call::Lab);
+    }
+    if subcommand == "explain" {
+        return explain_call(table, value_in(inner, "code"));
+    }
+    None
 }
 
 /// Whether `-v` was given.
