@@ -10,6 +10,7 @@
 -- | `Matched` | some alternative of a rule's conditions holds exactly if all of the conditions do |
 -- | `Cutting`, `Widths` | the intervals of a table's set hold an address exactly if the table does |
 -- | `FoundSets` | the set of a table is found by its name |
+-- | `Named` | the machine's interfaces that some names mean |
 -- | `Targeted` | the chains to which an anchor rule leads |
 -- | `Depths` | anchor rules nest less than 10 deep, so nothing depends on how deep jumps may nest from there on |
 -- | `Running` | the rendered ruleset decides what the two walks give |
@@ -18,6 +19,7 @@
 pub mod Cutting
 pub mod Choices
 pub mod FoundSets
+pub mod Named
 pub mod Matched
 pub mod Running
 pub mod Widths

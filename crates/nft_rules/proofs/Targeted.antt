@@ -12,14 +12,14 @@ use Rattle.pf_config.specs.Map.{Configuration, Path, rules_at, followed_by}
 use Rattle.pf_config.specs.Trees.{AnchorTree, anchor_in, last_name}
 use Rattle.pf_config.proofs.Descents.{no_rules_found}
 use Rattle.pf_eval.proofs.Anchors.{anchor_names}
-use Rattle.nft_rules.specs.Subset.{At, Backward}
+use Rattle.nft_rules.specs.Subset.{At, Pass, Backward}
 use Rattle.pf_rules.specs.declared.rule.Rule.{Rule}
 use Rattle.pf_rules.specs.declared.parts.Direction.{Direction}
 use Rattle.pf_rules.specs.declared.item.AnchorRule as anchored
 use Rattle.pf_rules.specs.declared.item.Item as item
 use Rattle.nft_rules.specs.Rendering.{backward_chains, is_chained, Machine, alternatives, filter_rules, forward_rule}
 use Rattle.nft_rules.specs.Rendering.{backward_rule}
-use Rattle.nft_rules.specs.inner.Rendering.{is_member}
+use Rattle.nft_rules.specs.inner.Rendering.{is_member, rule_in as rule_at}
 
 -- rules are there exactly if items are
 pub any_rules : (items : List Item) (rules : List AnyRule) → map rule_of items ≡ rules → is_empty items ≡ is_empty rules
@@ -74,14 +74,10 @@ pub forward_filter : (c : Configuration) (m : Machine) (d : Direction) (p : Path
     (if r.quick then filter_rules (alternatives c m d p r.conditions) p i r else []) ≡ forward_rule c m d p i (rule_of x)
 forward_filter c m d p i r x is = ap (forward_rule c m d p i) (sym (ap rule_of is ∙ filter_rule r))
 
-pub forward_anchor : (c : Configuration) (m : Machine) (d : Direction) (p : Path) (i : ℕ) (a : anchored.AnchorRule) (x : Item) → x ≡ item.Anchor a →
-    forward_rule c m d p i (AnchorRule (heading_of a.heading)) ≡ forward_rule c m d p i (rule_of x)
-forward_anchor c m d p i a x is = ap (forward_rule c m d p i) (sym (ap rule_of is ∙ anchor_rule a))
-
 pub backward_filter : (c : Configuration) (m : Machine) (d : Direction) (p : Path) (i : ℕ) (r : Rule) (x : Item) → x ≡ item.Filter r →
     (if r.quick then [] else filter_rules (alternatives c m d p r.conditions) p i r) ≡ backward_rule c m d p i (rule_of x)
 backward_filter c m d p i r x is = ap (backward_rule c m d p i) (sym (ap rule_of is ∙ filter_rule r))
 
-pub backward_anchor : (c : Configuration) (m : Machine) (d : Direction) (p : Path) (i : ℕ) (a : anchored.AnchorRule) (x : Item) → x ≡ item.Anchor a →
-    backward_rule c m d p i (AnchorRule (heading_of a.heading)) ≡ backward_rule c m d p i (rule_of x)
-backward_anchor c m d p i a x is = ap (backward_rule c m d p i) (sym (ap rule_of is ∙ anchor_rule a))
+pub either_anchor : (pass : Pass) (c : Configuration) (m : Machine) (d : Direction) (p : Path) (i : ℕ) (a : anchored.AnchorRule) (x : Item) → x ≡ item.Anchor a →
+    rule_at pass c m d p i (AnchorRule (heading_of a.heading)) ≡ rule_at pass c m d p i (rule_of x)
+either_anchor pass c m d p i a x is = ap (rule_at pass c m d p i) (sym (ap rule_of is ∙ anchor_rule a))

@@ -41,7 +41,6 @@ use Rattle.nft_rules.specs.Subset.{Outcome, Accept, Drop, Reject, Decision, Stat
 use Rattle.nft_rules.specs.Subset.{NftRule, Chain, NftRuleset, family_eq}
 use Rattle.nft_rules.specs.Evaluation.{turned}
 use Rattle.nft_rules.specs.Cuts.{first_of, last_of, elements}
-pub use Rattle.nft_rules.specs.declared.asked.PortSpan.{PortSpan}
 use Rattle.nft_rules.specs.Alternatives.{Alternative, AnyProtocol, Only, NotTcp, matches_of, both}
 
 -- ---- the machine
@@ -136,6 +135,12 @@ interface_alternatives m None = always ∷ []
 interface_alternatives m (Some i) = on_some (interfaces_with (is_matched i) m)
 
 -- ---- ports
+
+-- the ports from low to high, with both ends, or, negated, all others
+pub record PortSpan : Type 0 where
+  pub low : ℕ
+  pub high : ℕ
+  pub negated : Bool
 
 -- the ports from low to high, with both ends
 abbrev pub ports_from : (low high : ℕ) → Option PortSpan

@@ -6,9 +6,10 @@ ghost use Rattle.nft_rules.specs.Alternatives.{both_families, both_protocols, jo
 ghost use Rattle.nft_rules.specs.Seen.{match_of};
 ghost use Rattle.nft_rules.specs.inner.Asked.{alternative_of};
 
+use crate::Made;
+use crate::hosts::is_same;
 use crate::subset::Match;
 use pf_addr::Family;
-use std::alloc::{AllocError, Global};
 
 /// What is asked of the protocol.
 #[derive(Clone, Copy, PartialEq, Eq)]
@@ -30,7 +31,7 @@ pub(crate) struct Alternative<'c> {
 }
 
 /// Alternatives, unless a growth is refused.
-pub(crate) type Alternatives<'c> = Result<Vec<Alternative<'c>>, AllocError>;
+pub(crate) type Alternatives<'c> = Made<Vec<Alternative<'c>>>;
 
 impl<'c> Alternative<'c> {
     /// Both of these, and the tests.
@@ -56,10 +57,7 @@ fn both_families(one: Option<Family>, other: Option<Family>) -> Option<Option<Fa
 {
     match (one, other) {
         (None, family) | (family, None) => Some(family),
-        (Some(Family::Inet), Some(Family::Inet)) | (Some(Family::Inet6), Some(Family::Inet6)) =>
-            Some(one),
-        (Some(Family::Inet), Some(Family::Inet6)) | (Some(Family::Inet6), Some(Family::Inet)) =>
-            None,
+        (Some(family), Some(wanted)) => is_same(family, wanted).then(|| one),
     }
 }
 
@@ -77,10 +75,7 @@ fn both_protocols(one: Protocol, other: Protocol) -> Option<Protocol>
 }
 
 /// Puts the same matches behind those that are there.
-pub(crate) fn push_matches<'c>(
-    all: &mut Vec<Match<'c>>,
-    more: &[Match<'c>],
-) -> Result<(), AllocError>
+pub(crate) fn push_matches<'c>(all: &mut Vec<Match<'c>>, more: &[Match<'c>]) -> Made<()>
     ensures { OnOk result (map match_of all.new.items ≡ map match_of all.old.items ++ map match_of more.now) }
 {
     for test in more {
@@ -91,57 +86,49 @@ pub(crate) fn push_matches<'c>(
 
 /// Puts what both ask behind what is there, unless it can't hold.
 fn push_both<'c>(
-    alloc: Global,
     all: &mut Vec<Alternative<'c>>,
     one: &Alternative<'c>,
     other: &Alternative<'c>,
-) -> Result<(), AllocError>
+) -> Made<()>
     ensures { OnOk result (map alternative_of all.new.items
         ≡ map alternative_of all.old.items ++ joined (alternative_of one.now) (alternative_of other.now)) }
 {
-    let Some(family) = both_families(one.family, other.family) else {
-        return Ok(());
-    };
-    let Some(protocol) = both_protocols(one.protocol, other.protocol) else {
-        return Ok(());
-    };
-    let mut tests = Vec::new(alloc);
-    push_matches(&mut tests, &one.tests)?;
-    push_matches(&mut tests, &other.tests)?;
-    all.push(Alternative::of(family, protocol, tests))?;
+    let family = both_families(one.family, other.family);
+    let protocol = both_protocols(one.protocol, other.protocol);
+    if let (Some(family), Some(protocol)) = (family, protocol) {
+        let mut tests = Vec::new(*all.allocator());
+        push_matches(&mut tests, &one.tests)?;
+        push_matches(&mut tests, &other.tests)?;
+        all.push(Alternative::of(family, protocol, tests))?;
+    }
     Ok(())
 }
 
 /// Puts one joined to each of the others behind what is there.
 fn push_each<'c>(
-    alloc: Global,
     all: &mut Vec<Alternative<'c>>,
     one: &Alternative<'c>,
     others: &[Alternative<'c>],
-) -> Result<(), AllocError>
+) -> Made<()>
     ensures { OnOk result (map alternative_of all.new.items
         ≡ map alternative_of all.old.items
         ++ flat_map (joined (alternative_of one.now)) (map alternative_of others.now)) }
 {
     for other in others {
-        push_both(alloc, all, one, other)?;
+        push_both(all, one, other)?;
     }
     Ok(())
 }
 
 /// One of these and one of those.
 #[tactic(auto, unfolding(crate::specs::Alternatives::both))]
-pub(crate) fn both<'c>(
-    alloc: Global,
-    these: &[Alternative<'c>],
-    those: &[Alternative<'c>],
-) -> Alternatives<'c>
+pub(crate) fn both<'c>(these: Vec<Alternative<'c>>, those: &[Alternative<'c>]) -> Alternatives<'c>
     ensures { IfOk result (λ v. map alternative_of v.items
-        ≡ both (map alternative_of these.now) (map alternative_of those.now)) }
+        ≡ both (map alternative_of these.entry.items) (map alternative_of those.now)) }
 {
-    let mut all = Vec::new(alloc);
-    for one in these {
-        push_each(alloc, &mut all, one, those)?;
+    let mut all = Vec::new(*these.allocator());
+    for one in &these {
+        push_each(&mut all, one, those)?;
     }
     Ok(all)
 }

@@ -1,24 +1,26 @@
 //! Each condition of a rule, as matches of nftables.
 
-ghost use Rattle.std.specs.Prelude.{◌≡◌, ◌∷◌, [], IfOk, map};
+ghost use Rattle.std.specs.Prelude.{◌≡◌, ◌∷◌, [], IfOk, map, option_map};
 ghost use Rattle.nft_rules.specs.Rendering.{always, direction_alternatives, family_alternatives, protocol_alternatives};
 ghost use Rattle.nft_rules.specs.Rendering.{type_alternatives, masked_by, flag_alternatives, on_some};
 ghost use Rattle.nft_rules.specs.Rendering.{interface_alternatives, ports_from, ports_but, port_span, of_protocol};
-ghost use Rattle.nft_rules.specs.Rendering.{on_ports, port_alternatives};
+ghost use Rattle.nft_rules.specs.Rendering.{PortSpan, on_ports, port_alternatives};
 ghost use Rattle.nft_rules.specs.Rendering.{such_alternatives, end_alternatives, alternatives};
-ghost use Rattle.nft_rules.specs.Subset.{AtPort};
+ghost use Rattle.nft_rules.specs.Subset.{AtPort, OnInterface};
 ghost use Rattle.nft_rules.specs.Seen.{match_of, machine_of};
 ghost use Rattle.nft_rules.specs.inner.Asked.{alternative_of};
 
+use crate::Made;
 use crate::alternative::{Alternative, Alternatives, Protocol, both};
 use crate::chains::Place;
 use crate::hosts::host_alternatives;
-use crate::machine::interfaces_matched;
+use crate::machine::interfaces_named;
 use crate::subset::{Match, Side};
 use pf_addr::Family;
 use pf_rules::{Conditions, Direction, FlagTest, Interface, InterfaceName, PortTest, TcpFlags};
 use std::alloc::Global;
 use std::rc::Rc;
+use std::slice;
 
 /// Nothing is asked.
 pub(crate) fn always<'c>(alloc: Global) -> Alternatives<'c>
@@ -35,18 +37,14 @@ fn of_protocol<'c>(alloc: Global, number: u8, test: Match<'c>) -> Alternatives<'
     Ok(vec![in alloc; Alternative::of(None, Protocol::Only(number), tests)]?)
 }
 
-fn direction_alternatives<'c>(
-    alloc: Global,
-    direction: Direction,
-    wanted: Option<Direction>,
-) -> Alternatives<'c>
-    ensures { IfOk result (λ v. map alternative_of v.items ≡ direction_alternatives direction wanted) }
+fn direction_alternatives<'c>(place: Place<'c>, wanted: Option<Direction>) -> Alternatives<'c>
+    ensures { IfOk result (λ v. map alternative_of v.items ≡ direction_alternatives place.entry.direction wanted) }
 {
-    match (wanted, direction) {
+    match (wanted, place.direction) {
         (Some(Direction::In), Direction::Out) | (Some(Direction::Out), Direction::In) => Ok(
-            Vec::new(alloc),
+            Vec::new(place.alloc),
         ),
-        _ => always(alloc),
+        _ => always(place.alloc),
     }
 }
 
@@ -103,86 +101,70 @@ fn flag_alternatives<'c>(alloc: Global, test: FlagTest) -> Alternatives<'c>
     }
 }
 
+/// A packet on one of these interfaces, or, negated, on none of them.
+pub(crate) fn on_names<'c>(names: Vec<InterfaceName>, negated: bool) -> Made<Vec<Match<'c>>>
+    ensures { IfOk result (λ v. map match_of v.items ≡ OnInterface names.items negated ∷ []) }
+{
+    let alloc = *names.allocator();
+    let names = Rc::new(alloc, names)?;
+    Ok(vec![in alloc; Match::OnInterface { names, negated }]?)
+}
+
 /// A packet on one of these interfaces, of which there may be none.
-pub(crate) fn on_some<'c>(alloc: Global, names: Vec<InterfaceName>) -> Alternatives<'c>
+pub(crate) fn on_some<'c>(names: Vec<InterfaceName>) -> Alternatives<'c>
     ensures { IfOk result (λ v. map alternative_of v.items ≡ on_some names.items) }
 {
+    let alloc = *names.allocator();
     if names.is_empty() {
         return Ok(Vec::new(alloc));
     }
-    let names = Rc::new(alloc, names)?;
-    let tests = vec![in alloc;
-        Match::OnInterface {
-            names,
-            negated: false
-        },
-    ]?;
+    let tests = on_names(names, false)?;
     Ok(vec![in alloc; Alternative::of(None, Protocol::AnyProtocol, tests)]?)
 }
 
+#[tactic(auto, using(crate::proofs::Named::matched_by))]
 fn interface_alternatives<'c>(place: Place<'c>, wanted: &Option<Interface>) -> Alternatives<'c>
     ensures { IfOk result (λ v. map alternative_of v.items
         ≡ interface_alternatives (machine_of place.entry.machine.now) wanted.now) }
 {
-    match wanted {
-        None => always(place.alloc),
-        Some(wanted) => on_some(
-            place.alloc,
-            interfaces_matched(place.alloc, place.machine, wanted)?,
-        ),
+    let Some(wanted) = wanted else {
+        return always(place.alloc);
+    };
+    let names = slice::from_ref(&wanted.name);
+    on_some(interfaces_named(place.alloc, place.machine, names, wanted.negated)?)
+}
+
+/// A packet's port at this end is one of these, or, negated, none of them.
+fn ports<'c>(side: Side, low: u16, high: u16, negated: bool) -> Match<'c>
+    ensures { match_of result ≡ AtPort side low high negated }
+{
+    Match::AtPort {
+        side,
+        low,
+        high,
+        negated,
     }
 }
 
-/// From one port to another, or, negated, every other.
-#[derive(Clone, Copy)]
-pub(crate) struct PortSpan {
-    pub(crate) low: u16,
-    pub(crate) high: u16,
-    pub(crate) negated: bool,
-}
-
-impl PortSpan {
-    /// A packet's port at this end is one of them.
-    fn at<'c>(self, side: Side) -> Match<'c>
-        ensures { match_of result ≡ AtPort side self.low self.high self.negated }
-    {
-        let PortSpan { low, high, negated } = self;
-        Match::AtPort {
-            side,
-            low,
-            high,
-            negated,
-        }
-    }
-}
-
-/// These ports, or all but these.
-fn ports(low: u16, high: u16, negated: bool) -> PortSpan
-    ensures low { result.low ≡ low }
-    ensures high { result.high ≡ high }
-    ensures negated { result.negated ≡ negated }
+/// What is asked of a packet's port at this end, none if no port passes.
+fn port_match<'c>(side: Side, test: PortTest) -> Option<Match<'c>>
+    ensures { option_map match_of result
+        ≡ option_map (λ (s : PortSpan). AtPort side s.low s.high s.negated) (port_span test) }
 {
-    PortSpan { low, high, negated }
-}
-
-/// The ports that pass, none if none does.
-fn port_span(test: PortTest) -> Option<PortSpan>
-    ensures { result ≡ port_span test }
-{
-    let span = match test {
-        PortTest::Equal(n) => ports(n, n, false),
-        PortTest::NotEqual(n) => ports(n, n, true),
-        PortTest::Less(n) if n > 0 => ports(0, n - 1, false),
-        PortTest::LessEqual(n) => ports(0, n, false),
-        PortTest::Greater(n) => ports(0, n, true),
-        PortTest::GreaterEqual(n) => ports(n, 65535, false),
-        PortTest::FromTo(a, b) if a <= b => ports(a, b, false),
-        PortTest::Between(a, b) if a < b && a + 1 < b => ports(a + 1, b - 1, false),
-        PortTest::Outside(a, b) if a <= b => ports(a, b, true),
-        PortTest::Outside(_, _) => ports(0, 65535, false),
+    let asked = match test {
+        PortTest::Equal(n) => ports(side, n, n, false),
+        PortTest::NotEqual(n) => ports(side, n, n, true),
+        PortTest::Less(n) if n > 0 => ports(side, 0, n - 1, false),
+        PortTest::LessEqual(n) => ports(side, 0, n, false),
+        PortTest::Greater(n) => ports(side, 0, n, true),
+        PortTest::GreaterEqual(n) => ports(side, n, 65535, false),
+        PortTest::FromTo(a, b) if a <= b => ports(side, a, b, false),
+        PortTest::Between(a, b) if a < b && a + 1 < b => ports(side, a + 1, b - 1, false),
+        PortTest::Outside(a, b) if a <= b => ports(side, a, b, true),
+        PortTest::Outside(_, _) => ports(side, 0, 65535, false),
         _ => return None,
     };
-    Some(span)
+    Some(asked)
 }
 
 /// TCP and UDP have ports.
@@ -192,11 +174,11 @@ fn port_alternatives<'c>(alloc: Global, side: Side, wanted: Option<PortTest>) ->
     let Some(test) = wanted else {
         return always(alloc);
     };
-    let Some(span) = port_span(test) else {
+    let Some(asked) = port_match(side, test) else {
         return Ok(Vec::new(alloc));
     };
-    let mut all = of_protocol(alloc, 6, span.at(side))?;
-    let tests = vec![in alloc; span.at(side)]?;
+    let mut all = of_protocol(alloc, 6, asked.clone()?)?;
+    let tests = vec![in alloc; asked]?;
     all.push(Alternative::of(None, Protocol::Only(17), tests))?;
     Ok(all)
 }
@@ -208,21 +190,12 @@ fn such_alternatives<'c>(place: Place<'c>, rule: &Conditions) -> Alternatives<'c
         ≡ such_alternatives (machine_of place.entry.machine.now) place.entry.direction rule.now) }
 {
     let alloc = place.alloc;
-    let ways = direction_alternatives(alloc, place.direction, rule.direction)?;
-    let families = both(alloc, &ways, &family_alternatives(alloc, rule.family)?)?;
-    let protocol = protocol_alternatives(alloc, rule.protocol)?;
-    let protocols = both(alloc, &families, &protocol)?;
-    let types = both(
-        alloc,
-        &protocols,
-        &type_alternatives(alloc, rule.icmp_type)?,
-    )?;
-    let flags = both(alloc, &types, &flag_alternatives(alloc, rule.flags)?)?;
-    both(
-        alloc,
-        &flags,
-        &interface_alternatives(place, &rule.interface)?,
-    )
+    let asked = direction_alternatives(place, rule.direction)?;
+    let asked = both(asked, &family_alternatives(alloc, rule.family)?)?;
+    let asked = both(asked, &protocol_alternatives(alloc, rule.protocol)?)?;
+    let asked = both(asked, &type_alternatives(alloc, rule.icmp_type)?)?;
+    let asked = both(asked, &flag_alternatives(alloc, rule.flags)?)?;
+    both(asked, &interface_alternatives(place, &rule.interface)?)
 }
 
 /// What is asked of its two ends.
@@ -231,14 +204,12 @@ fn end_alternatives<'c>(place: Place<'c>, rule: &'c Conditions) -> Alternatives<
     ensures { IfOk result (λ v. map alternative_of v.items
         ≡ end_alternatives place.entry.config.now place.entry.path.now rule.now) }
 {
-    let alloc = place.alloc;
-    let first = port_alternatives(alloc, Side::Source, rule.source_port)?;
-    let second = port_alternatives(alloc, Side::Destination, rule.destination_port)?;
-    let ports = both(alloc, &first, &second)?;
-    let sources = host_alternatives(place, Side::Source, &rule.source)?;
-    let left = both(alloc, &ports, &sources)?;
+    let ports = port_alternatives(place.alloc, Side::Source, rule.source_port)?;
+    let others = port_alternatives(place.alloc, Side::Destination, rule.destination_port)?;
+    let all = both(ports, &others)?;
+    let all = both(all, &host_alternatives(place, Side::Source, &rule.source)?)?;
     let destinations = host_alternatives(place, Side::Destination, &rule.destination)?;
-    both(alloc, &left, &destinations)
+    both(all, &destinations)
 }
 
 /// What a rule at a path asks, for packets of a direction.
@@ -248,6 +219,5 @@ pub(crate) fn alternatives<'c>(place: Place<'c>, rule: &'c Conditions) -> Altern
         (machine_of place.entry.machine.now) place.entry.direction place.entry.path.now rule.now) }
 {
     let such = such_alternatives(place, rule)?;
-    let ends = end_alternatives(place, rule)?;
-    both(place.alloc, &such, &ends)
+    both(such, &end_alternatives(place, rule)?)
 }

@@ -2,9 +2,9 @@
 
 ghost use Rattle.std.specs.Prelude.{◌≡◌, map, find, option_map};
 ghost use Rattle.nft_rules.specs.Evaluation.{is_chain};
-ghost use Rattle.nft_rules.specs.Refusing.{asked_by, most_asked};
+ghost use Rattle.nft_rules.specs.Refusing.{most_asked};
 ghost use Rattle.nft_rules.specs.inner.Left.{minus};
-ghost use Rattle.nft_rules.specs.Seen.{chain_name_of, chain_of, statement_of, ruleset_of};
+ghost use Rattle.nft_rules.specs.Seen.{chain_name_of, chain_of, ruleset_of};
 
 use crate::names::same_chain;
 use crate::subset::{Chain, ChainName, NftRuleset, Statement};
@@ -22,29 +22,9 @@ fn chain_named<'r, 'c>(chains: &'r [Chain<'c>], name: ChainName<'c>) -> Option<&
     None
 }
 
-/// What is left of that many questions, behind a rule that does this; none if they aren't enough.
-#[cycle(asking)]
-#[tactic(auto, using(crate::proofs::Refused::one_rule))]
-fn left_behind<'r, 'c>(
-    whole: &'r NftRuleset<'c>,
-    depth: u8,
-    statement: Statement<'c>,
-    left: u32,
-) -> Option<u32>
-    ensures { result ≡ minus left (asked_by (most_asked depth (ruleset_of whole.now)) (statement_of statement.entry)) }
-{
-    if left == 0 {
-        return None;
-    }
-    match statement {
-        Statement::Ends { .. } => Some(left - 1),
-        Statement::Jump(chain) => left_after(whole, depth, chain, left - 1),
-    }
-}
-
 /// What is left of that many questions, behind a chain; none if they aren't enough.
 #[cycle(asking)]
-#[tactic(auto, using(crate::proofs::Refused::some_rules))]
+#[tactic(auto, using(crate::proofs::Refused::some_rules, crate::proofs::Refused::one_rule))]
 pub(crate) fn left_after<'r, 'c>(
     whole: &'r NftRuleset<'c>,
     depth: u8,
@@ -61,7 +41,13 @@ pub(crate) fn left_after<'r, 'c>(
     };
     let mut now = left;
     for rule in &chain.rules {
-        now = left_behind(whole, depth - 1, rule.statement, now)?;
+        if now == 0 {
+            return None;
+        }
+        now -= 1;
+        if let Statement::Jump(chain) = rule.statement {
+            now = left_after(whole, depth - 1, chain, now)?;
+        }
     }
     Some(now)
 }

@@ -1,22 +1,22 @@
 //! The chains of a path.
 
 ghost use Rattle.std.specs.Prelude.{◌≡◌, ◌≤◌, ◌+◌, ◌++◌, IfOk, OnOk, length, map};
-ghost use Rattle.nft_rules.specs.Rendering.{alternatives, outcome_of, filter_rules, anchor_chains, forward_rule};
-ghost use Rattle.nft_rules.specs.Rendering.{backward_rule};
+ghost use Rattle.nft_rules.specs.Rendering.{alternatives, outcome_of, filter_rules, anchor_chains};
 ghost use Rattle.nft_rules.specs.inner.Rendering.{rule_in, rules_in, chain_in};
 ghost use Rattle.pf_config.specs.declared.config.TheConstants.{RULES_MAX};
 ghost use Rattle.pf_rules.specs.Items.{AnchorRule};
 ghost use Rattle.pf_rules.specs.Seen.{heading_of, rule_of};
-ghost use Rattle.nft_rules.specs.Seen.{chain_name_of, chain_of, machine_of, nft_rule_of};
+ghost use Rattle.nft_rules.specs.Seen.{chain_of, machine_of, nft_rule_of};
 
+use crate::Made;
 use crate::asked::alternatives;
 use crate::machine::MachineInterface;
 use crate::rules::{push_jumps, push_rules};
 use crate::subset::{Chain, ChainName, NftRule, Note, Outcome, Pass, Statement};
 use crate::targets::{chained_targets, push_backward, push_forward};
 use pf_config::Config;
-use pf_rules::{Action, AnchorHeading, Direction, Item, Name, Rule};
-use std::alloc::{AllocError, Global};
+use pf_rules::{Action, AnchorHeading, Direction, Item, Name};
+use std::alloc::Global;
 
 /// What the rules of a path are rendered for: the configuration, the machine and the direction.
 #[derive(Clone, Copy)]
@@ -38,102 +38,56 @@ fn outcome_of(action: Action) -> Outcome
     }
 }
 
-/// Puts the rules of a filter rule behind those that are there.
-fn push_filter<'c>(
+/// Puts the jumps of an anchor rule in this pass behind the rules that are there: of a quick one all are forwards, since
+/// the last hit within it ends the evaluation too.
+fn push_anchor<'c>(
     place: Place<'c>,
+    pass: Pass,
     index: u32,
-    rule: &'c Rule,
-    rules: &mut Vec<NftRule<'c>>,
-) -> Result<(), AllocError>
-    ensures { OnOk result (map nft_rule_of rules.new.items ≡ map nft_rule_of rules.old.items
-        ++ filter_rules (alternatives place.entry.config.now (machine_of place.entry.machine.now) place.entry.direction
-        place.entry.path.now rule.now.conditions) place.entry.path.now index rule.now) }
-{
-    let asked = alternatives(place, &rule.conditions)?;
-    let path = place.path;
-    let statement = Statement::ends(outcome_of(rule.action), Note::Spot { path, index });
-    push_rules(rules, &asked, statement)
-}
-
-/// The chains to which an anchor rule leads forwards; within a quick one the last hit ends the evaluation too.
-fn chains_forward<'c>(
-    place: Place<'c>,
     heading: &'c AnchorHeading,
-) -> Result<Vec<ChainName<'c>>, AllocError>
-    ensures { IfOk result (λ v. map chain_name_of v.items
-        ≡ anchor_chains place.entry.config.now place.entry.path.now (heading_of heading.now)) }
+    rules: &mut Vec<NftRule<'c>>,
+) -> Made<()>
+    ensures { OnOk result (map nft_rule_of rules.new.items ≡ map nft_rule_of rules.old.items
+        ++ rule_in pass place.entry.config.now (machine_of place.entry.machine.now) place.entry.direction
+        place.entry.path.now index (AnchorRule (heading_of heading.now))) }
 {
     let paths = chained_targets(place, &heading.target)?;
     let mut chains = Vec::new(place.alloc);
-    push_forward(&mut chains, &paths)?;
-    if heading.quick {
-        push_backward(&mut chains, &paths)?;
+    match (pass, heading.quick) {
+        (Pass::Forward, false) => push_forward(&mut chains, &paths)?,
+        (Pass::Forward, true) => {
+            push_forward(&mut chains, &paths)?;
+            push_backward(&mut chains, &paths)?;
+        }
+        (Pass::Backward, false) => push_backward(&mut chains, &paths)?,
+        (Pass::Backward, true) => return Ok(()),
     }
-    Ok(chains)
-}
-
-/// Puts the jumps of an anchor rule forwards behind the rules that are there.
-fn push_forward_anchor<'c>(
-    place: Place<'c>,
-    index: u32,
-    heading: &'c AnchorHeading,
-    rules: &mut Vec<NftRule<'c>>,
-) -> Result<(), AllocError>
-    ensures { OnOk result (map nft_rule_of rules.new.items ≡ map nft_rule_of rules.old.items
-        ++ forward_rule place.entry.config.now (machine_of place.entry.machine.now) place.entry.direction
-        place.entry.path.now index (AnchorRule (heading_of heading.now))) }
-{
-    let asked = alternatives(place, &heading.conditions)?;
-    let chains = chains_forward(place, heading)?;
-    push_jumps(rules, &asked, &chains)
-}
-
-/// Puts the jumps of an anchor rule backwards behind the rules that are there: none of a quick one.
-fn push_backward_anchor<'c>(
-    place: Place<'c>,
-    index: u32,
-    heading: &'c AnchorHeading,
-    rules: &mut Vec<NftRule<'c>>,
-) -> Result<(), AllocError>
-    ensures { OnOk result (map nft_rule_of rules.new.items ≡ map nft_rule_of rules.old.items
-        ++ backward_rule place.entry.config.now (machine_of place.entry.machine.now) place.entry.direction
-        place.entry.path.now index (AnchorRule (heading_of heading.now))) }
-{
-    if heading.quick {
-        return Ok(());
-    }
-    let asked = alternatives(place, &heading.conditions)?;
-    let paths = chained_targets(place, &heading.target)?;
-    let mut chains = Vec::new(place.alloc);
-    push_backward(&mut chains, &paths)?;
-    push_jumps(rules, &asked, &chains)
+    push_jumps(rules, &alternatives(place, &heading.conditions)?, &chains)
 }
 
 /// Puts what a rule gives in this pass behind the rules that are there: what may end the evaluation, or the rest.
-#[tactic(auto, using(crate::proofs::Targeted::forward_filter, crate::proofs::Targeted::forward_anchor, crate::proofs::Targeted::backward_filter, crate::proofs::Targeted::backward_anchor))]
+#[tactic(auto, using(crate::proofs::Targeted::forward_filter, crate::proofs::Targeted::backward_filter, crate::proofs::Targeted::either_anchor))]
 fn push_rule<'c>(
     place: Place<'c>,
     pass: Pass,
     index: u32,
     item: &'c Item,
     rules: &mut Vec<NftRule<'c>>,
-) -> Result<(), AllocError>
+) -> Made<()>
     ensures { OnOk result (map nft_rule_of rules.new.items ≡ map nft_rule_of rules.old.items
         ++ rule_in pass place.entry.config.now (machine_of place.entry.machine.now) place.entry.direction
         place.entry.path.now index (rule_of item.now)) }
 {
     match (pass, item) {
-        (Pass::Forward, Item::Filter(rule)) if rule.quick => push_filter(place, index, rule, rules),
-        (Pass::Backward, Item::Filter(rule)) if !rule.quick => push_filter(
-            place, index, rule, rules,
-        ),
-        (_, Item::Filter(_)) => Ok(()),
-        (Pass::Forward, Item::Anchor(anchor)) => {
-            push_forward_anchor(place, index, &anchor.heading, rules)
+        (Pass::Forward, Item::Filter(rule)) if !rule.quick => Ok(()),
+        (Pass::Backward, Item::Filter(rule)) if rule.quick => Ok(()),
+        (_, Item::Filter(rule)) => {
+            let asked = alternatives(place, &rule.conditions)?;
+            let path = place.path;
+            let statement = Statement::ends(outcome_of(rule.action), Note::Spot { path, index });
+            push_rules(rules, &asked, statement)
         }
-        (Pass::Backward, Item::Anchor(anchor)) => {
-            push_backward_anchor(place, index, &anchor.heading, rules)
-        }
+        (_, Item::Anchor(anchor)) => push_anchor(place, pass, index, &anchor.heading, rules),
     }
 }
 
@@ -145,7 +99,7 @@ fn push_rules_in<'c>(
     index: u32,
     items: &'c [Item],
     rules: &mut Vec<NftRule<'c>>,
-) -> Result<(), AllocError>
+) -> Made<()>
     requires { index + length items.now ≤ RULES_MAX }
     ensures { OnOk result (map nft_rule_of rules.new.items ≡ map nft_rule_of rules.old.items
         ++ rules_in pass (rule_in pass place.entry.config.now (machine_of place.entry.machine.now)
@@ -167,7 +121,7 @@ fn push_rules_in<'c>(
 }
 
 /// The chain of a path in this pass.
-pub(crate) fn chain_in<'c>(place: Place<'c>, pass: Pass) -> Result<Chain<'c>, AllocError>
+pub(crate) fn chain_in<'c>(place: Place<'c>, pass: Pass) -> Made<Chain<'c>>
     ensures { IfOk result (λ v. chain_of v ≡ chain_in pass place.entry.config.now (machine_of place.entry.machine.now)
         place.entry.direction place.entry.path.now) }
 {

@@ -5,17 +5,17 @@ ghost use Rattle.pf_addr.specs.Blocks.{family_of};
 ghost use Rattle.pf_addr.specs.Order.{bits_of};
 ghost use Rattle.nft_rules.specs.Subset.{family_eq};
 ghost use Rattle.nft_rules.specs.Cuts.{first_of, last_of, top};
-ghost use Rattle.nft_rules.specs.Rendering.{owner_of, place_of, of_place, off_place, host_alternatives};
+ghost use Rattle.nft_rules.specs.Rendering.{owner_of, place_of, host_alternatives};
 ghost use Rattle.nft_rules.specs.Seen.{where_of};
-ghost use Rattle.nft_rules.specs.inner.Asked.{alternative_of};
+ghost use Rattle.nft_rules.specs.inner.Asked.{alternative_of, in_place};
 
+use crate::Made;
 use crate::alternative::{Alternative, Alternatives, Protocol};
 use crate::asked::always;
 use crate::chains::Place;
 use crate::subset::{Match, SetName, Side, Where};
 use pf_addr::{Addr, Family, Prefix};
 use pf_rules::{Addresses, Host, Name};
-use std::alloc::AllocError;
 
 /// Whose table a rule at a path names: the path's own, else main's.
 fn owner_of<'c>(place: Place<'c>, name: &str) -> Option<&'c [Name]>
@@ -32,10 +32,7 @@ fn owner_of<'c>(place: Place<'c>, name: &str) -> Option<&'c [Name]>
 pub(crate) fn is_same(one: Family, other: Family) -> bool
     ensures { result ≡ family_eq one other }
 {
-    matches!(
-        (one, other),
-        (Family::Inet, Family::Inet) | (Family::Inet6, Family::Inet6)
-    )
+    one == other
 }
 
 /// The address as a number.
@@ -85,20 +82,14 @@ fn place_of<'c>(place: Place<'c>, family: Family, set: &'c Addresses) -> Option<
     ensures { option_map where_of result ≡ place_of place.entry.config.now place.entry.path.now family set.now }
 {
     match set {
-        Addresses::Prefix(prefix) => {
-            if !is_same(prefix.base().family(), family) {
-                return None;
-            }
-            Some(Where::From {
-                low: first_of(prefix),
-                high: last_of(prefix),
-            })
-        }
+        Addresses::Prefix(prefix) => is_same(prefix.base().family(), family).then(|| Where::From {
+            low: first_of(prefix),
+            high: last_of(prefix),
+        }),
         Addresses::Range(range) => {
-            if !is_same(range.first().family(), family) || !is_same(range.last().family(), family) {
-                return None;
-            }
-            Some(Where::From {
+            let both = is_same(range.first().family(), family)
+                && is_same(range.last().family(), family);
+            both.then(|| Where::From {
                 low: bits_of(range.first()),
                 high: bits_of(range.last()),
             })
@@ -115,50 +106,28 @@ fn place_of<'c>(place: Place<'c>, family: Family, set: &'c Addresses) -> Option<
     }
 }
 
-/// Puts what is asked of packets of one family behind what is there.
+/// Puts what is asked of packets of one family that are there, or, negated, aren't there behind what is there.
 fn push_place<'c>(
     place: Place<'c>,
     all: &mut Vec<Alternative<'c>>,
     side: Side,
     family: Family,
     set: &'c Addresses,
-) -> Result<(), AllocError>
+    negated: bool,
+) -> Made<()>
     ensures { OnOk result (map alternative_of all.new.items ≡ map alternative_of all.old.items
-        ++ of_place side family (place_of place.entry.config.now place.entry.path.now family set.now)) }
-{
-    let Some(found) = place_of(place, family, set) else {
-        return Ok(());
-    };
-    let tests = vec![in place.alloc;
-        Match::AtAddress {
-            side,
-            family,
-            place: found,
-            negated: false
-        },
-    ]?;
-    Ok(all.push(Alternative::of(Some(family), Protocol::AnyProtocol, tests))?)
-}
-
-/// Puts what is asked of packets of one family that aren't there behind what is there.
-fn push_other<'c>(
-    place: Place<'c>,
-    all: &mut Vec<Alternative<'c>>,
-    side: Side,
-    family: Family,
-    set: &'c Addresses,
-) -> Result<(), AllocError>
-    ensures { OnOk result (map alternative_of all.new.items ≡ map alternative_of all.old.items
-        ++ off_place side family (place_of place.entry.config.now place.entry.path.now family set.now)) }
+        ++ in_place negated side family (place_of place.entry.config.now place.entry.path.now family set.now)) }
 {
     let mut tests = Vec::new(place.alloc);
-    if let Some(found) = place_of(place, family, set) {
-        tests.push(Match::AtAddress {
+    match place_of(place, family, set) {
+        Some(place) => tests.push(Match::AtAddress {
             side,
             family,
-            place: found,
-            negated: true,
-        })?;
+            place,
+            negated,
+        })?,
+        None if negated => {}
+        None => return Ok(()),
     }
     Ok(all.push(Alternative::of(Some(family), Protocol::AnyProtocol, tests))?)
 }
@@ -172,17 +141,13 @@ pub(crate) fn host_alternatives<'c>(
     ensures { IfOk result (λ v. map alternative_of v.items
         ≡ host_alternatives place.entry.config.now place.entry.path.now side host.now) }
 {
-    let mut all = Vec::new(place.alloc);
-    match host {
+    let (set, negated) = match host {
         Host::Any => return always(place.alloc),
-        Host::In(set) => {
-            push_place(place, &mut all, side, Family::Inet, set)?;
-            push_place(place, &mut all, side, Family::Inet6, set)?;
-        }
-        Host::NotIn(set) => {
-            push_other(place, &mut all, side, Family::Inet, set)?;
-            push_other(place, &mut all, side, Family::Inet6, set)?;
-        }
-    }
+        Host::In(set) => (set, false),
+        Host::NotIn(set) => (set, true),
+    };
+    let mut all = Vec::new(place.alloc);
+    push_place(place, &mut all, side, Family::Inet, set, negated)?;
+    push_place(place, &mut all, side, Family::Inet6, set, negated)?;
     Ok(all)
 }

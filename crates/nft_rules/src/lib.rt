@@ -74,7 +74,11 @@ pub use laws::{guard_passes_members, rendered_as_judged, sets_hold_tables};
 pub use machine::MachineInterface;
 pub use names::{same_chain, same_set};
 pub use rendering::{ASKED_MAX, RenderFault, render};
+use std::alloc::AllocError;
 pub use subset::{
     Chain, ChainName, Interval, Match, NamedSet, NftRule, NftRuleset, Note, Outcome, Pass, SetName,
     Side, Statement, Where,
 };
+
+/// What is made, unless a growth is refused.
+pub(crate) type Made<T> = Result<T, AllocError>;

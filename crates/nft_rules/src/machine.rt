@@ -1,14 +1,16 @@
 //! The interfaces of a machine.
 
-ghost use Rattle.std.specs.Prelude.{◌≡◌, ◌≤◌, IfOk, length, map, option_map};
+ghost use Rattle.std.specs.Prelude.{◌≡◌, ◌≤◌, IfOk, length, option_map};
 ghost use Rattle.std.specs.List.{list_any};
 ghost use Rattle.std.specs.Str.{bytes_eq};
-ghost use Rattle.nft_rules.specs.Rendering.{groups_in, names_of, names_in, interfaces_with, is_matched, is_skipped};
+ghost use Rattle.nft_rules.specs.Rendering.{groups_in, names_of, names_in, interfaces_with, is_skipped};
+ghost use Rattle.nft_rules.specs.Evaluation.{turned};
 ghost use Rattle.nft_rules.specs.Seen.{machine_of};
 
+use crate::Made;
 use pf_eval::without_digits;
-use pf_rules::{Interface, InterfaceName};
-use std::alloc::{AllocError, Global};
+use pf_rules::InterfaceName;
+use std::alloc::Global;
 
 /// An interface of the machine, and its groups.
 pub struct MachineInterface {
@@ -56,69 +58,34 @@ fn is_named(machine: &[MachineInterface], interface: &InterfaceName, name: &[u8]
         || groups_in(machine, interface).is_some_and(|groups| is_among(groups, name))
 }
 
-/// Whether a rule on this interface, group or stem, or on what isn't, is meant for the machine's interface.
-fn is_matched(machine: &[MachineInterface], interface: &InterfaceName, wanted: &Interface) -> bool
-    ensures { result ≡ is_matched wanted.now (names_in (machine_of machine.now) interface.now) }
-{
-    is_named(machine, interface, wanted.name.as_bytes()) != wanted.negated
-}
-
-/// Whether the machine's interface is skipped.
-fn is_skipped(
-    skip: &[InterfaceName],
+/// Whether one of these names the machine's interface.
+fn is_named_by(
+    wanted: &[InterfaceName],
     machine: &[MachineInterface],
     interface: &InterfaceName,
 ) -> bool
-    ensures { result ≡ is_skipped skip.now (names_in (machine_of machine.now) interface.now) }
+    ensures { result ≡ is_skipped wanted.now (names_in (machine_of machine.now) interface.now) }
 {
-    skip.iter()
+    wanted
+        .iter()
         .any(|name| is_named(machine, interface, name.as_bytes()))
 }
 
-/// The machine's interfaces for which a rule on this one is meant.
-pub(crate) fn interfaces_matched(
+/// The machine's interfaces that one of these names, or, negated, none of these.
+pub(crate) fn interfaces_named(
     alloc: Global,
     machine: &[MachineInterface],
-    wanted: &Interface,
-) -> Result<Vec<InterfaceName>, AllocError>
-    ensures { IfOk result (λ v. v.items ≡ interfaces_with (is_matched wanted.now) (machine_of machine.now)) }
+    wanted: &[InterfaceName],
+    negated: bool,
+) -> Made<Vec<InterfaceName>>
+    ensures { IfOk result (λ v. v.items
+        ≡ interfaces_with (λ names. turned negated (is_skipped wanted.now names)) (machine_of machine.now)) }
 {
     let mut names = Vec::new(alloc);
     for interface in machine {
-        if is_matched(machine, &interface.name, wanted) {
+        if is_named_by(wanted, machine, &interface.name) != negated {
             names.push(interface.name.copied())?;
         }
-    }
-    Ok(names)
-}
-
-/// The machine's interfaces that are skipped.
-pub(crate) fn interfaces_skipped(
-    alloc: Global,
-    machine: &[MachineInterface],
-    skip: &[InterfaceName],
-) -> Result<Vec<InterfaceName>, AllocError>
-    ensures { IfOk result (λ v. v.items ≡ interfaces_with (is_skipped skip.now) (machine_of machine.now)) }
-{
-    let mut names = Vec::new(alloc);
-    for interface in machine {
-        if is_skipped(skip, machine, &interface.name) {
-            names.push(interface.name.copied())?;
-        }
-    }
-    Ok(names)
-}
-
-/// The names of all interfaces of the machine.
-pub(crate) fn known(
-    alloc: Global,
-    machine: &[MachineInterface],
-) -> Result<Vec<InterfaceName>, AllocError>
-    ensures { IfOk result (λ v. v.items ≡ map (λ i. i.0) (machine_of machine.now)) }
-{
-    let mut names = Vec::new(alloc);
-    for interface in machine {
-        names.push(interface.name.copied())?;
     }
     Ok(names)
 }

@@ -11,10 +11,7 @@ use crate::subset::{ChainName, Pass, SetName};
 fn same_pass(one: Pass, other: Pass) -> bool
     ensures { result ≡ pass_eq one other }
 {
-    matches!(
-        (one, other),
-        (Pass::Forward, Pass::Forward) | (Pass::Backward, Pass::Backward)
-    )
+    one == other
 }
 
 /// Whether they are the names of one chain.

@@ -12,6 +12,7 @@ ghost use Rattle.nft_rules.specs.Refusing.{Renders, render, is_costly, fault_cod
 ghost use Rattle.nft_rules.specs.declared.rendering.RenderFault.TheVariants.{Memory};
 ghost use Rattle.nft_rules.specs.Seen.{chain_of, named_set_of, ruleset_of, machine_of};
 
+use crate::Made;
 use crate::asking::left_after;
 use crate::base::base_chain;
 use crate::chains::{Place, chain_in};
@@ -75,24 +76,14 @@ fn leads_back(item: &Item) -> bool
 fn any_leads_back(items: &[Item]) -> bool
     ensures { result ≡ list_any leads_back (map rule_of items.now) }
 {
-    for item in items {
-        if leads_back(item) {
-            return true;
-        }
-    }
-    false
+    items.iter().any(|item| leads_back(item))
 }
 
 /// Whether a rule at one of these paths leads back.
 fn some_leads_back(config: &Config, paths: &[&[Name]]) -> bool
     ensures { result ≡ list_any (λ p. list_any leads_back (rules_at config.now p)) (map (λ p. p.now) paths.now) }
 {
-    for path in paths {
-        if any_leads_back(config.items(path)) {
-            return true;
-        }
-    }
-    false
+    paths.iter().any(|path| any_leads_back(config.items(path)))
 }
 
 /// Puts the chains of these paths in this pass behind those that are there.
@@ -101,7 +92,7 @@ fn push_chains<'c>(
     pass: Pass,
     paths: &[&'c [Name]],
     chains: &mut Vec<Chain<'c>>,
-) -> Result<(), AllocError>
+) -> Made<()>
     ensures { OnOk result (map chain_of chains.new.items ≡ map chain_of chains.old.items
         ++ map (chain_in pass place.entry.config.now (machine_of place.entry.machine.now) place.entry.direction)
         (map (λ p. p.now) paths.now)) }
@@ -114,7 +105,7 @@ fn push_chains<'c>(
 
 /// The ruleset of these paths, which are all that have rules or tables.
 #[tactic(auto, unfolding(crate::specs::Rendering::chains_of, crate::specs::Rendering::sets_of))]
-fn rendered<'c>(place: Place<'c>, paths: &[&'c [Name]]) -> Result<NftRuleset<'c>, AllocError>
+fn rendered<'c>(place: Place<'c>, paths: &[&'c [Name]]) -> Made<NftRuleset<'c>>
     requires { map (λ p. p.now) paths.now ≡ paths_in place.config.now.anchors }
     ensures { IfOk result (λ r. ruleset_of r
         ≡ rendered place.entry.config.now (machine_of place.entry.machine.now) place.entry.direction) }

@@ -1,52 +1,40 @@
 //! Rules that do one thing under each of some alternatives.
 
-ghost use Rattle.std.specs.Prelude.{◌≡◌, ◌++◌, ◌∷◌, [], IfOk, OnOk, map};
-ghost use Rattle.nft_rules.specs.Alternatives.{matches_of};
+ghost use Rattle.std.specs.Prelude.{◌≡◌, ◌++◌, ◌∷◌, [], OnOk, map};
 ghost use Rattle.nft_rules.specs.Rendering.{with_statement, jump_each, jump_rules};
-ghost use Rattle.nft_rules.specs.Seen.{match_of, statement_of, chain_name_of, nft_rule_of};
+ghost use Rattle.nft_rules.specs.Seen.{statement_of, chain_name_of, nft_rule_of};
 ghost use Rattle.nft_rules.specs.inner.Asked.{alternative_of};
 
+use crate::Made;
 use crate::alternative::{Alternative, Protocol, push_matches};
 use crate::subset::{ChainName, Match, NftRule, Statement};
-use std::alloc::{AllocError, Global};
 
-/// The matches as a rule has them: the family and the protocol are first.
-fn matches_of<'c>(
-    alloc: Global,
-    alternative: &Alternative<'c>,
-) -> Result<Vec<Match<'c>>, AllocError>
-    ensures { IfOk result (λ v. map match_of v.items ≡ matches_of (alternative_of alternative.now)) }
-{
-    let mut all = Vec::new(alloc);
-    if let Some(family) = alternative.family {
-        all.push(Match::OfFamily(family))?;
-    }
-    match alternative.protocol {
-        Protocol::AnyProtocol => {}
-        Protocol::Only(number) => all.push(Match::OfProtocol {
-            number,
-            negated: false,
-        })?,
-        Protocol::NotTcp => all.push(Match::OfProtocol {
-            number: 6,
-            negated: true,
-        })?,
-    }
-    push_matches(&mut all, &alternative.tests)?;
-    Ok(all)
-}
-
-/// Puts a rule behind those that are there.
+/// Puts a rule behind those that are there: of its matches those of the family and of the protocol are first.
 #[tactic(auto, unfolding(crate::specs::Rendering::with_statement))]
 fn push_rule<'c>(
     rules: &mut Vec<NftRule<'c>>,
     alternative: &Alternative<'c>,
     statement: Statement<'c>,
-) -> Result<(), AllocError>
+) -> Made<()>
     ensures { OnOk result (map nft_rule_of rules.new.items ≡ map nft_rule_of rules.old.items
         ++ with_statement (statement_of statement.entry) (alternative_of alternative.now) ∷ []) }
 {
-    let matches = matches_of(*rules.allocator(), alternative)?;
+    let mut matches = Vec::new(*rules.allocator());
+    if let Some(family) = alternative.family {
+        matches.push(Match::OfFamily(family))?;
+    }
+    match alternative.protocol {
+        Protocol::AnyProtocol => {}
+        Protocol::Only(number) => matches.push(Match::OfProtocol {
+            number,
+            negated: false,
+        })?,
+        Protocol::NotTcp => matches.push(Match::OfProtocol {
+            number: 6,
+            negated: true,
+        })?,
+    }
+    push_matches(&mut matches, &alternative.tests)?;
     Ok(rules.push(NftRule { matches, statement })?)
 }
 
@@ -55,7 +43,7 @@ pub(crate) fn push_rules<'c>(
     rules: &mut Vec<NftRule<'c>>,
     alternatives: &[Alternative<'c>],
     statement: Statement<'c>,
-) -> Result<(), AllocError>
+) -> Made<()>
     ensures { OnOk result (map nft_rule_of rules.new.items ≡ map nft_rule_of rules.old.items
         ++ map (with_statement (statement_of statement.entry)) (map alternative_of alternatives.now)) }
 {
@@ -71,7 +59,7 @@ fn push_each<'c>(
     rules: &mut Vec<NftRule<'c>>,
     alternative: &Alternative<'c>,
     chains: &[ChainName<'c>],
-) -> Result<(), AllocError>
+) -> Made<()>
     ensures { OnOk result (map nft_rule_of rules.new.items ≡ map nft_rule_of rules.old.items
         ++ jump_each (map chain_name_of chains.now) (alternative_of alternative.now)) }
 {
@@ -86,7 +74,7 @@ pub(crate) fn push_jumps<'c>(
     rules: &mut Vec<NftRule<'c>>,
     alternatives: &[Alternative<'c>],
     chains: &[ChainName<'c>],
-) -> Result<(), AllocError>
+) -> Made<()>
     ensures { OnOk result (map nft_rule_of rules.new.items ≡ map nft_rule_of rules.old.items
         ++ jump_rules (map alternative_of alternatives.now) (map chain_name_of chains.now)) }
 {

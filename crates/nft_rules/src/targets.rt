@@ -7,41 +7,27 @@ ghost use Rattle.nft_rules.specs.Rendering.{is_chained, chained_targets, forward
 ghost use Rattle.nft_rules.specs.inner.Rendering.{is_member};
 ghost use Rattle.nft_rules.specs.Seen.{chain_name_of};
 
+use crate::Made;
 use crate::chains::Place;
 use crate::subset::{ChainName, Pass};
 use pf_config::{Anchor, Config, joined};
 use pf_rules::{Name, PATH_MAX, Target};
-use std::alloc::AllocError;
 use std::rc::Rc;
 
-/// Whether a jump may lead to the path: some rule is there, and it has 8 names at most.
+/// Puts the path behind those that are there, if a jump may lead to it: some rule is there, and it has 8 names at most.
 #[tactic(auto, using(crate::proofs::Targeted::any_rules))]
-fn is_chained(config: &Config, path: &[Name]) -> bool
-    ensures { result ≡ is_chained config.now path.now }
-{
-    path.len() <= PATH_MAX && !config.items(path).is_empty()
-}
-
-/// Puts the path behind those that are there, if a jump may lead to it.
-fn push_chained<'c>(
-    config: &'c Config,
-    paths: &mut Vec<&'c [Name]>,
-    path: &'c [Name],
-) -> Result<(), AllocError>
+fn push_chained<'c>(config: &'c Config, paths: &mut Vec<&'c [Name]>, path: &'c [Name]) -> Made<()>
     ensures { OnOk result (map (λ p. p.now) paths.new.items
         ≡ map (λ p. p.now) paths.old.items ++ filter (is_chained config.now) (path.now ∷ [])) }
 {
-    if is_chained(config, path) {
+    if path.len() <= PATH_MAX && !config.items(path).is_empty() {
         paths.push(path)?;
     }
     Ok(())
 }
 
 /// Puts the chains of these paths behind those that are there.
-pub(crate) fn push_forward<'c>(
-    chains: &mut Vec<ChainName<'c>>,
-    paths: &[&'c [Name]],
-) -> Result<(), AllocError>
+pub(crate) fn push_forward<'c>(chains: &mut Vec<ChainName<'c>>, paths: &[&'c [Name]]) -> Made<()>
     ensures { OnOk result (map chain_name_of chains.new.items
         ≡ map chain_name_of chains.old.items ++ forward_chains (map (λ p. p.now) paths.now)) }
 {
@@ -53,10 +39,7 @@ pub(crate) fn push_forward<'c>(
 
 /// Puts the chains of these paths behind those that are there, the last path's first.
 #[tactic(auto, using(crate::proofs::Targeted::first_last))]
-pub(crate) fn push_backward<'c>(
-    chains: &mut Vec<ChainName<'c>>,
-    paths: &[&'c [Name]],
-) -> Result<(), AllocError>
+pub(crate) fn push_backward<'c>(chains: &mut Vec<ChainName<'c>>, paths: &[&'c [Name]]) -> Made<()>
     ensures { OnOk result (map chain_name_of chains.new.items
         ≡ map chain_name_of chains.old.items ++ backward_chains (map (λ p. p.now) paths.now)) }
 {
@@ -72,54 +55,22 @@ fn push_members<'c>(
     config: &'c Config,
     paths: &mut Vec<&'c [Name]>,
     kids: &'c [Rc<Anchor>],
-) -> Result<(), AllocError>
+) -> Made<()>
     ensures { OnOk result (map (λ p. p.now) paths.new.items
         ≡ map (λ p. p.now) paths.old.items
         ++ filter (is_chained config.now) (filter is_member (paths_of (shared kids.now)))) }
 {
     for kid in kids {
-        push_member(config, paths, kid)?;
+        if !kid.is_unnamed() {
+            push_chained(config, paths, kid.names())?;
+        }
     }
     Ok(())
 }
 
-/// Puts the path of the anchor, unless it is an unnamed block, behind those that are there, if a jump may lead to it.
-fn push_member<'c>(
-    config: &'c Config,
-    paths: &mut Vec<&'c [Name]>,
-    kid: &'c Anchor,
-) -> Result<(), AllocError>
-    ensures { OnOk result (map (λ p. p.now) paths.new.items
-        ≡ map (λ p. p.now) paths.old.items ++ filter (is_chained config.now) (filter is_member (kid.now.names ∷ []))) }
-{
-    if kid.is_unnamed() {
-        return Ok(());
-    }
-    push_chained(config, paths, kid.names())
-}
-
-/// Puts the path of the anchor there behind those that are there, if a jump may lead to it.
-#[tactic(auto, using(crate::proofs::Targeted::path_there, crate::proofs::Targeted::none_there))]
-fn push_anchor<'c>(
-    config: &'c Config,
-    paths: &mut Vec<&'c [Name]>,
-    path: &[Name],
-) -> Result<(), AllocError>
-    ensures { OnOk result (map (λ p. p.now) paths.new.items
-        ≡ map (λ p. p.now) paths.old.items ++ filter (is_chained config.now) (path.now ∷ [])) }
-{
-    match config.anchor(path) {
-        None => Ok(()),
-        Some(anchor) => push_chained(config, paths, anchor.names()),
-    }
-}
-
 /// The paths that an anchor rule evaluates and to which a jump may lead, in their order.
-#[tactic(auto, using(crate::proofs::Targeted::named_paths))]
-pub(crate) fn chained_targets<'c>(
-    place: Place<'c>,
-    target: &Target,
-) -> Result<Vec<&'c [Name]>, AllocError>
+#[tactic(auto, using(crate::proofs::Targeted::named_paths, crate::proofs::Targeted::path_there, crate::proofs::Targeted::none_there))]
+pub(crate) fn chained_targets<'c>(place: Place<'c>, target: &Target) -> Made<Vec<&'c [Name]>>
     ensures { IfOk result (λ v. map (λ p. p.now) v.items
         ≡ chained_targets place.entry.config.now place.entry.path.now (target_of target.now)) }
 {
@@ -127,8 +78,8 @@ pub(crate) fn chained_targets<'c>(
     let mut paths = Vec::new(place.alloc);
     if target.children {
         push_members(place.config, &mut paths, place.config.kids(&names))?;
-    } else {
-        push_anchor(place.config, &mut paths, &names)?;
+    } else if let Some(anchor) = place.config.anchor(&names) {
+        push_chained(place.config, &mut paths, anchor.names())?;
     }
     Ok(paths)
 }

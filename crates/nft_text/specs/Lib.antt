@@ -1,3 +1,4 @@
 pub mod Texts
 pub mod States
 pub mod Loading
+pub mod inner

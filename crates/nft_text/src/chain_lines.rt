@@ -5,9 +5,9 @@ ghost use Rattle.std.specs.List.{flat_map};
 ghost use Rattle.nft_rules.specs.Seen.{chain_name_of, chain_of, nft_rule_of, ruleset_of, statement_of};
 ghost use Rattle.nft_text.specs.Texts.{asks_interface, first_rules, front_text, states_text, chain_text, chain_gone};
 
+use crate::Pushed;
 use crate::labels::{ChainLabel, Generation, Whole};
 use nft_rules::{Chain, ChainName, NftRule, Note, Statement};
-use std::alloc::AllocError;
 
 /// Whether a rule that does this asks for the interface alone.
 fn asks_interface(statement: Statement<'_>) -> bool
@@ -47,27 +47,20 @@ fn states_text(keeps: bool) -> &'static str
 
 impl<'c> Whole<'_, 'c> {
     /// Puts what is at the hook behind the rules that ask for the interface alone behind the text.
-    fn push_front(
-        self,
-        out: &mut String,
-        keeps: bool,
-        name: ChainName<'c>,
-    ) -> Result<(), AllocError>
+    fn push_front(self, out: &mut String, keeps: bool, name: ChainName<'c>) -> Pushed
         ensures { OnOk result (string_bytes out.new ≡ string_bytes out.old
             ++ front_text self.entry.position keeps (chain_name_of name.entry)) }
     {
-        match name {
-            ChainName::At { .. } => Ok(()),
-            ChainName::Base => {
-                let generation = Generation(self.position);
-                write!(out, "jump {generation}guard; {}", states_text(keeps))
-            }
+        if let ChainName::Base = name {
+            let generation = Generation(self.position);
+            write!(out, "jump {generation}guard; {}", states_text(keeps))?;
         }
+        Ok(())
     }
 
     /// Puts a chain behind the text.
     #[tactic(auto, using(crate::proofs::Parting::parted), unfolding(crate::specs::Texts::chain_text))]
-    fn push_chain(self, out: &mut String, keeps: bool, chain: &Chain<'c>) -> Result<(), AllocError>
+    fn push_chain(self, out: &mut String, keeps: bool, chain: &Chain<'c>) -> Pushed
         ensures { OnOk result (string_bytes out.new ≡ string_bytes out.old
             ++ chain_text self.entry.position keeps self.entry.direction (ruleset_of self.entry.parts.now)
             (chain_of chain.now)) }
@@ -81,7 +74,7 @@ impl<'c> Whole<'_, 'c> {
     }
 
     /// Puts the ruleset's chains, one behind the other, behind the text.
-    pub(crate) fn push_chains(self, out: &mut String, keeps: bool) -> Result<(), AllocError>
+    pub(crate) fn push_chains(self, out: &mut String, keeps: bool) -> Pushed
         ensures { OnOk result (string_bytes out.new ≡ string_bytes out.old
             ++ flat_map (chain_text self.entry.position keeps self.entry.direction (ruleset_of self.entry.parts.now))
             (map chain_of self.entry.parts.now.chains.items)) }
@@ -94,7 +87,7 @@ impl<'c> Whole<'_, 'c> {
 
     /// Puts the end of a chain behind the text.
     #[tactic(auto, unfolding(crate::specs::Texts::chain_gone))]
-    fn push_chain_gone(self, out: &mut String, chain: &Chain<'c>) -> Result<(), AllocError>
+    fn push_chain_gone(self, out: &mut String, chain: &Chain<'c>) -> Pushed
         ensures { OnOk result (string_bytes out.new ≡ string_bytes out.old ++ chain_gone self.entry.position
             self.entry.direction (ruleset_of self.entry.parts.now) (chain_of chain.now)) }
     {
@@ -103,7 +96,7 @@ impl<'c> Whole<'_, 'c> {
     }
 
     /// Puts the end of the ruleset's chains behind the text.
-    pub(crate) fn push_chains_gone(self, out: &mut String) -> Result<(), AllocError>
+    pub(crate) fn push_chains_gone(self, out: &mut String) -> Pushed
         ensures { OnOk result (string_bytes out.new ≡ string_bytes out.old
             ++ flat_map (chain_gone self.entry.position self.entry.direction (ruleset_of self.entry.parts.now))
             (map chain_of self.entry.parts.now.chains.items)) }

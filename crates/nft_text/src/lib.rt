@@ -22,3 +22,7 @@ mod set_lines;
 mod states;
 
 pub use loading::{Transactions, lines, rendered_lines};
+use std::alloc::AllocError;
+
+/// Something is put behind a string, unless a growth is refused.
+pub(crate) type Pushed = Result<(), AllocError>;

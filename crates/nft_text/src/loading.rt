@@ -10,6 +10,7 @@ ghost use Rattle.nft_text.specs.Texts.{members_text, chain_text, headers_text, g
 ghost use Rattle.nft_text.specs.Texts.{fixed_gone, sets_line, rules_line, gone_line, lines};
 ghost use Rattle.nft_text.specs.Loading.{transactions_value, rendered_lines};
 
+use crate::Pushed;
 use crate::labels::{ChainLabel, Generation, Whole};
 use crate::members::{push_members, push_members_gone};
 use crate::states::some_keep_state;
@@ -28,7 +29,7 @@ pub struct Transactions {
 }
 
 /// Puts what drops headers of TCP, UDP or ICMP that are cut short behind the text.
-fn push_headers(out: &mut String) -> Result<(), AllocError>
+fn push_headers(out: &mut String) -> Pushed
     ensures { OnOk result (string_bytes out.new ≡ string_bytes out.old ++ headers_text) }
 {
     out.push_str("meta l4proto 6 tcp urgptr 0-65535 return; meta l4proto 6 counter drop; ")?;
@@ -39,7 +40,7 @@ fn push_headers(out: &mut String) -> Result<(), AllocError>
 
 /// Puts the chain that drops what can't be judged since a header is missing behind the text: later fragments, and
 /// headers of TCP, UDP or ICMP that are cut short.
-fn push_guard(out: &mut String, position: u32) -> Result<(), AllocError>
+fn push_guard(out: &mut String, position: u32) -> Pushed
     ensures { OnOk result (string_bytes out.new ≡ string_bytes out.old ++ guard_text position) }
 {
     write!(out, "chain {}guard {{ ", Generation(position))?;
@@ -49,7 +50,7 @@ fn push_guard(out: &mut String, position: u32) -> Result<(), AllocError>
 }
 
 /// Puts the chain that answers what is refused behind the text.
-fn push_refuse(out: &mut String, position: u32) -> Result<(), AllocError>
+fn push_refuse(out: &mut String, position: u32) -> Pushed
     ensures { OnOk result (string_bytes out.new ≡ string_bytes out.old ++ refuse_text position) }
 {
     write!(out, "chain {}", Generation(position))?;
@@ -58,7 +59,7 @@ fn push_refuse(out: &mut String, position: u32) -> Result<(), AllocError>
 }
 
 /// Puts the end of the chains that each position has behind the text.
-fn push_fixed_gone(out: &mut String, position: u32) -> Result<(), AllocError>
+fn push_fixed_gone(out: &mut String, position: u32) -> Pushed
     ensures { OnOk result (string_bytes out.new ≡ string_bytes out.old ++ fixed_gone position) }
 {
     let generation = Generation(position);
@@ -71,7 +72,7 @@ fn push_fixed_gone(out: &mut String, position: u32) -> Result<(), AllocError>
 impl Whole<'_, '_> {
     /// Puts the hooks of a machine's packets, and the sets, behind the text: nothing asks them yet.
     #[tactic(auto, unfolding(crate::specs::Texts::sets_line))]
-    fn push_sets_line(self, out: &mut String) -> Result<(), AllocError>
+    fn push_sets_line(self, out: &mut String) -> Pushed
         ensures { OnOk result (string_bytes out.new ≡ string_bytes out.old
             ++ sets_line self.entry.position (ruleset_of self.entry.parts.now)) }
     {
@@ -85,7 +86,7 @@ impl Whole<'_, '_> {
 
     /// Puts the jump to the ruleset's first chain, which names the position, behind the text.
     #[tactic(auto, unfolding(crate::specs::Texts::jump_text))]
-    fn push_jump(self, out: &mut String) -> Result<(), AllocError>
+    fn push_jump(self, out: &mut String) -> Pushed
         ensures { OnOk result (string_bytes out.new ≡ string_bytes out.old ++ jump_text self.entry.position
             self.entry.direction (ruleset_of self.entry.parts.now) (ToChain Base)) }
     {
@@ -96,7 +97,7 @@ impl Whole<'_, '_> {
     /// Puts the jumps of a hook behind the text: to the members' guard, if there are members, and then to the ruleset's
     /// first chain.
     #[tactic(auto, using(crate::proofs::Guarded::jumps_none))]
-    fn push_jumps(self, out: &mut String, members: &[Member]) -> Result<(), AllocError>
+    fn push_jumps(self, out: &mut String, members: &[Member]) -> Pushed
         ensures { OnOk result (string_bytes out.new ≡ string_bytes out.old
             ++ flat_map (jump_text self.entry.position self.entry.direction (ruleset_of self.entry.parts.now))
             (hook_of members.now)) }
@@ -109,7 +110,7 @@ impl Whole<'_, '_> {
     }
 
     /// Puts a hook's chain behind the text.
-    fn push_hook(self, out: &mut String, name: &str, members: &[Member]) -> Result<(), AllocError>
+    fn push_hook(self, out: &mut String, name: &str, members: &[Member]) -> Pushed
         ensures { OnOk result (string_bytes out.new ≡ string_bytes out.old
             ++ hook_text name.now self.entry.position self.entry.direction (ruleset_of self.entry.parts.now)
             (hook_of members.now)) }
@@ -136,7 +137,7 @@ fn push_hooks(
     members: &[Member],
     inward: Whole<'_, '_>,
     outward: Whole<'_, '_>,
-) -> Result<(), AllocError>
+) -> Pushed
     ensures { OnOk result (string_bytes out.new ≡ string_bytes out.old ++ (hook_text (codes "in")
         inward.entry.position inward.entry.direction (ruleset_of inward.entry.parts.now) (hook_of members.now)
         ++ (hook_text (codes "out_l") outward.entry.position outward.entry.direction
@@ -156,7 +157,7 @@ fn push_table(
     members: &[Member],
     inward: Whole<'_, '_>,
     outward: Whole<'_, '_>,
-) -> Result<(), AllocError>
+) -> Pushed
     ensures { OnOk result (string_bytes out.new ≡ string_bytes out.old
         ++ (flat_map (chain_text inward.entry.position keeps inward.entry.direction (ruleset_of inward.entry.parts.now))
         (map chain_of inward.entry.parts.now.chains.items)
@@ -174,7 +175,7 @@ fn push_table(
 }
 
 /// Puts the end of all rules behind the text, and the chains that each position's table has first.
-fn push_front(out: &mut String, position: u32, members: &[Member]) -> Result<(), AllocError>
+fn push_front(out: &mut String, position: u32, members: &[Member]) -> Pushed
     ensures { OnOk result (string_bytes out.new ≡ string_bytes out.old
         ++ (codes "flush table inet reltzuma; table inet reltzuma { " ++ (members_text position members.now
         ++ (guard_text position ++ refuse_text position)))) }
@@ -187,7 +188,7 @@ fn push_front(out: &mut String, position: u32, members: &[Member]) -> Result<(),
 
 impl Both<'_, '_> {
     /// Puts the line behind the text by which all rules go, and those of this position come.
-    fn push_rules_line(self, out: &mut String) -> Result<(), AllocError>
+    fn push_rules_line(self, out: &mut String) -> Pushed
         ensures { OnOk result (string_bytes out.new ≡ string_bytes out.old
             ++ rules_line self.entry.position self.entry.keeps self.entry.members.now (ruleset_of self.entry.inward.now)
             (ruleset_of self.entry.outward.now)) }
@@ -208,7 +209,7 @@ impl Both<'_, '_> {
 
     /// Puts the line behind the text by which the chains and sets of this position go.
     #[tactic(auto, unfolding(crate::specs::Texts::gone_line))]
-    fn push_gone_line(self, out: &mut String) -> Result<(), AllocError>
+    fn push_gone_line(self, out: &mut String) -> Pushed
         ensures { OnOk result (string_bytes out.new ≡ string_bytes out.old
             ++ gone_line self.entry.position self.entry.members.now (ruleset_of self.entry.inward.now)
             (ruleset_of self.entry.outward.now)) }

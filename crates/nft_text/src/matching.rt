@@ -6,13 +6,13 @@ ghost use Rattle.nft_rules.specs.Seen.{match_of, where_of, ruleset_of};
 ghost use Rattle.nft_text.specs.Texts.{not_text, place_text, quoted, interface_text, family_text, address_text};
 ghost use Rattle.nft_text.specs.Texts.{port_text, match_text};
 
+use crate::Pushed;
 use crate::flags::FlagsByte;
 use crate::labels::{SetLabel, Whole};
 use crate::numbers::push_interval;
 use nft_rules::{Match, Side, Where};
 use pf_addr::Family;
 use pf_rules::{Direction, InterfaceName};
-use std::alloc::AllocError;
 
 /// What turns a match round, if it is turned round.
 fn not_text(negated: bool) -> &'static str
@@ -22,7 +22,7 @@ fn not_text(negated: bool) -> &'static str
 }
 
 /// Puts names of interfaces, each between quotes and with a comma behind it, behind the text.
-fn push_quoted(out: &mut String, names: &[InterfaceName]) -> Result<(), AllocError>
+fn push_quoted(out: &mut String, names: &[InterfaceName]) -> Pushed
     ensures { OnOk result (string_bytes out.new ≡ string_bytes out.old ++ flat_map quoted names.now) }
 {
     for name in names {
@@ -73,12 +73,7 @@ fn port_text(side: Side) -> &'static str
 
 impl<'c> Whole<'_, 'c> {
     /// Puts a place among addresses behind the text.
-    fn push_place(
-        self,
-        out: &mut String,
-        family: Family,
-        place: Where<'c>,
-    ) -> Result<(), AllocError>
+    fn push_place(self, out: &mut String, family: Family, place: Where<'c>) -> Pushed
         ensures { OnOk result (string_bytes out.new ≡ string_bytes out.old
             ++ place_text self.entry.position (ruleset_of self.entry.parts.now) family (where_of place.entry)) }
     {
@@ -90,7 +85,7 @@ impl<'c> Whole<'_, 'c> {
 
     /// Puts a match behind the text.
     #[tactic(auto, unfolding(crate::specs::Texts::match_text))]
-    pub(crate) fn push_match(self, out: &mut String, test: &Match<'c>) -> Result<(), AllocError>
+    pub(crate) fn push_match(self, out: &mut String, test: &Match<'c>) -> Pushed
         ensures { OnOk result (string_bytes out.new ≡ string_bytes out.old
             ++ match_text self.entry.position self.entry.direction (ruleset_of self.entry.parts.now)
             (match_of test.now)) }
@@ -123,12 +118,10 @@ impl<'c> Whole<'_, 'c> {
                 low,
                 high,
                 negated,
-            } => write!(
-                out,
-                "{}{}{low}-{high} ",
-                port_text(*side),
-                not_text(*negated)
-            ),
+            } => {
+                let (what, not) = (port_text(*side), not_text(*negated));
+                write!(out, "{what}{not}{low}-{high} ")
+            }
             Match::WithFlags { mask, value } => {
                 write!(
                     out,

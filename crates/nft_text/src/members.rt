@@ -8,12 +8,13 @@ ghost use Rattle.nft_rules.specs.Guard.{has_family, AtMember, AtHome, OfUdp, IsL
 ghost use Rattle.nft_rules.specs.Guard.{family_rules, link_rules};
 ghost use Rattle.nft_text.specs.Texts.{member_text, udp_text, later_text, too_big_text, guard_match_text};
 ghost use Rattle.nft_text.specs.Texts.{guard_rule_text, members_text, members_gone};
+ghost use Rattle.nft_text.specs.inner.Ends.{end_match};
 
+use crate::Pushed;
 use crate::labels::Generation;
 use crate::matching::{address_text, family_text};
 use nft_rules::{Member, Side};
 use pf_addr::{Addr, Family};
-use std::alloc::AllocError;
 use std::fmt;
 
 /// What is done with what a rule of the guard matches.
@@ -31,12 +32,9 @@ fn of_family(address: Addr, family: Family) -> bool
 fn has_family(family: Family, members: &[Member]) -> bool
     ensures { result ≡ has_family family members.now }
 {
-    for member in members {
-        if of_family(member.address, family) {
-            return true;
-        }
-    }
-    false
+    members
+        .iter()
+        .any(|member| of_family(member.address, family))
 }
 
 /// Which port is asked for.
@@ -79,7 +77,7 @@ struct Guard<'m> {
 impl Guard<'_> {
     /// Puts where a member listens, if its address is of the family, behind the text: the address, and its port where
     /// ports are asked too.
-    fn push_member(self, out: &mut String, has_port: bool, member: Member) -> Result<(), AllocError>
+    fn push_member(self, out: &mut String, has_port: bool, member: Member) -> Pushed
         ensures { OnOk result (string_bytes out.new ≡ string_bytes out.old
             ++ member_text has_port self.entry.family member) }
     {
@@ -94,7 +92,7 @@ impl Guard<'_> {
     }
 
     /// The same of all members.
-    fn push_members(self, out: &mut String, has_port: bool) -> Result<(), AllocError>
+    fn push_members(self, out: &mut String, has_port: bool) -> Pushed
         ensures { OnOk result (string_bytes out.new ≡ string_bytes out.old
             ++ flat_map (member_text has_port self.entry.family) self.entry.members.now) }
     {
@@ -104,67 +102,57 @@ impl Guard<'_> {
         Ok(())
     }
 
-    /// Puts that an end is a member of the family, at its port, behind the text.
+    /// Puts that an end is the address of a member of the family, and where ports are asked too its port, behind the
+    /// text.
     #[tactic(auto, unfolding(crate::specs::Texts::guard_match_text))]
-    fn push_at_member(self, out: &mut String, side: Side) -> Result<(), AllocError>
+    fn push_end(self, out: &mut String, has_port: bool, side: Side) -> Pushed
         ensures { OnOk result (string_bytes out.new ≡ string_bytes out.old
-            ++ guard_match_text (AtMember side self.entry.family self.entry.members.now)) }
+            ++ guard_match_text (end_match has_port side self.entry.family self.entry.members.now)) }
     {
         let (what, end) = (family_text(self.family), address_text(side));
-        write!(out, "{what}{end}{}{{ ", udp_text(side))?;
-        self.push_members(out, true)?;
-        out.push_str("} ")
-    }
-
-    /// Puts that an end is the address of a member of the family behind the text.
-    #[tactic(auto, unfolding(crate::specs::Texts::guard_match_text))]
-    fn push_at_home(self, out: &mut String, side: Side) -> Result<(), AllocError>
-        ensures { OnOk result (string_bytes out.new ≡ string_bytes out.old
-            ++ guard_match_text (AtHome side self.entry.family self.entry.members.now)) }
-    {
-        let (what, end) = (family_text(self.family), address_text(side));
-        write!(out, "{what}{end}{{ ")?;
-        self.push_members(out, false)?;
+        let port = if has_port { udp_text(side) } else { "" };
+        write!(out, "{what}{end}{port}{{ ")?;
+        self.push_members(out, has_port)?;
         out.push_str("} ")
     }
 
     /// Puts the rule for the members' datagrams behind the text.
-    fn push_datagrams(self, out: &mut String) -> Result<(), AllocError>
+    fn push_datagrams(self, out: &mut String) -> Pushed
         ensures { OnOk result (string_bytes out.new ≡ string_bytes out.old ++ guard_rule_text
             (AtMember Source self.entry.family self.entry.members.now
             ∷ AtMember Destination self.entry.family self.entry.members.now ∷ [])) }
     {
-        self.push_at_member(out, Side::Source)?;
-        self.push_at_member(out, Side::Destination)?;
+        self.push_end(out, true, Side::Source)?;
+        self.push_end(out, true, Side::Destination)?;
         out.push_str(ACCEPT)
     }
 
     /// Puts the rule for their later fragments behind the text.
-    fn push_fragments(self, out: &mut String) -> Result<(), AllocError>
+    fn push_fragments(self, out: &mut String) -> Pushed
         ensures { OnOk result (string_bytes out.new ≡ string_bytes out.old ++ guard_rule_text
             (IsLater self.entry.family ∷ OfUdp ∷ AtHome Source self.entry.family self.entry.members.now
             ∷ AtHome Destination self.entry.family self.entry.members.now ∷ [])) }
     {
         write!(out, "{}meta l4proto 17 ", later_text(self.family))?;
-        self.push_at_home(out, Side::Source)?;
-        self.push_at_home(out, Side::Destination)?;
+        self.push_end(out, false, Side::Source)?;
+        self.push_end(out, false, Side::Destination)?;
         out.push_str(ACCEPT)
     }
 
     /// Puts the rule for reports that a packet was too big behind the text.
-    fn push_too_big(self, out: &mut String) -> Result<(), AllocError>
+    fn push_too_big(self, out: &mut String) -> Pushed
         ensures { OnOk result (string_bytes out.new ≡ string_bytes out.old ++ guard_rule_text
             (IsTooBig self.entry.family ∷ AtHome Destination self.entry.family self.entry.members.now ∷ [])) }
     {
         out.push_str(too_big_text(self.family))?;
-        self.push_at_home(out, Side::Destination)?;
+        self.push_end(out, false, Side::Destination)?;
         out.push_str(ACCEPT)
     }
 }
 
 /// Puts these three rules, if some member is of the family, behind the text.
 #[tactic(auto, using(crate::proofs::Guarded::family_some))]
-fn push_family(out: &mut String, family: Family, members: &[Member]) -> Result<(), AllocError>
+fn push_family(out: &mut String, family: Family, members: &[Member]) -> Pushed
     ensures { OnOk result (string_bytes out.new ≡ string_bytes out.old
         ++ flat_map guard_rule_text (family_rules family members.now)) }
 {
@@ -196,11 +184,7 @@ impl fmt::Display for LinkText<'_> {
 
 /// Puts the chain of the guard, if there are members, behind the text.
 #[tactic(auto, using(crate::proofs::Guarded::members_some), unfolding(crate::specs::Texts::members_text))]
-pub(crate) fn push_members(
-    out: &mut String,
-    position: u32,
-    members: &[Member],
-) -> Result<(), AllocError>
+pub(crate) fn push_members(out: &mut String, position: u32, members: &[Member]) -> Pushed
     ensures { OnOk result (string_bytes out.new ≡ string_bytes out.old ++ members_text position members.now) }
 {
     if members.is_empty() {
@@ -214,19 +198,12 @@ pub(crate) fn push_members(
 
 /// Puts the end of the guard's chain, if there are members, behind the text.
 #[tactic(auto, using(crate::proofs::Guarded::gone_some), unfolding(crate::specs::Texts::members_gone))]
-pub(crate) fn push_members_gone(
-    out: &mut String,
-    position: u32,
-    members: &[Member],
-) -> Result<(), AllocError>
+pub(crate) fn push_members_gone(out: &mut String, position: u32, members: &[Member]) -> Pushed
     ensures { OnOk result (string_bytes out.new ≡ string_bytes out.old ++ members_gone position members.now) }
 {
     if members.is_empty() {
         return Ok(());
     }
-    write!(
-        out,
-        "delete chain inet reltzuma {}members; ",
-        Generation(position)
-    )
+    let generation = Generation(position);
+    write!(out, "delete chain inet reltzuma {generation}members; ")
 }

@@ -3,13 +3,13 @@
 ghost use Rattle.std.specs.Prelude.{◌≡◌, ◌++◌, OnOk, map, string_bytes};
 ghost use Rattle.std.specs.List.{flat_map};
 ghost use Rattle.nft_rules.specs.Seen.{note_of, statement_of, nft_rule_of, ruleset_of};
-ghost use Rattle.nft_text.specs.Texts.{are_short, path_text, note_text, outcome_text, statement_text, rule_text};
+ghost use Rattle.nft_text.specs.Texts.{are_short, note_text, outcome_text, statement_text, rule_text};
 
+use crate::Pushed;
 use crate::labels::{ChainLabel, Generation, Whole};
 use nft_rules::{NftRule, Note, Outcome, Statement};
 use pf_rules::Name;
 use pf_show::Slashed;
-use std::alloc::AllocError;
 
 /// Whether names, each with a slash, take no more than that many bytes.
 fn are_short(room: usize, path: &[Name]) -> bool
@@ -26,18 +26,8 @@ fn are_short(room: usize, path: &[Name]) -> bool
     true
 }
 
-/// Puts a path, unless it is too long for a comment, behind the text.
-fn push_path(out: &mut String, path: &[Name]) -> Result<(), AllocError>
-    ensures { OnOk result (string_bytes out.new ≡ string_bytes out.old ++ path_text path.now) }
-{
-    if are_short(110, path) {
-        write!(out, "{}", Slashed(path))?;
-    }
-    Ok(())
-}
-
-/// Puts what a counter counts behind the text.
-fn push_note(out: &mut String, note: Note<'_>) -> Result<(), AllocError>
+/// Puts what a counter counts behind the text: of a rule its place, without a path that is too long for a comment.
+fn push_note(out: &mut String, note: Note<'_>) -> Pushed
     ensures { OnOk result (string_bytes out.new ≡ string_bytes out.old ++ note_text (note_of note.entry)) }
 {
     match note {
@@ -45,7 +35,9 @@ fn push_note(out: &mut String, note: Note<'_>) -> Result<(), AllocError>
         Note::Skip => out.push_str("skip"),
         Note::Default => out.push_str("default"),
         Note::Spot { path, index } => {
-            push_path(out, path)?;
+            if are_short(110, path) {
+                write!(out, "{}", Slashed(path))?;
+            }
             write!(out, "@{index}")
         }
     }
@@ -53,7 +45,7 @@ fn push_note(out: &mut String, note: Note<'_>) -> Result<(), AllocError>
 
 impl<'c> Whole<'_, 'c> {
     /// Puts what is done with a packet behind the text.
-    fn push_outcome(self, out: &mut String, outcome: Outcome) -> Result<(), AllocError>
+    fn push_outcome(self, out: &mut String, outcome: Outcome) -> Pushed
         ensures { OnOk result (string_bytes out.new ≡ string_bytes out.old
             ++ outcome_text self.entry.position outcome) }
     {
@@ -65,7 +57,7 @@ impl<'c> Whole<'_, 'c> {
     }
 
     /// Puts what a rule does behind the text.
-    fn push_statement(self, out: &mut String, statement: Statement<'c>) -> Result<(), AllocError>
+    fn push_statement(self, out: &mut String, statement: Statement<'c>) -> Pushed
         ensures { OnOk result (string_bytes out.new ≡ string_bytes out.old
             ++ statement_text self.entry.position self.entry.direction (ruleset_of self.entry.parts.now)
             (statement_of statement.entry)) }
@@ -84,7 +76,7 @@ impl<'c> Whole<'_, 'c> {
 
     /// Puts a rule behind the text.
     #[tactic(auto, unfolding(crate::specs::Texts::rule_text))]
-    fn push_rule(self, out: &mut String, rule: &NftRule<'c>) -> Result<(), AllocError>
+    fn push_rule(self, out: &mut String, rule: &NftRule<'c>) -> Pushed
         ensures { OnOk result (string_bytes out.new ≡ string_bytes out.old
             ++ rule_text self.entry.position self.entry.direction (ruleset_of self.entry.parts.now)
             (nft_rule_of rule.now)) }
@@ -96,11 +88,7 @@ impl<'c> Whole<'_, 'c> {
     }
 
     /// Puts rules, one behind the other, behind the text.
-    pub(crate) fn push_rules(
-        self,
-        out: &mut String,
-        rules: &[NftRule<'c>],
-    ) -> Result<(), AllocError>
+    pub(crate) fn push_rules(self, out: &mut String, rules: &[NftRule<'c>]) -> Pushed
         ensures { OnOk result (string_bytes out.new ≡ string_bytes out.old
             ++ flat_map (rule_text self.entry.position self.entry.direction (ruleset_of self.entry.parts.now))
             (map nft_rule_of rules.now)) }

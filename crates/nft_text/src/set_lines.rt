@@ -3,36 +3,27 @@
 ghost use Rattle.std.specs.Prelude.{◌≡◌, ◌++◌, OnOk, map, string_bytes};
 ghost use Rattle.std.specs.List.{flat_map};
 ghost use Rattle.nft_rules.specs.Seen.{named_set_of, ruleset_of};
-ghost use Rattle.nft_text.specs.Texts.{element_text, elements_text, type_text, set_text, set_gone};
+ghost use Rattle.nft_text.specs.Texts.{elements_text, type_text, set_text, set_gone};
 
+use crate::Pushed;
 use crate::labels::{SetLabel, Whole};
 use crate::numbers::push_interval;
 use nft_rules::{Interval, NamedSet};
 use pf_addr::Family;
-use std::alloc::AllocError;
 
-/// Puts elements, each with a comma behind it, behind the text.
-fn push_each(out: &mut String, family: Family, elements: &[Interval]) -> Result<(), AllocError>
-    ensures { OnOk result (string_bytes out.new ≡ string_bytes out.old
-        ++ flat_map (element_text family) elements.now) }
-{
-    for element in elements {
-        push_interval(out, family, element.low, element.high)?;
-        out.push_str(", ")?;
-    }
-    Ok(())
-}
-
-/// Puts the elements of a set, if it has any, behind the text.
+/// Puts the elements of a set, if it has any, each with a comma behind it, behind the text.
 #[tactic(auto, using(crate::proofs::Parting::some_elements))]
-fn push_elements(out: &mut String, family: Family, elements: &[Interval]) -> Result<(), AllocError>
+fn push_elements(out: &mut String, family: Family, elements: &[Interval]) -> Pushed
     ensures { OnOk result (string_bytes out.new ≡ string_bytes out.old ++ elements_text family elements.now) }
 {
     if elements.is_empty() {
         return Ok(());
     }
     out.push_str("elements = { ")?;
-    push_each(out, family, elements)?;
+    for element in elements {
+        push_interval(out, family, element.low, element.high)?;
+        out.push_str(", ")?;
+    }
     out.push_str("}; ")
 }
 
@@ -49,23 +40,19 @@ fn type_text(family: Family) -> &'static str
 impl<'c> Whole<'_, 'c> {
     /// Puts a set behind the text.
     #[tactic(auto, unfolding(crate::specs::Texts::set_text))]
-    fn push_set(self, out: &mut String, set: &NamedSet<'c>) -> Result<(), AllocError>
+    fn push_set(self, out: &mut String, set: &NamedSet<'c>) -> Pushed
         ensures { OnOk result (string_bytes out.new ≡ string_bytes out.old
             ++ set_text self.entry.position (ruleset_of self.entry.parts.now) (named_set_of set.now)) }
     {
         let family = set.name.family;
-        write!(
-            out,
-            "set {} {{ {}",
-            SetLabel(self, set.name),
-            type_text(family)
-        )?;
+        let (label, what) = (SetLabel(self, set.name), type_text(family));
+        write!(out, "set {label} {{ {what}")?;
         push_elements(out, family, &set.elements)?;
         out.push_str("}; ")
     }
 
     /// Puts the ruleset's sets, one behind the other, behind the text.
-    pub(crate) fn push_sets(self, out: &mut String) -> Result<(), AllocError>
+    pub(crate) fn push_sets(self, out: &mut String) -> Pushed
         ensures { OnOk result (string_bytes out.new ≡ string_bytes out.old
             ++ flat_map (set_text self.entry.position (ruleset_of self.entry.parts.now))
             (map named_set_of self.entry.parts.now.sets.items)) }
@@ -78,7 +65,7 @@ impl<'c> Whole<'_, 'c> {
 
     /// Puts the end of a set behind the text.
     #[tactic(auto, unfolding(crate::specs::Texts::set_gone))]
-    fn push_set_gone(self, out: &mut String, set: &NamedSet<'c>) -> Result<(), AllocError>
+    fn push_set_gone(self, out: &mut String, set: &NamedSet<'c>) -> Pushed
         ensures { OnOk result (string_bytes out.new ≡ string_bytes out.old
             ++ set_gone self.entry.position (ruleset_of self.entry.parts.now) (named_set_of set.now)) }
     {
@@ -87,7 +74,7 @@ impl<'c> Whole<'_, 'c> {
     }
 
     /// Puts the end of the ruleset's sets behind the text.
-    pub(crate) fn push_sets_gone(self, out: &mut String) -> Result<(), AllocError>
+    pub(crate) fn push_sets_gone(self, out: &mut String) -> Pushed
         ensures { OnOk result (string_bytes out.new ≡ string_bytes out.old
             ++ flat_map (set_gone self.entry.position (ruleset_of self.entry.parts.now))
             (map named_set_of self.entry.parts.now.sets.items)) }

@@ -30,22 +30,12 @@ fn keeps_state(item: &Item) -> bool
 fn any_keeps_state(items: &[Item]) -> bool
     ensures { result ≡ list_any keeps_state (map rule_of items.now) }
 {
-    for item in items {
-        if keeps_state(item) {
-            return true;
-        }
-    }
-    false
+    items.iter().any(|item| keeps_state(item))
 }
 
 /// Whether a rule at one of these paths keeps state.
 pub(crate) fn some_keep_state(config: &Config, paths: &[&[Name]]) -> bool
     ensures { result ≡ list_any (λ p. list_any keeps_state (rules_at config.now p)) (map (λ p. p.now) paths.now) }
 {
-    for path in paths {
-        if any_keeps_state(config.items(path)) {
-            return true;
-        }
-    }
-    false
+    paths.iter().any(|path| any_keeps_state(config.items(path)))
 }

@@ -54,7 +54,8 @@ impl Model for Anchor {
 
     ghost view = { λ a. record {
       names = a.names.items;
-      anchors = own_entry a.names.items (map rule_of a.own.items.value.items) a.own.tables ++ below (shared a.kids.items);
+      anchors = own_entry a.names.items (map rule_of a.own.items.value.items) a.own.tables
+          ++ below (shared a.kids.items);
     } };
 
     ghost invariant = { λ a. AreKids a.names.items (shared a.kids.items) };
@@ -358,7 +359,8 @@ impl Anchor {
     /// What is at its path.
     #[tactic(auto, using(crate::proofs::Treed::own_rules, crate::proofs::Treed::own_tables))]
     pub(crate) fn own(&self) -> &Own
-        ensures rules { map rule_of result.now.items.value.items ≡ rules_in (anchor_at self.now.names self.now.anchors) }
+        ensures rules { map rule_of result.now.items.value.items ≡
+            rules_in (anchor_at self.now.names self.now.anchors) }
         ensures tables { result.now.tables ≡ tables_in (anchor_at self.now.names self.now.anchors) }
     {
         &self.own

@@ -57,7 +57,8 @@ impl Anchor {
 
 /// The names of the anchor at a path below this one, where it holds something.
 fn found<'c>(anchor: Option<&'c Anchor>, rest: &[Name]) -> Option<&'c [Name]>
-    ensures { option_copied result ≡ and_then (and_then (option_copied anchor.entry) (λ t. tree_at t rest.now)) names_held }
+    ensures { option_copied result ≡
+        and_then (and_then (option_copied anchor.entry) (λ t. tree_at t rest.now)) names_held }
 {
     let at = descend(anchor?, rest)?;
     if at.is_nothing() {

@@ -54,8 +54,8 @@ pub(crate) fn change_own(own: &mut Own, change: &Change) -> Result<bool, AllocEr
 impl Change<'_> {
     /// The rules and tables that it makes where there are none. None where it makes none.
     pub(crate) fn made_of_none(&self, alloc: Global) -> Result<Option<Own>, AllocError>
-        ensures { IfOk result (λ o. AreNew (Makes self.now) (option_map (λ m. (map rule_of m.items.value.items, m.tables))
-            o)) }
+        ensures { IfOk result (λ o. AreNew (Makes self.now)
+            (option_map (λ m. (map rule_of m.items.value.items, m.tables)) o)) }
     {
         match self {
             Change::Whole(name, table) => {

@@ -44,7 +44,8 @@ pub(crate) fn has_unnamed(main: &Anchor, path: &[Name]) -> bool
 #[tactic(auto, using(crate::proofs::Descents::main_down, crate::proofs::Descents::found_rules, crate::proofs::Descents::no_rules_found))]
 fn own_with(main: &Anchor, path: &[Name], tables: Tables) -> Result<Own, AllocError>
     requires { main.now.names ≡ [] }
-    ensures rules { IfOk result (λ o. map rule_of o.items.value.items ≡ rules_in (anchor_at path.now main.now.anchors)) }
+    ensures rules { IfOk result (λ o. map rule_of o.items.value.items ≡
+        rules_in (anchor_at path.now main.now.anchors)) }
     ensures tables { IfOk result (λ o. o.tables ≡ tables) }
 {
     match descend(main, path) {

@@ -49,12 +49,12 @@
 //!   clears away others may make room for itself. A change in place asks for it only where a path is new.
 //! - **Faults of a configuration have no place in a ruleset**: `pfx test` prints `refused 23` alone.
 //! - **A verdict uses `Config::anchor` and `Anchor::child` in place of `find` and `kid`**: an anchor is lent as a part
-//!   of the tree, with its rules, its tables and the anchors below it. So a verdict goes down name by name, and looks no
-//!   path up from main again. `Config::kids` lends the anchors directly below a path, in byte order of their names; its
-//!   clause gives their paths, `Anchor::kids` that they are those anchors. `Config::paths` lends the paths of the map,
-//!   main among them where it has rules or tables; which anchors there are is found by going down.
-//! - **What needs no memory is refused first**: 20 and 21 of a change of one table come before any allocation, so out of
-//!   memory never takes their place.
+//!   of the tree, with its rules, its tables and the anchors below it. So a verdict goes down name by name, and looks
+//!   no path up from main again. `Config::kids` lends the anchors directly below a path, in byte order of their names;
+//!   its clause gives their paths, `Anchor::kids` that they are those anchors. `Config::paths` lends the paths of the
+//!   map, main among them where it has rules or tables; which anchors there are is found by going down.
+//! - **What needs no memory is refused first**: 20 and 21 of a change of one table come before any allocation, so out
+//!   of memory never takes their place.
 //! - **Laws over the definitions of several crates are in pfx_laws**, on which nothing depends: they are proved
 //!   beside the crates that use the definitions, and no crate is proved again for them.
 //! - **The tables of an anchor are in the order of their names**, where one is found by binary search; so are skipped

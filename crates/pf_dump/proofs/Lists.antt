@@ -1,5 +1,6 @@
 -- Lists of strings and of paths, compared by `==`.
-use Rattle.std.proofs.Common.{◌≡◌, ◌∙◌, List, [], ◌∷◌, ℕ, refl, map, Bool, ◌&&◌, ap, Bor}
+use Rattle.std.proofs.Common.{◌≡◌, ◌∙◌, List, [], ◌∷◌, ℕ, refl, map, Bool, ◌&&◌, ◌||◌, ap, Bor}
+use Rattle.std.specs.List.{list_any}
 use Rattle.std.specs.Bool.{Decides}
 use Rattle.std.specs.Str.{bytes_eq}
 use Rattle.std.specs.Cmp.Lexicographic.{pointwise}
@@ -21,3 +22,8 @@ texts_decide xs ys r e = slice_eq-Decides bytes_eq-Decides _ _ r (e ∙ pointwis
 pub paths_decide : (xs ys : List (Bor Path)) (r : Bool) → r ≡ pointwise (λ x y. path_eq x.now y.now) xs ys →
     Decides r (map (λ x. x.now) xs ≡ map (λ x. x.now) ys)
 paths_decide xs ys r e = slice_eq-Decides path_decides _ _ r (e ∙ pointwise_now path_eq xs ys)
+
+-- whether an element passes, of what elements stand for
+pub any_mapped : {X Y : Type 0} (test : Y → Bool) (seen : X → Y) (xs : List X) → list_any (λ x. test (seen x)) xs ≡ list_any test (map seen xs)
+any_mapped test seen [] = refl
+any_mapped test seen (x ∷ xs) = ap (λ b. test (seen x) || b) (any_mapped test seen xs)

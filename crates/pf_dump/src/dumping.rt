@@ -34,8 +34,6 @@ pub fn dump(alloc: Global, config: &Config) -> Result<Option<Vec<u8>>, AllocErro
     ensures none { IfOk result (λ o. IfNone o (IsDoneTo (script_of config.now) config.now → ⊥)) }
 {
     let script = script_of(alloc, config)?;
-    if gives(alloc, &script, config)? {
-        return Ok(Some(script));
-    }
-    Ok(None)
+    let is_good = gives(alloc, &script, config)?;
+    Ok(is_good.then_some(script))
 }

@@ -32,3 +32,7 @@ pub use dumping::{dump, gives};
 pub use path_texts::{PathText, texts};
 pub use same::is_same;
 pub use script::push_change;
+use std::alloc::AllocError;
+
+/// What is made, unless a growth is refused.
+pub(crate) type Made<T> = Result<T, AllocError>;

@@ -9,6 +9,7 @@ ghost use Rattle.pf_rules.specs.Names.{is_path_name};
 ghost use Rattle.std.specs.List.{list_all};
 ghost use Rattle.pf_dump.specs.Seen.{text_of};
 
+use crate::Made;
 use crate::same::is_same;
 use crate::text::push_text;
 use pf_command::place_at;
@@ -72,12 +73,7 @@ pub fn text_paths(alloc: Global, config: &Config) -> Result<Vec<&[Name]>, AllocE
 
 /// Loads a ruleset at a path; false where it is refused.
 #[tactic(auto, unfolding(pf_command::specs::Effect::effect))]
-fn load_text(
-    alloc: Global,
-    config: &mut Config,
-    path: &[Name],
-    text: &[u8],
-) -> Result<bool, AllocError>
+fn load_text(alloc: Global, config: &mut Config, path: &[Name], text: &[u8]) -> Made<bool>
     ensures after { IfOk result (λ b. b ≡ true →
         config.new ≡ after_text config.old (record { path = path.now; text = text.now })) }
     ensures done { IfOk result (λ b. IsDone
@@ -99,7 +95,7 @@ fn load_text(
 
 /// The configuration that rulesets make of an empty one, in their order; none where one is refused.
 #[tactic(auto, unfolding(crate::specs::Done::texts_done))]
-fn loaded(alloc: Global, texts: &[PathText<'_>]) -> Result<Option<Config>, AllocError>
+fn loaded(alloc: Global, texts: &[PathText<'_>]) -> Made<Option<Config>>
     ensures after { IfOk result (λ o. IfSome o (λ c. c ≡ after_texts (map text_of texts.now))) }
     ensures done { IfOk result (λ o. o ≡ texts_done (map text_of texts.now)) }
 {
@@ -113,7 +109,7 @@ fn loaded(alloc: Global, texts: &[PathText<'_>]) -> Result<Option<Config>, Alloc
 }
 
 /// The rulesets of a configuration, before they are tried.
-fn written(alloc: Global, config: &Config) -> Result<Vec<PathText<'_>>, AllocError>
+fn written(alloc: Global, config: &Config) -> Made<Vec<PathText<'_>>>
     ensures { IfOk result (λ ts. map text_of ts.items ≡ texts_of config.now) }
 {
     let mut texts = Vec::new(alloc);
@@ -128,6 +124,7 @@ fn written(alloc: Global, config: &Config) -> Result<Vec<PathText<'_>>, AllocErr
 
 /// A configuration as rulesets for pfctl(8), one for each path that a command may load, main's last: loaded one after
 /// the other into an empty configuration they give this one. None exactly where they don't.
+#[tactic(auto, using(crate::proofs::Rules::paths_are))]
 pub fn texts(alloc: Global, config: &Config) -> Result<Option<Vec<PathText<'_>>>, AllocError>
     ensures paths { IfOk result (λ o. IfSome o (λ ts. map (λ t. t.path.now) ts.items ≡ text_paths config.now)) }
     ensures given { IfOk result (λ o. IfSome o (λ ts. GivenBy (map text_of ts.items) config.now)) }
@@ -136,13 +133,9 @@ pub fn texts(alloc: Global, config: &Config) -> Result<Option<Vec<PathText<'_>>>
     ensures none { IfOk result (λ o. IfNone o (AreDoneTo (texts_of config.now) config.now → ⊥)) }
 {
     let texts = written(alloc, config)?;
-    match loaded(alloc, &texts)? {
-        Some(made) => {
-            if is_same(alloc, &made, config)? {
-                return Ok(Some(texts));
-            }
-            Ok(None)
-        }
-        None => Ok(None),
-    }
+    let Some(made) = loaded(alloc, &texts)? else {
+        return Ok(None);
+    };
+    let is_good = is_same(alloc, &made, config)?;
+    Ok(is_good.then_some(texts))
 }

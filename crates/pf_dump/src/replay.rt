@@ -11,6 +11,7 @@ ghost use Rattle.pf_dump.specs.Scripts.{configured};
 ghost use Rattle.pf_dump.specs.Done.{change_done, pfctl_done, words_done, line_done, script_done};
 ghost use Rattle.pf_dump.specs.inner.Seen.{StepsTo, IsDone, IsPlace};
 
+use crate::Made;
 use pf_arguments::{Command, CommandView, EncodeFault, decode};
 use pf_command::{ApplyFault, apply};
 use pf_config::Config;
@@ -20,29 +21,12 @@ use pf_scripts::{
 };
 use std::alloc::{AllocError, Global};
 
-/// Where a script is behind a line.
-#[derive(Drop)]
-pub(crate) struct ReplayState<'a> {
-    /// Whether it goes on: the line was a change, or it is of a ruleset.
-    pub(crate) goes_on: bool,
-    /// The arguments that wait for the end of their text.
-    pub(crate) waiting: Option<Waiting<'a>>,
-}
-
-impl ReplayState<'_> {
-    /// Whether it goes on, where nothing waits for its text.
-    fn at<'a>(goes_on: bool) -> ReplayState<'a>
-        ensures { result ≡ record { goes_on = goes_on; waiting = None } }
-    {
-        ReplayState {
-            goes_on,
-            waiting: None,
-        }
-    }
-}
+/// Where a script is behind a line: the arguments that wait for the end of their text, if any; none where the script
+/// ends there, since the line is no change.
+type Step<'a> = Made<Option<Option<Waiting<'a>>>>;
 
 /// Does a command, which may be refused and then changes nothing.
-fn apply_view(alloc: Global, config: &mut Config, command: &CommandView) -> Result<(), AllocError>
+fn apply_view(alloc: Global, config: &mut Config, command: &CommandView) -> Made<()>
     ensures { OnOk result (config.new ≡ after_command config.old (command_of command.now)) }
 {
     match apply(alloc, config, command) {
@@ -52,7 +36,7 @@ fn apply_view(alloc: Global, config: &mut Config, command: &CommandView) -> Resu
 }
 
 /// Does a change by way of an entry's bytes; false where no entry has room for it.
-fn apply_change(alloc: Global, config: &mut Config, command: Command) -> Result<bool, AllocError>
+fn apply_change(alloc: Global, config: &mut Config, command: Command) -> Made<bool>
     ensures made { IfOk result (λ b. b ≡ true → config.new ≡ after_command config.old (command_value command)) }
     ensures short { IfOk result (λ b. b ≡ not (is_over (record {
       origin = 0;
@@ -75,12 +59,7 @@ fn apply_change(alloc: Global, config: &mut Config, command: Command) -> Result<
 }
 
 /// Runs a line of pfctl's arguments; false where it is no change.
-fn run_words(
-    alloc: Global,
-    config: &mut Config,
-    words: &[&str],
-    text: &[u8],
-) -> Result<bool, AllocError>
+fn run_words(alloc: Global, config: &mut Config, words: &[&str], text: &[u8]) -> Made<bool>
     ensures configuration { IfOk result (λ b. b ≡ true →
         config.new ≡ (pfctl config.old (map (λ w. w.now) words.now) text.now).configuration) }
     ensures done { IfOk result (λ b. IsDone
@@ -93,36 +72,30 @@ fn run_words(
 }
 
 /// Runs a line of pfctl's arguments, unless a ruleset follows it.
-fn run_pfctl<'a>(config: &mut Config, words: Vec<&'a str>) -> Result<ReplayState<'a>, AllocError>
-    ensures leads { IfOk result (λ s. s.goes_on ≡ true →
-        StepsTo (pfctl_line config.old (map (λ x. x.now) words.entry.items)) config.new s.waiting) }
-    ensures done { IfOk result (λ s. IsPlace
-        (pfctl_done config.old (map (λ x. x.now) words.entry.items)) s.goes_on config.new s.waiting) }
+fn run_pfctl<'a>(config: &mut Config, words: Vec<&'a str>) -> Step<'a>
+    ensures leads { IfOk result (λ s. IfSome s
+        (StepsTo (pfctl_line config.old (map (λ x. x.now) words.entry.items)) config.new)) }
+    ensures done { IfOk result (IsPlace (pfctl_done config.old (map (λ x. x.now) words.entry.items)) config.new) }
 {
     let alloc = *words.allocator();
     if takes_text(alloc, &words)? {
-        return Ok(ReplayState {
-            goes_on: true,
-            waiting: Some(Waiting {
-                words,
-                text: Vec::new(alloc),
-            }),
-        });
+        let text = Vec::new(alloc);
+        return Ok(Some(Some(Waiting { words, text })));
     }
-    Ok(ReplayState::at(run_words(alloc, config, &words, &[])?))
+    Ok(run_words(alloc, config, &words, &[])?.then(|| None))
 }
 
 /// Runs a line with these arguments.
-fn run_line<'a>(config: &mut Config, words: Vec<&'a str>) -> Result<ReplayState<'a>, AllocError>
-    ensures leads { IfOk result (λ s. s.goes_on ≡ true →
-        StepsTo (at_words config.old (Some (map (λ x. x.now) words.entry.items))) config.new s.waiting) }
-    ensures done { IfOk result (λ s. IsPlace
-        (words_done config.old (Some (map (λ x. x.now) words.entry.items))) s.goes_on config.new s.waiting) }
+fn run_line<'a>(config: &mut Config, words: Vec<&'a str>) -> Step<'a>
+    ensures leads { IfOk result (λ s. IfSome s
+        (StepsTo (at_words config.old (Some (map (λ x. x.now) words.entry.items))) config.new)) }
+    ensures done { IfOk result
+        (IsPlace (words_done config.old (Some (map (λ x. x.now) words.entry.items))) config.new) }
 {
     match words.as_slice() {
         [first, ..] if *first == "pfctl" => run_pfctl(config, words),
-        [_, ..] => Ok(ReplayState::at(false)),
-        [] => Ok(ReplayState::at(true)),
+        [_, ..] => Ok(None),
+        [] => Ok(Some(None)),
     }
 }
 
@@ -132,33 +105,23 @@ fn step<'a>(
     config: &mut Config,
     waiting: Option<Waiting<'a>>,
     line: Line<'a>,
-) -> Result<ReplayState<'a>, AllocError>
-    ensures leads { IfOk result (λ s. s.goes_on ≡ true →
-        StepsTo (stepped config.old (option_map waiting_of waiting.entry) (line_of line.entry)) config.new
-        s.waiting) }
-    ensures done { IfOk result (λ s. IsPlace
-        (line_done config.old (option_map waiting_of waiting.entry) (line_of line.entry)) s.goes_on config.new
-        s.waiting) }
+) -> Step<'a>
+    ensures leads { IfOk result (λ s. IfSome s
+        (StepsTo (stepped config.old (option_map waiting_of waiting.entry) (line_of line.entry)) config.new)) }
+    ensures done { IfOk result
+        (IsPlace (line_done config.old (option_map waiting_of waiting.entry) (line_of line.entry)) config.new) }
 {
     match waiting {
         None => match words_in(alloc, line.content)? {
             Some(words) => run_line(config, words),
-            None => Ok(ReplayState::at(false)),
+            None => Ok(None),
         },
-        Some(waiting) => {
+        Some(Waiting { words, mut text }) => {
             if line.content == b".".as_slice() {
-                let goes_on = run_words(alloc, config, &waiting.words, &waiting.text)?;
-                return Ok(ReplayState::at(goes_on));
+                return Ok(run_words(alloc, config, &words, &text)?.then(|| None));
             }
-            let mut text = waiting.text;
             push_bytes(&mut text, line)?;
-            Ok(ReplayState {
-                goes_on: true,
-                waiting: Some(Waiting {
-                    words: waiting.words,
-                    text,
-                }),
-            })
+            Ok(Some(Some(Waiting { words, text })))
         }
     }
 }
@@ -166,7 +129,7 @@ fn step<'a>(
 /// The configuration that a script makes of an empty one; none where one of its lines is no change, or a ruleset has no
 /// end.
 #[tactic(auto, unfolding(crate::specs::Scripts::configured, crate::specs::Done::script_done))]
-pub(crate) fn replayed(alloc: Global, script: &[u8]) -> Result<Option<Config>, AllocError>
+pub(crate) fn replayed(alloc: Global, script: &[u8]) -> Made<Option<Config>>
     ensures configured { IfOk result (λ o. IfSome o (λ c. c ≡ configured script.now)) }
     ensures done { IfOk result (λ o. o ≡ script_done script.now) }
 {
@@ -174,15 +137,11 @@ pub(crate) fn replayed(alloc: Global, script: &[u8]) -> Result<Option<Config>, A
     let mut waiting = None;
     let mut left = script;
     while let Some((line, rest)) = cut_line(left) {
-        let next = step(alloc, &mut config, waiting, line)?;
-        if !next.goes_on {
+        let Some(next) = step(alloc, &mut config, waiting, line)? else {
             return Ok(None);
-        }
-        waiting = next.waiting;
+        };
+        waiting = next;
         left = rest;
     }
-    match waiting {
-        Some(_) => Ok(None),
-        None => Ok(Some(config)),
-    }
+    Ok(waiting.is_none().then_some(config))
 }

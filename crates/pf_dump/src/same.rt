@@ -4,6 +4,7 @@ ghost use Rattle.std.specs.Prelude.{◌≡◌, true, IfOk, map};
 ghost use Rattle.std.specs.Option.{option_copied};
 ghost use Rattle.pf_dump.specs.Contents.{tables_named, tables_of, content_at, IsSame};
 
+use crate::Made;
 use crate::same_rules::{same_interfaces, same_items};
 use pf_config::{Config, Table};
 use pf_rules::{Name, TableEntry};
@@ -30,7 +31,7 @@ fn same_entries(a: &[TableEntry], b: &[TableEntry]) -> bool
 }
 
 /// Whether two tables have the same flags and entries.
-fn same_table(alloc: Global, a: &Table, b: &Table) -> Result<bool, AllocError>
+fn same_table(alloc: Global, a: &Table, b: &Table) -> Made<bool>
     ensures same { IfOk result (λ s. s ≡ true → a.now ≡ b.now) }
     ensures back { IfOk result (λ s. a.now ≡ b.now → s ≡ true) }
 {
@@ -43,7 +44,7 @@ fn same_table(alloc: Global, a: &Table, b: &Table) -> Result<bool, AllocError>
 }
 
 /// The same where there may be none.
-fn same_table_if(alloc: Global, a: Option<&Table>, b: Option<&Table>) -> Result<bool, AllocError>
+fn same_table_if(alloc: Global, a: Option<&Table>, b: Option<&Table>) -> Made<bool>
     ensures same { IfOk result (λ s. s ≡ true → option_copied a.entry ≡ option_copied b.entry) }
     ensures back { IfOk result (λ s. option_copied a.entry ≡ option_copied b.entry → s ≡ true) }
 {
@@ -63,13 +64,7 @@ fn same_texts(a: &[&str], b: &[&str]) -> bool
 }
 
 /// Whether the tables of these names are the same at a path.
-fn same_named(
-    alloc: Global,
-    a: &Config,
-    b: &Config,
-    path: &[Name],
-    names: &[&str],
-) -> Result<bool, AllocError>
+fn same_named(alloc: Global, a: &Config, b: &Config, path: &[Name], names: &[&str]) -> Made<bool>
     ensures same { IfOk result (λ s. s ≡ true → tables_named a.now path.now (map (λ x. x.now) names.now)
         ≡ tables_named b.now path.now (map (λ x. x.now) names.now)) }
     ensures back { IfOk result (λ s. tables_named a.now path.now (map (λ x. x.now) names.now)
@@ -85,7 +80,7 @@ fn same_named(
 
 /// Whether the same tables are at a path.
 #[tactic(auto, using(crate::proofs::Contents::names_same))]
-fn same_tables(alloc: Global, a: &Config, b: &Config, path: &[Name]) -> Result<bool, AllocError>
+fn same_tables(alloc: Global, a: &Config, b: &Config, path: &[Name]) -> Made<bool>
     ensures same { IfOk result (λ s. s ≡ true → tables_of a.now path.now ≡ tables_of b.now path.now) }
     ensures back { IfOk result (λ s. tables_of a.now path.now ≡ tables_of b.now path.now → s ≡ true) }
 {
@@ -97,17 +92,6 @@ fn same_tables(alloc: Global, a: &Config, b: &Config, path: &[Name]) -> Result<b
     same_named(alloc, a, b, path, &names)
 }
 
-/// Whether the same is at a path.
-fn same_at(alloc: Global, a: &Config, b: &Config, path: &[Name]) -> Result<bool, AllocError>
-    ensures same { IfOk result (λ s. s ≡ true → content_at a.now path.now ≡ content_at b.now path.now) }
-    ensures back { IfOk result (λ s. content_at a.now path.now ≡ content_at b.now path.now → s ≡ true) }
-{
-    if !same_items(a.items(path), b.items(path)) {
-        return Ok(false);
-    }
-    same_tables(alloc, a, b, path)
-}
-
 /// Whether two lists of paths are the same.
 fn same_paths(a: &[&[Name]], b: &[&[Name]]) -> bool
     ensures same { result ≡ true → map (λ x. x.now) a.now ≡ map (λ x. x.now) b.now }
@@ -117,14 +101,14 @@ fn same_paths(a: &[&[Name]], b: &[&[Name]]) -> bool
 }
 
 /// Whether the same is at each of these paths.
-fn same_at_all(alloc: Global, a: &Config, b: &Config, paths: &[&[Name]]) -> Result<bool, AllocError>
+fn same_at_all(alloc: Global, a: &Config, b: &Config, paths: &[&[Name]]) -> Made<bool>
     ensures same { IfOk result (λ s. s ≡ true → map (content_at a.now) (map (λ x. x.now) paths.now)
         ≡ map (content_at b.now) (map (λ x. x.now) paths.now)) }
     ensures back { IfOk result (λ s. map (content_at a.now) (map (λ x. x.now) paths.now)
         ≡ map (content_at b.now) (map (λ x. x.now) paths.now) → s ≡ true) }
 {
     for path in paths {
-        if !same_at(alloc, a, b, path)? {
+        if !same_items(a.items(path), b.items(path)) || !same_tables(alloc, a, b, path)? {
             return Ok(false);
         }
     }

@@ -6,8 +6,8 @@ ghost use Rattle.std.specs.Option.{option_copied};
 ghost use Rattle.pf_entry.specs.Owned.{command_value};
 ghost use Rattle.pf_dump.specs.Written.{is_open_after, load_lines, table_command, addresses_text, entries_lines};
 ghost use Rattle.pf_dump.specs.Written.{entries_lines_if, all_entries_lines, path_lines, script_of, change_lines};
-ghost use Rattle.pf_dump.specs.Written.{words_line};
 
+use crate::Made;
 use crate::path_texts::text_paths;
 use crate::text::push_text;
 use pf_arguments::Command;
@@ -35,7 +35,7 @@ fn is_open(text: &[u8]) -> bool
 }
 
 /// Puts the line of a load and its text behind a script.
-fn push_load(script: &mut Vec<u8>, path: &[Name], text: &[u8]) -> Result<(), AllocError>
+fn push_load(script: &mut Vec<u8>, path: &[Name], text: &[u8]) -> Made<()>
     ensures { OnOk result (script.new.items ≡ script.old.items ++ load_lines path.now text.now) }
 {
     let line = format!(in *script.allocator(); "pfctl {}-f -\n", PathArguments(path))?;
@@ -53,20 +53,15 @@ pub fn push_change(script: &mut Vec<u8>, command: &Command) -> Result<(), AllocE
 {
     match command {
         Command::Load { path, text, .. } => push_load(script, path.names(), text),
-        _ => push_words(script, command),
+        _ => {
+            let line = format!(in *script.allocator(); "pfctl {}\n", CommandArguments(command))?;
+            script.extend_from_slice(line.as_bytes())
+        }
     }
 }
 
-/// Appends a command's arguments to a script, as a line of it.
-fn push_words(script: &mut Vec<u8>, command: &Command) -> Result<(), AllocError>
-    ensures { OnOk result (script.new.items ≡ script.old.items ++ words_line (command_value command.now)) }
-{
-    let line = format!(in *script.allocator(); "pfctl {}\n", CommandArguments(command))?;
-    script.extend_from_slice(line.as_bytes())
-}
-
 /// Puts a command on a table behind the text, up to its addresses.
-fn push_begin(out: &mut String, path: &[Name], table: &str, word: &str) -> Result<(), AllocError>
+fn push_begin(out: &mut String, path: &[Name], table: &str, word: &str) -> Made<()>
     ensures { OnOk result (string_bytes out.new
         ≡ string_bytes out.old ++ table_command path.now table.now word.now) }
 {
@@ -75,12 +70,7 @@ fn push_begin(out: &mut String, path: &[Name], table: &str, word: &str) -> Resul
 }
 
 /// Puts addresses behind the text, with a new command where one has no room for more.
-fn push_addresses(
-    out: &mut String,
-    path: &[Name],
-    name: &str,
-    entries: &[TableEntry],
-) -> Result<(), AllocError>
+fn push_addresses(out: &mut String, path: &[Name], name: &str, entries: &[TableEntry]) -> Made<()>
     ensures { OnOk result (string_bytes out.new
         ≡ string_bytes out.old ++ addresses_text path.now name.now ADDRESSES entries.now) }
 {
@@ -98,12 +88,7 @@ fn push_addresses(
 }
 
 /// Puts the lines behind a script that give a table its entries: a replacement, and where they are too many additions.
-fn push_entries(
-    script: &mut Vec<u8>,
-    path: &[Name],
-    name: &str,
-    table: &Table,
-) -> Result<(), AllocError>
+fn push_entries(script: &mut Vec<u8>, path: &[Name], name: &str, table: &Table) -> Made<()>
     ensures { OnOk result (script.new.items ≡ script.old.items ++ entries_lines path.now name.now table.now.entries) }
 {
     let alloc = *script.allocator();
@@ -115,7 +100,7 @@ fn push_entries(
 }
 
 /// The same of all tables of a path.
-fn push_all_entries(script: &mut Vec<u8>, config: &Config, path: &[Name]) -> Result<(), AllocError>
+fn push_all_entries(script: &mut Vec<u8>, config: &Config, path: &[Name]) -> Made<()>
     ensures { OnOk result (script.new.items ≡ script.old.items ++ all_entries_lines config.now path.now) }
 {
     let names = config.table_names(path)?;
@@ -129,23 +114,22 @@ fn push_all_entries(script: &mut Vec<u8>, config: &Config, path: &[Name]) -> Res
 
 /// Puts the lines of a path behind a script: its load, and before it the entries of its tables where the text would be
 /// too long with them.
-fn push_lines(script: &mut Vec<u8>, config: &Config, path: &[Name]) -> Result<(), AllocError>
+fn push_lines(script: &mut Vec<u8>, config: &Config, path: &[Name]) -> Made<()>
     ensures { OnOk result (script.new.items ≡ script.old.items ++ path_lines config.now path.now) }
 {
     let mut text = String::new(*script.allocator());
     push_text(&mut text, config, path, true)?;
-    if text.as_bytes().len() <= TEXT_MAX {
-        return push_load(script, path, text.as_bytes());
+    if text.as_bytes().len() > TEXT_MAX {
+        push_all_entries(script, config, path)?;
+        text = String::new(*script.allocator());
+        push_text(&mut text, config, path, false)?;
     }
-    push_all_entries(script, config, path)?;
-    let mut rules = String::new(*script.allocator());
-    push_text(&mut rules, config, path, false)?;
-    push_load(script, path, rules.as_bytes())
+    push_load(script, path, text.as_bytes())
 }
 
 /// The script of a configuration: the lines of each path that a command may load, main last, so that a table of main
 /// isn't taken away before the rules that name it are there.
-pub(crate) fn script_of(alloc: Global, config: &Config) -> Result<Vec<u8>, AllocError>
+pub(crate) fn script_of(alloc: Global, config: &Config) -> Made<Vec<u8>>
     ensures { IfOk result (λ s. s.items ≡ script_of config.now) }
 {
     let mut script = Vec::new(alloc);

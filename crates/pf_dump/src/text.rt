@@ -1,47 +1,28 @@
 //! The text of a path.
 
-ghost use Rattle.std.specs.Prelude.{◌≡◌, ◌++◌, ◌≤◌, IfOk, OnOk, map, option_map, string_bytes};
+ghost use Rattle.std.specs.Prelude.{◌≡◌, ◌++◌, IfOk, OnOk, map, option_map, string_bytes};
 ghost use Rattle.std.specs.Option.{option_copied};
 ghost use Rattle.pf_rules.specs.Seen.{heading_of, rule_of, target_of};
-ghost use Rattle.pf_show.specs.Shown.{any_rule_line, line, table_parts};
-ghost use Rattle.pf_config.specs.Map as configs;
+ghost use Rattle.pf_show.specs.Shown.{line, table_parts};
 ghost use Rattle.pf_dump.specs.Written as text;
 ghost use Rattle.pf_dump.specs.Written.{defined, table_text, table_text_if, tables_text, heading_in, block_name, is_on};
-ghost use Rattle.pf_dump.specs.Written.{unnamed_in, has_rules, without_name, heading_text, rules_text, skip_at};
+ghost use Rattle.pf_dump.specs.Written.{heading_text, rules_text};
 ghost use Rattle.pf_dump.specs.Written.{path_text};
 ghost use Rattle.pf_dump.specs.inner.Seen.{opens_of};
 
+use crate::Made;
 use crate::same_rules::same_names;
 use pf_config::{Config, Table, joined};
 use pf_rules::{AnchorHeading, Item, Name, TableEntry};
 use pf_show::{SkipLine, TableLine, show_items};
-use std::alloc::{AllocError, Global};
+use std::alloc::Global;
 use std::slice;
 
 /// How deep rulesets are in one another at most: a path has at most 8 names.
 const DEPTH: u32 = 10;
 
-/// What a rule opens.
-#[derive(Drop)]
-enum Opens<'c> {
-    /// Nothing.
-    Closed,
-    /// A block that no command names; of an unnamed one its name.
-    Block(Option<&'c Name>),
-}
-
-impl Opens<'_> {
-    /// How many unnamed blocks it opens.
-    fn unnamed(&self) -> usize
-        ensures value { result ≡ unnamed_in (opens_of self.now) }
-        ensures few { result ≤ 1 }
-    {
-        match self {
-            Opens::Closed | Opens::Block(None) => 0,
-            Opens::Block(Some(_)) => 1,
-        }
-    }
-}
+/// What a rule opens: nothing, or a block that no command names, of an unnamed one with its name.
+type Opens<'c> = Option<Option<&'c Name>>;
 
 /// Puts the line that defines a table with these entries behind the text.
 fn push_line<'a>(
@@ -49,7 +30,7 @@ fn push_line<'a>(
     name: &'a str,
     table: &Table,
     entries: Option<&'a [TableEntry]>,
-) -> Result<(), AllocError>
+) -> Made<()>
     ensures { OnOk result (string_bytes out.new ≡ string_bytes out.old
         ++ line (table_parts (defined name.entry.now table.now (option_map (λ v. v.now) entries.entry)))) }
 {
@@ -63,12 +44,7 @@ fn push_line<'a>(
 }
 
 /// Puts the line that defines a table behind the text, with its entries if they are listed.
-fn push_table(
-    out: &mut String,
-    name: &str,
-    table: &Table,
-    is_listed: bool,
-) -> Result<(), AllocError>
+fn push_table(out: &mut String, name: &str, table: &Table, is_listed: bool) -> Made<()>
     ensures { OnOk result (string_bytes out.new ≡ string_bytes out.old ++ table_text is_listed name.now table.now) }
 {
     if is_listed {
@@ -79,12 +55,7 @@ fn push_table(
 }
 
 /// Puts the lines that define the tables of a path behind the text.
-fn push_tables(
-    out: &mut String,
-    config: &Config,
-    path: &[Name],
-    is_listed: bool,
-) -> Result<(), AllocError>
+fn push_tables(out: &mut String, config: &Config, path: &[Name], is_listed: bool) -> Made<()>
     ensures { OnOk result (string_bytes out.new ≡ string_bytes out.old ++ tables_text is_listed config.now path.now) }
 {
     let names = config.table_names(path)?;
@@ -112,14 +83,11 @@ fn block_name<'c>(
     alloc: Global,
     heading: &'c AnchorHeading,
     number: usize,
-) -> Result<Option<&'c Name>, AllocError>
+) -> Made<Option<&'c Name>>
     ensures { IfOk result (λ o. option_copied o ≡ block_name (target_of heading.now.target) number) }
 {
-    if heading.target.children {
-        return Ok(None);
-    }
     match heading.target.names.as_slice() {
-        [own] => {
+        [own] if !heading.target.children => {
             let name = format!(in alloc; "_{number}")?;
             Ok((own.as_bytes() == name.as_bytes()).then(|| own))
         }
@@ -140,41 +108,11 @@ fn is_on(item: &Item, names: &[Name]) -> bool
 fn has_target(items: &[Item], names: &[Name]) -> bool
     ensures { result ≡ text.has_target names.now (map rule_of items.now) }
 {
-    for item in items {
-        if is_on(item, names) {
-            return true;
-        }
-    }
-    false
+    items.iter().any(|item| is_on(item, names))
 }
 
-/// Whether there are rules at a path.
-fn has_rules(config: &Config, path: &[Name]) -> bool
-    ensures { result ≡ has_rules (configs.rules_at config.now path.now) }
-{
-    !config.items(path).is_empty()
-}
-
-/// Whether a rule of a hidden path carries the rules of its anchor: it is the first on it.
-fn carries(
-    alloc: Global,
-    config: &Config,
-    path: &[Name],
-    is_hidden: bool,
-    before: &[Item],
-    heading: &AnchorHeading,
-) -> Result<bool, AllocError>
-    ensures { IfOk result (λ b. b
-        ≡ text.carries config.now path.now is_hidden (map rule_of before.now) (target_of heading.now.target)) }
-{
-    if !is_hidden || heading.target.children || has_target(before, &heading.target.names) {
-        return Ok(false);
-    }
-    let below = joined(alloc, path, &heading.target.names)?;
-    Ok(has_rules(config, &below))
-}
-
-/// What a rule opens, with the rules before it; the number is the next unnamed block's.
+/// What a rule opens, with the rules before it; the number is the next unnamed block's. On a hidden path a rule that is
+/// the first on its anchor carries the anchor's rules.
 fn opened_by<'c>(
     alloc: Global,
     config: &Config,
@@ -183,34 +121,32 @@ fn opened_by<'c>(
     before: &[Item],
     item: &'c Item,
     number: usize,
-) -> Result<Opens<'c>, AllocError>
+) -> Made<Opens<'c>>
     ensures { IfOk result (λ o. opens_of o ≡ text.opens config.now path.now is_hidden (map rule_of before.now) number
         (heading_in (rule_of item.now))) }
 {
     let Some(heading) = heading_in(item) else {
-        return Ok(Opens::Closed);
+        return Ok(None);
     };
     if let Some(name) = block_name(alloc, heading, number)? {
-        return Ok(Opens::Block(Some(name)));
+        return Ok(Some(Some(name)));
     }
-    if carries(alloc, config, path, is_hidden, before, heading)? {
-        return Ok(Opens::Block(None));
+    if !is_hidden || heading.target.children || has_target(before, &heading.target.names) {
+        return Ok(None);
     }
-    Ok(Opens::Closed)
+    let below = joined(alloc, path, &heading.target.names)?;
+    let has_rules = !config.items(&below).is_empty();
+    Ok(has_rules.then(|| None))
 }
 
-/// The line of a rule.
-#[tactic(auto, using(crate::proofs::Rules::line_one))]
-fn line_of(alloc: Global, item: &Item) -> Result<String, AllocError>
-    ensures { IfOk result (λ s. string_bytes s ≡ any_rule_line (rule_of item.now)) }
+/// Puts an anchor rule's line behind the text, without the name of an unnamed block.
+fn push_heading(out: &mut String, unnamed: Option<&Name>, line: &str) -> Made<()>
+    ensures { OnOk result (string_bytes out.new
+        ≡ string_bytes out.old ++ heading_text (option_copied unnamed.entry) line.now) }
 {
-    show_items(alloc, slice::from_ref(item))
-}
-
-/// Puts an anchor rule's line behind the text, without its name.
-fn push_without(out: &mut String, name: &Name, line: &str) -> Result<(), AllocError>
-    ensures { OnOk result (string_bytes out.new ≡ string_bytes out.old ++ without_name name.now line.now) }
-{
+    let Some(name) = unnamed else {
+        return out.push_str(line);
+    };
     let text = name.as_str();
     let front = format!(in *out.allocator(); "anchor \"{text}\"")?;
     match line.strip_prefix(front.as_str()) {
@@ -219,19 +155,8 @@ fn push_without(out: &mut String, name: &Name, line: &str) -> Result<(), AllocEr
     }
 }
 
-/// Puts an anchor rule's line behind the text, without the name of an unnamed block.
-fn push_heading(out: &mut String, unnamed: Option<&Name>, line: &str) -> Result<(), AllocError>
-    ensures { OnOk result (string_bytes out.new
-        ≡ string_bytes out.old ++ heading_text (option_copied unnamed.entry) line.now) }
-{
-    match unnamed {
-        Some(name) => push_without(out, name, line),
-        None => out.push_str(line),
-    }
-}
-
 /// The path below which a rule's block is.
-fn below(alloc: Global, path: &[Name], item: &Item) -> Result<Vec<Name>, AllocError>
+fn below(alloc: Global, path: &[Name], item: &Item) -> Made<Vec<Name>>
     ensures { IfOk result (λ v. v.items ≡ path.now ++ text.names_in (heading_in (rule_of item.now))) }
 {
     match heading_in(item) {
@@ -241,14 +166,14 @@ fn below(alloc: Global, path: &[Name], item: &Item) -> Result<Vec<Name>, AllocEr
 }
 
 /// Puts the rules of a path behind the text, with the blocks that no command names, down to a depth.
-#[tactic(auto, using(crate::proofs::Rules::deeper))]
+#[tactic(auto, using(crate::proofs::Rules::deeper, crate::proofs::Rules::line_one))]
 fn push_rules(
     out: &mut String,
     config: &Config,
     path: &[Name],
     is_hidden: bool,
     depth: u32,
-) -> Result<(), AllocError>
+) -> Made<()>
     ensures { OnOk result (string_bytes out.new
         ≡ string_bytes out.old ++ rules_text depth is_hidden config.now path.now) }
 {
@@ -260,12 +185,12 @@ fn push_rules(
     let mut number = 1usize;
     for at in 0..items.len() {
         let item = &items[at];
-        let line = line_of(alloc, item)?;
+        let line = show_items(alloc, slice::from_ref(item))?;
         let opens = opened_by(alloc, config, path, is_hidden, &items[..at], item, number)?;
-        number += opens.unnamed();
+        number += usize::from(matches!(opens, Some(Some(_))));
         match opens {
-            Opens::Closed => out.push_str(line.as_str())?,
-            Opens::Block(unnamed) => {
+            None => out.push_str(line.as_str())?,
+            Some(unnamed) => {
                 push_heading(out, unnamed, line.as_str().trim_end())?;
                 out.push_str(" {\n")?;
                 let inner = below(alloc, path, item)?;
@@ -277,16 +202,6 @@ fn push_rules(
     Ok(())
 }
 
-/// Puts the line of the skipped interfaces behind the text; of another path than main's nothing.
-fn push_skip_at(out: &mut String, config: &Config, path: &[Name]) -> Result<(), AllocError>
-    ensures { OnOk result (string_bytes out.new ≡ string_bytes out.old ++ skip_at config.now path.now) }
-{
-    match path {
-        [] => write!(out, "{}", SkipLine(config.skip())),
-        [_, ..] => Ok(()),
-    }
-}
-
 /// Puts the text of a path behind another, as `pfctl -a PATH -f -` reads it: the skipped interfaces of main, the tables
 /// with their flags and, if they are listed, their entries, and the rules with the blocks that no command names.
 pub(crate) fn push_text(
@@ -294,10 +209,12 @@ pub(crate) fn push_text(
     config: &Config,
     path: &[Name],
     is_listed: bool,
-) -> Result<(), AllocError>
+) -> Made<()>
     ensures { OnOk result (string_bytes out.new ≡ string_bytes out.old ++ path_text is_listed config.now path.now) }
 {
-    push_skip_at(out, config, path)?;
+    if path.is_empty() {
+        write!(out, "{}", SkipLine(config.skip()))?;
+    }
     push_tables(out, config, path, is_listed)?;
     push_rules(out, config, path, false, DEPTH)
 }

@@ -1,9 +1,0 @@
-use Rattle.std.proofs.Common.{◌≡◌, map, drop}
-use Rattle.std.specs.List.{list_any}
-use Rattle.pf_config.specs.Map.{rules_at}
-use Rattle.nft_rules.specs.Deciding.{leads_back}
-use Rattle.nft_rules.proofs.rendering.some_leads_back.Given as goal
-
-abbrev pub invariant-loop-path : goal.invariant-loop-path
-invariant-loop-path l = list_any (λ p. list_any leads_back (rules_at l.fn.config p)) (map (λ p. p.now) (drop l.path-index l.paths))
-    ≡ list_any (λ p. list_any leads_back (rules_at l.fn.config p)) (map (λ p. p.now) l.fn.paths)
