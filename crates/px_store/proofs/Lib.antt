@@ -13,7 +13,7 @@
 -- - What is put leaves the rows beside its key as one list (`Puts.others`, over `without_rowid`): rows under another key
 --   follow (`others_at`), and so does what speaks of all rows, as that the last one is good (`Good.last_stays`).
 -- - What is put is a `NewRow`, what is asked a `Question` and what is made a `NewTable`: one function runs the statements
---   of each (`run`, `ask`, `run_table`), and one record states what a call makes of a connection (`Wrote`, `Looked`,
+--   of each (`run`, `ask`, `make_table`), and one record states what a call makes of a connection (`Wrote`, `Looked`,
 --   `Grows`). What is particular to a statement is in lemmas by cases (`NewRows`, `Questions`, `Makes`).
 -- - A text's meaning is a literal in `Texts.antt`, by `refl` with `unfolding understood everything`, of a question
 --   in each format. One lemma on `INSERT OR REPLACE .. VALUES` serves all six changes (`Puts.replaced`).
@@ -49,8 +49,9 @@
 --   handed on through a helper that takes any text it doesn't compute.
 -- - A fact of the matched error comes by its `field-0-is`: a clause `result ≡ Err Memory` isn't met by `refl` in the arm
 --   `Err(Trouble::Memory)`, but by `let e = c.in-Err-Memory.field-0-is in cc`.
--- - Four columns by `&&` met the limit of the search (`are_slot_columns`), where seven of another table closed: taking the
---   first ones off by a function of its own (`behind`) left one short answer.
+-- - Four columns by `&&` met the limit of the search, where seven of another table closed: with the last two in a
+--   function of their own (`are_proposal_columns`) no answer is needed.
+-- - `ok_or` of an `Option` over which a clause quantifies (`format_at`) isn't read off: a `match` is.
 -- - `yes` and `no` are constructors; a `where` takes no `abbrev` and no `unfolding`, and can't call the function that it
 --   is in.
 -- - Searching goals that stay open is what costs: a crate of a minute took two with six of them.

@@ -1,5 +1,4 @@
 -- The term at a place.
-use Rattle.std.specs.Prelude.{IsTrue, false}
 use Rattle.std.proofs.Common.{◌≡◌, ◌≤◌, ◌⊎◌, inl, inr, ℕ, zero, suc, ◌-◌, List, ◌∷◌, length, get_or, refl, ap, arith, sub-one}
 use Rattle.std.proofs.lemmas.List.{get_or_past}
 use Rattle.sqlite_value.specs.declared.value.Value.TheVariants.{Null}
@@ -16,8 +15,3 @@ pub term_none : (ops : List Op) (depth at : ℕ) → (depth ≡ 0) ⊎ (length o
 term_none ops zero at none = refl
 term_none ops (suc d) at (inl none) = absurd (omega arith)
 term_none ops (suc d) at (inr past) = ap (op_term (term_to ops d)) (get_or_past ops at (Literal Null) past)
-
--- what isn't behind the first isn't there
-pub not_second : {X : Type 0} (xs rest : List X) (a b : X) (tail : List X) → xs ≡ a ∷ rest → ((r : List X) → rest ≡ b ∷ r → ⊥)
-    → (IsTrue false → xs ≡ a ∷ b ∷ tail) × (xs ≡ a ∷ b ∷ tail → IsTrue false)
-not_second xs rest a b tail is none = (λ t. absurd cc, λ e. let h : rest ≡ b ∷ tail = cc in absurd (none tail h))

@@ -13,10 +13,10 @@ ghost use Rattle.px_store.specs.Judging.{refusal, IsOwn};
 
 use crate::calls::{Identity, Trouble, cause_of};
 use crate::fault::{Adopt, AdoptFault};
-use crate::finding::{judge, read_store};
+use crate::finding::{format_at, judge, read_store};
 use crate::formats::Format;
 use crate::making::{make_anew, make_rest};
-use crate::tables::{format_in, has_none};
+use crate::tables::has_none;
 use sqlite::{Alter, Connection, Error};
 
 fn fault_of<S: Alter>(conn: &mut Connection<S>, error: Error) -> AdoptFault
@@ -117,9 +117,6 @@ pub(crate) fn bring<S: Alter>(conn: &mut Connection<S>, identity: Identity) -> A
     if has_none(conn.schema()) {
         return bring_none(conn, identity);
     }
-    let found = format_in(conn.schema());
-    match found {
-        Some(format) => bring_at(conn, identity, format),
-        None => Err(AdoptFault::StoreVersion),
-    }
+    let format = format_at(conn)?;
+    bring_at(conn, identity, format)
 }

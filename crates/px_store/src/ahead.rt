@@ -18,12 +18,6 @@ pub(crate) struct Ahead {
     pub(crate) rows: VecDeque<Row>,
 }
 
-fn is_at(row: &Row, position: u32) -> bool
-    ensures { result ≡ is_key position (column row.now 0) }
-{
-    matches!(row.get_ref(0), Ok(ValueRef::Int(n)) if n == i64::from(position))
-}
-
 /// Whether the keys are numbers from `first` up to `end`, each above the one before.
 #[tactic(auto, using(crate::proofs::Turns::rises_more))]
 fn are_rising(rows: &[Row], first: u32, end: u32) -> bool
@@ -69,7 +63,9 @@ impl Ahead {
     fn has_row(&self) -> bool
         ensures { result ≡ has_first self.now.next self.now.rows.items }
     {
-        self.rows.front().is_some_and(|row| is_at(row, self.next))
+        let next = i64::from(self.next);
+        let row = self.rows.front();
+        row.is_some_and(|row| matches!(row.get_ref(0), Ok(ValueRef::Int(n)) if n == next))
     }
 
     /// The row of the position that comes next, if it has one. The position is passed.

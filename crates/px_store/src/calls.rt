@@ -37,13 +37,6 @@ pub(crate) fn signed(n: u64) -> i64
     n as i64
 }
 
-/// Whether the system was out of memory for a statement.
-fn is_memory(error: &Error) -> bool
-    ensures { IsTrue result ↔ (error.now ≡ Error.SqliteFailure ErrorCode.OutOfMemory) }
-{
-    matches!(error, Error::SqliteFailure(ErrorCode::OutOfMemory))
-}
-
 /// Whether it was out of memory and the connection still serves: it reads an empty text.
 pub(crate) fn cause_of<S: Alter>(conn: &mut Connection<S>, error: Error) -> Trouble
     ensures memory { result ≡ Trouble.Memory → error ≡ Error.SqliteFailure ErrorCode.OutOfMemory }
@@ -53,12 +46,9 @@ pub(crate) fn cause_of<S: Alter>(conn: &mut Connection<S>, error: Error) -> Trou
     ensures crash { HasCleanDisk (state S.Store conn.new) →
         LeavesOld (state S.Store conn.old) (state S.Store conn.new) }
 {
-    if !is_memory(&error) {
-        return Trouble::Failed;
-    }
-    match conn.prepare("") {
-        Ok(_probe) => Trouble::Memory,
-        Err(_) => Trouble::Failed,
+    match error {
+        Error::SqliteFailure(ErrorCode::OutOfMemory) if conn.prepare("").is_ok() => Trouble::Memory,
+        _ => Trouble::Failed,
     }
 }
 
@@ -165,6 +155,30 @@ impl Question {
             Question::Learned { .. } | Question::Span { .. } | Question::End => 3,
         }
     }
+
+    /// Its statement.
+    fn text(self) -> &'static str
+        ensures { result.now ≡ asked_by self }
+    {
+        match self {
+            Question::Meta => {
+                "SELECT id, format, cluster, members, node, round, number FROM meta WHERE id = ?1"
+            }
+            Question::Floor => "SELECT id, ballot FROM floor WHERE id = ?1",
+            Question::Slot { .. } => {
+                "SELECT position, promised, ballot, entry FROM slots WHERE position = ?1"
+            }
+            Question::Learned { .. } => "SELECT position, entry FROM learned WHERE position = ?1",
+            Question::Span { .. } => {
+                "SELECT position, entry FROM learned WHERE position >= ?1 AND position < ?2"
+            }
+            Question::Top => {
+                "SELECT position FROM slots WHERE ballot > 0 ORDER BY position DESC LIMIT 1"
+            }
+            Question::End => "SELECT position FROM learned ORDER BY position DESC LIMIT 1",
+            Question::LastSlot => "SELECT position FROM slots ORDER BY position DESC LIMIT 1",
+        }
+    }
 }
 
 /// Runs the statement.
@@ -176,39 +190,15 @@ fn ask<S: Alter>(conn: &mut Connection<S>, question: Question) -> Result<Vec<Row
     ensures survives { Survives (state S.Store conn.old) (state S.Store conn.new)
         (CommitsShowing (asked_by question) (given_with question) (state S.Store conn.old)) }
 {
+    let text = question.text();
     match question {
-        Question::Meta => conn.query_all(
-            "SELECT id, format, cluster, members, node, round, number FROM meta WHERE id = ?1",
-            params![1u32],
-        ),
-        Question::Floor => conn.query_all(
-            "SELECT id, ballot FROM floor WHERE id = ?1",
-            params![1u32],
-        ),
-        Question::Slot { position } => conn.query_all(
-            "SELECT position, promised, ballot, entry FROM slots WHERE position = ?1",
+        Question::Meta | Question::Floor => conn.query_all(text, params![1u32]),
+        Question::Slot { position } | Question::Learned { position } => conn.query_all(
+            text,
             params![position],
         ),
-        Question::Learned { position } => conn.query_all(
-            "SELECT position, entry FROM learned WHERE position = ?1",
-            params![position],
-        ),
-        Question::Span { first, end } => conn.query_all(
-            "SELECT position, entry FROM learned WHERE position >= ?1 AND position < ?2",
-            params![first, end],
-        ),
-        Question::Top => conn.query_all(
-            "SELECT position FROM slots WHERE ballot > 0 ORDER BY position DESC LIMIT 1",
-            &[],
-        ),
-        Question::End => conn.query_all(
-            "SELECT position FROM learned ORDER BY position DESC LIMIT 1",
-            &[],
-        ),
-        Question::LastSlot => conn.query_all(
-            "SELECT position FROM slots ORDER BY position DESC LIMIT 1",
-            &[],
-        ),
+        Question::Span { first, end } => conn.query_all(text, params![first, end]),
+        Question::Top | Question::End | Question::LastSlot => conn.query_all(text, &[]),
     }
 }
 

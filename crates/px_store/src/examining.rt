@@ -8,9 +8,8 @@ ghost use Rattle.px_store.specs.Judging.{refusal, reopen_refusal, owner_in, is_m
 
 use crate::calls::{Identity, Question};
 use crate::fault::{Adopt, AdoptFault};
-use crate::finding::{judge, look, owner_in_rows, read_store, refuse_lost, rows_in};
+use crate::finding::{format_at, judge, look, owner_in_rows, read_store, refuse_lost, rows_in};
 use crate::formats::Format;
-use crate::tables::format_in;
 use sqlite::{Alter, Connection};
 
 /// A store that has the tables of a format.
@@ -28,10 +27,8 @@ fn examine_at<S: Alter>(conn: &mut Connection<S>, identity: Identity, format: Fo
         IfErr result (λ e. IsVerdict e → refusal format identity (state S.Store conn.old).now.trees ≡ Some e) }
 {
     let read = read_store(conn, format)?;
-    match judge(&read, format.number(), identity) {
-        Ok(_found) => Ok(()),
-        Err(fault) => Err(fault),
-    }
+    let _found = judge(&read, format.number(), identity)?;
+    Ok(())
 }
 
 /// What [`SqlRecords::reopen`](crate::SqlRecords::reopen) would refuse of a store, by its rows: 73, 72 and 71, in this
@@ -53,12 +50,8 @@ pub fn examine<S: Alter>(conn: &mut Connection<S>, identity: Identity) -> Result
     ensures judged { HasCleanDisk (state S.Store conn.new) → (f : Format) → Began f (state S.Store conn.old) →
         IfErr result (λ e. IsVerdict e → reopen_refusal f identity (state S.Store conn.old).now.trees ≡ Some e) }
 {
-    refuse_lost(conn)?;
-    let found = format_in(conn.schema());
-    match found {
-        Some(format) => examine_at(conn, identity, format),
-        None => Err(AdoptFault::StoreVersion),
-    }
+    let format = refuse_lost(conn)?;
+    examine_at(conn, identity, format)
 }
 
 /// Whose a store is, by its row for the whole node. 70 in a transaction, or where the database doesn't answer; 73 where
@@ -84,16 +77,7 @@ pub fn owner_in<S: Alter>(conn: &mut Connection<S>) -> Result<Identity, AdoptFau
     ensures stop { HasCleanDisk (state S.Store conn.new) →
         LeavesOld (state S.Store conn.old) (state S.Store conn.new) }
 {
-    if !conn.is_autocommit() {
-        return Err(AdoptFault::Failed);
-    }
-    let found = format_in(conn.schema());
-    let Some(format) = found else {
-        return Err(AdoptFault::StoreVersion);
-    };
-    let rows = match look(conn, format, Question::Meta) {
-        Ok(rows) => rows,
-        Err(fault) => return Err(fault),
-    };
+    let format = format_at(conn)?;
+    let rows = look(conn, format, Question::Meta)?;
     owner_in_rows(rows_in(&rows), format.number())
 }

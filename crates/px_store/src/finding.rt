@@ -19,18 +19,9 @@ ghost use Rattle.px_store.specs.declared.reading.TheConstants.{NUMBERS};
 use crate::calls::{Identity, Question, Trouble, get};
 use crate::fault::{Adopt, AdoptFault};
 use crate::formats::Format;
-use crate::reading::{NUMBERS, ReadFault, floor_in_rows, number};
+use crate::reading::{Found, ReadFault, floor_in_rows, found_in_row, number};
 use crate::tables::format_in;
 use sqlite::{Alter, Connection, Row};
-
-/// What the row for the whole node has; where there is none it is the one to be made, of the node that opens.
-#[derive(Clone, Copy, PartialEq, Eq)]
-pub(crate) struct Found {
-    pub(crate) has_row: bool,
-    pub(crate) owner: Identity,
-    pub(crate) round: u64,
-    pub(crate) number: u64,
-}
 
 /// The rows that answer a question, where the format has its table.
 pub(crate) fn look<S: Alter>(
@@ -62,10 +53,32 @@ pub(crate) fn look<S: Alter>(
     }
 }
 
+/// The format of a store: 70 in a transaction, 73 where the tables aren't exactly those of a format.
+pub(crate) fn format_at<S: Alter>(conn: &Connection<S>) -> Adopt<Format>
+    ensures known { IfOk result (λ f. Began f (state S.Store conn.now)) }
+    ensures one { (f : Format) → Began f (state S.Store conn.now) → IfOk result (λ format. format ≡ f) }
+    ensures unknown { (state S.Store conn.now).in_transaction ≡ false →
+        ((f : Format) → (state S.Store conn.now).now.schema ≡ schema_at f → ⊥) → result ≡ Err AdoptFault.StoreVersion }
+    ensures settled { IsRefused result → (state S.Store conn.now).in_transaction ≡ false }
+    ensures none { IsRefused result → (f : Format) → Began f (state S.Store conn.now) → ⊥ }
+    ensures why { OnErr result ((result ≡ Err AdoptFault.Failed) ⊎ (result ≡ Err AdoptFault.StoreVersion)) }
+    ensures version { IfErr result (λ e. IsVerdict e → e ≡ AdoptFault.StoreVersion) }
+    ensures within { result ≡ Err AdoptFault.Failed → (state S.Store conn.now).in_transaction ≡ true }
+{
+    if !conn.is_autocommit() {
+        return Err(AdoptFault::Failed);
+    }
+    match format_in(conn.schema()) {
+        Some(format) => Ok(format),
+        None => Err(AdoptFault::StoreVersion),
+    }
+}
+
 /// Refuses a store that has lost what its node promised: 73 without the tables of a format, 72 without the row for the
-/// whole node.
-pub(crate) fn refuse_lost<S: Alter>(conn: &mut Connection<S>) -> Result<(), AdoptFault>
-    ensures known { OnOk result ((f : Format) × Began f (state S.Store conn.old)) }
+/// whole node. Of any other it gives the format.
+pub(crate) fn refuse_lost<S: Alter>(conn: &mut Connection<S>) -> Adopt<Format>
+    ensures known { IfOk result (λ f. Began f (state S.Store conn.old)) }
+    ensures one { (f : Format) → Began f (state S.Store conn.old) → IfOk result (λ format. format ≡ f) }
     ensures unknown { (state S.Store conn.old).in_transaction ≡ false →
         ((f : Format) → (state S.Store conn.old).now.schema ≡ schema_at f → ⊥) →
         (result ≡ Err AdoptFault.StoreVersion) × (conn.new ≡ conn.old) }
@@ -83,19 +96,12 @@ pub(crate) fn refuse_lost<S: Alter>(conn: &mut Connection<S>) -> Result<(), Adop
     ensures crash { HasCleanDisk (state S.Store conn.new) →
         LeavesOld (state S.Store conn.old) (state S.Store conn.new) }
 {
-    if !conn.is_autocommit() {
-        return Err(AdoptFault::Failed);
-    }
-    let found = format_in(conn.schema());
-    let Some(format) = found else {
-        return Err(AdoptFault::StoreVersion);
-    };
+    let format = format_at(conn)?;
     let rows = look(conn, format, Question::Meta)?;
-    if has_rows(rows_in(&rows)) {
-        Ok(())
-    } else {
-        Err(AdoptFault::BadStore)
+    if !has_rows(rows_in(&rows)) {
+        return Err(AdoptFault::BadStore);
     }
+    Ok(format)
 }
 
 /// Whether the row has this format.
@@ -110,79 +116,6 @@ fn has_format(row: &Row, format: u64) -> Result<bool, AdoptFault>
     }
 }
 
-/// Whether there is such a member of such a cluster.
-fn is_member_of(cluster: u64, members: u64, node: u64) -> bool
-    ensures { result ≡ is_member_of cluster members node }
-{
-    cluster <= 4_294_967_295 && 1 <= members && members <= 15 && node < members
-}
-
-/// What the row for the whole node has, if a node writes such a row.
-pub(crate) fn found_in_row(row: &Row) -> Result<Found, ReadFault>
-    ensures good { OnOk result ((names_member row.now && has_numbers row.now) ≡ true) }
-    ensures bad { result ≡ Err ReadFault.Bad → (names_member row.now && has_numbers row.now) ≡ false }
-    ensures within { IfOk result (λ f. is_member_of f.owner.cluster f.owner.members f.owner.node ≡ true) }
-    ensures member { IfOk result (λ f. number_in (column row.now 3) ≡ f.owner.members) }
-    ensures cluster { IfOk result (λ f. number_in (column row.now 2) ≡ f.owner.cluster) }
-    ensures node { IfOk result (λ f. number_in (column row.now 4) ≡ f.owner.node) }
-    ensures round { IfOk result (λ f. number_at 5 (row.now ∷ []) ≡ f.round) }
-    ensures number { IfOk result (λ f. number_at 6 (row.now ∷ []) ≡ f.number) }
-    ensures low { IfOk result (λ f. f.round < NUMBERS) }
-    ensures most { IfOk result (λ f. f.number ≤ NUMBERS) }
-{
-    let cluster = number(row, 2)?;
-    let members = number(row, 3)?;
-    let node = number(row, 4)?;
-    if !is_member_of(cluster, members, node) {
-        return Err(ReadFault::Bad);
-    }
-    let round = number(row, 5)?;
-    let counted = number(row, 6)?;
-    if round >= NUMBERS || counted > NUMBERS {
-        return Err(ReadFault::Bad);
-    }
-    Ok(Found {
-        has_row: true,
-        owner: Identity {
-            cluster: cluster as u32,
-            members: members as u8,
-            node: node as u8,
-        },
-        round,
-        number: counted,
-    })
-}
-
-/// Whether the store has a slot.
-fn some_slot<S: Alter>(conn: &mut Connection<S>, format: Format) -> Result<bool, AdoptFault>
-    ensures why { OnErr result ((result ≡ Err AdoptFault.Memory) ⊎ (result ≡ Err AdoptFault.Failed)) }
-    ensures value { HasCleanDisk (state S.Store conn.new) → Began format (state S.Store conn.old) →
-        IfOk result (λ b. b ≡ has_rows ((state S.Store conn.old).now.trees 1)) }
-    ensures clean { HasCleanDisk (state S.Store conn.new) → HasCleanDisk (state S.Store conn.old) }
-    ensures stays { HasCleanDisk (state S.Store conn.new) → Began format (state S.Store conn.old) →
-        OnOk result (IsSame (state S.Store conn.old) (state S.Store conn.new)) }
-    ensures crash { HasCleanDisk (state S.Store conn.new) → Began format (state S.Store conn.old) →
-        LeavesOld (state S.Store conn.old) (state S.Store conn.new) }
-{
-    let rows = look(conn, format, Question::LastSlot)?;
-    Ok(has_rows(rows_in(&rows)))
-}
-
-/// Whether the store has a learned entry.
-fn some_entry<S: Alter>(conn: &mut Connection<S>, format: Format) -> Result<bool, AdoptFault>
-    ensures why { OnErr result ((result ≡ Err AdoptFault.Memory) ⊎ (result ≡ Err AdoptFault.Failed)) }
-    ensures value { HasCleanDisk (state S.Store conn.new) → Began format (state S.Store conn.old) →
-        IfOk result (λ b. b ≡ has_rows (trees_at format (state S.Store conn.old).now.trees 3)) }
-    ensures clean { HasCleanDisk (state S.Store conn.new) → HasCleanDisk (state S.Store conn.old) }
-    ensures stays { HasCleanDisk (state S.Store conn.new) → Began format (state S.Store conn.old) →
-        OnOk result (IsSame (state S.Store conn.old) (state S.Store conn.new)) }
-    ensures crash { HasCleanDisk (state S.Store conn.new) → Began format (state S.Store conn.old) →
-        LeavesOld (state S.Store conn.old) (state S.Store conn.new) }
-{
-    let rows = look(conn, format, Question::End)?;
-    Ok(has_rows(rows_in(&rows)))
-}
-
 /// Whether there is a row.
 fn has_rows(rows: &[Row]) -> bool
     ensures { result ≡ has_rows rows.now }
@@ -195,8 +128,8 @@ fn has_rows(rows: &[Row]) -> bool
 pub(crate) struct Read {
     meta: Option<Vec<Row>>,
     floor: Option<Vec<Row>>,
-    has_slot: bool,
-    has_entry: bool,
+    last_slot: Option<Vec<Row>>,
+    last_entry: Option<Vec<Row>>,
 }
 
 /// Reads a store that has the tables of a format.
@@ -207,9 +140,10 @@ pub(crate) fn read_store<S: Alter>(conn: &mut Connection<S>, format: Format) -> 
         IfOk result (λ r. IsAlike (seen floor_columns (trees_at format (state S.Store conn.old).now.trees 2) 1)
         (rows_in r.floor)) }
     ensures slots { HasCleanDisk (state S.Store conn.new) → Began format (state S.Store conn.old) →
-        IfOk result (λ r. r.has_slot ≡ has_rows ((state S.Store conn.old).now.trees 1)) }
+        IfOk result (λ r. has_rows (rows_in r.last_slot) ≡ has_rows ((state S.Store conn.old).now.trees 1)) }
     ensures entries { HasCleanDisk (state S.Store conn.new) → Began format (state S.Store conn.old) →
-        IfOk result (λ r. r.has_entry ≡ has_rows (trees_at format (state S.Store conn.old).now.trees 3)) }
+        IfOk result (λ r. has_rows (rows_in r.last_entry) ≡
+        has_rows (trees_at format (state S.Store conn.old).now.trees 3)) }
     ensures why { OnErr result ((result ≡ Err AdoptFault.Memory) ⊎ (result ≡ Err AdoptFault.Failed)) }
     ensures clean { HasCleanDisk (state S.Store conn.new) → HasCleanDisk (state S.Store conn.old) }
     ensures stays { HasCleanDisk (state S.Store conn.new) → Began format (state S.Store conn.old) →
@@ -219,13 +153,13 @@ pub(crate) fn read_store<S: Alter>(conn: &mut Connection<S>, format: Format) -> 
 {
     let meta = look(conn, format, Question::Meta)?;
     let floor = look(conn, format, Question::Floor)?;
-    let has_slot = some_slot(conn, format)?;
-    let has_entry = some_entry(conn, format)?;
+    let last_slot = look(conn, format, Question::LastSlot)?;
+    let last_entry = look(conn, format, Question::End)?;
     Ok(Read {
         meta,
         floor,
-        has_slot,
-        has_entry,
+        last_slot,
+        last_entry,
     })
 }
 
@@ -296,10 +230,10 @@ pub(crate) fn rows_in(rows: &Option<Vec<Row>>) -> &[Row]
 /// Judges a store: 73, 72, 71, in this order.
 pub(crate) fn judge(read: &Read, format: u64, identity: Identity) -> Result<Found, AdoptFault>
     ensures adopted { OnOk result (refusal_of format identity (rows_in read.now.meta) (rows_in read.now.floor)
-        (read.now.has_slot || read.now.has_entry) ≡ None) }
+        (has_rows (rows_in read.now.last_slot) || has_rows (rows_in read.now.last_entry)) ≡ None) }
     ensures refused { IfErr result (λ e. IsVerdict e →
         refusal_of format identity (rows_in read.now.meta) (rows_in read.now.floor)
-        (read.now.has_slot || read.now.has_entry) ≡ Some e) }
+        (has_rows (rows_in read.now.last_slot) || has_rows (rows_in read.now.last_entry)) ≡ Some e) }
     ensures few { IfOk result (λ f. length (rows_in read.now.meta) < 2) }
     ensures round { IfOk result (λ f. number_at 5 (rows_in read.now.meta) ≡ f.round) }
     ensures number { IfOk result (λ f. number_at 6 (rows_in read.now.meta) ≡ f.number) }
@@ -309,7 +243,8 @@ pub(crate) fn judge(read: &Read, format: u64, identity: Identity) -> Result<Foun
     let floor = rows_in(&read.floor);
     match rows_in(&read.meta) {
         [] => {
-            if has_rows(floor) || read.has_slot || read.has_entry {
+            let has_slot = has_rows(rows_in(&read.last_slot));
+            if has_rows(floor) || has_slot || has_rows(rows_in(&read.last_entry)) {
                 return Err(AdoptFault::BadStore);
             }
             Ok(Found {

@@ -113,26 +113,17 @@ impl<S: Alter> SqlRecords<S> {
         ensures later { 0 < self.old.failures → self.new ≡ self.old }
         ensures same_identity { self.new.identity ≡ self.old.identity }
     {
+        let members = self.identity.members;
         self.read_ahead(position);
         if self.failures > 0 {
             return Err(StoreFault::Failed);
         }
         if position == self.ahead.next && position < self.ahead.end {
             let row = self.ahead.pass();
-            return match entry_in_rows(row.as_slice(), self.identity.members, position) {
-                Ok(entry) => Ok(entry),
-                Err(ReadFault::Memory) => Err(StoreFault::Memory),
-                Err(ReadFault::Bad) => Err(StoreFault::BadStore),
-            };
+            return stored(entry_in_rows(row.as_slice(), members, position));
         }
-        match self.look(Question::Learned { position }) {
-            Ok(rows) => match entry_in_rows(rows.as_slice(), self.identity.members, position) {
-                Ok(entry) => Ok(entry),
-                Err(ReadFault::Memory) => Err(StoreFault::Memory),
-                Err(ReadFault::Bad) => Err(StoreFault::BadStore),
-            },
-            Err(fault) => Err(fault),
-        }
+        let rows = self.look(Question::Learned { position })?;
+        stored(entry_in_rows(rows.as_slice(), members, position))
     }
 
     #[tactic(auto, using(crate::proofs::Ends::ends_at))]

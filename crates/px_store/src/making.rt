@@ -23,31 +23,25 @@ pub(crate) enum NewTable {
     Learned,
 }
 
-/// Runs the statement that makes a table.
-fn run_table<S: Alter>(tx: &mut Transaction<'_, S>, table: NewTable) -> Result<usize, Error>
-    ensures same_reference { tx.new.conn.ghost_name ≡ tx.old.conn.ghost_name }
-    ensures runs { HasCleanDisk (state S.Store tx.new.conn.now) →
-        IsTrue (state S.Store tx.old.conn.now).in_transaction →
-        ExecutesInside 0 (text_of table) [] (state S.Store tx.old.conn.now) (state S.Store tx.new.conn.now) result }
-    ensures survives { Survives (state S.Store tx.old.conn.now) (state S.Store tx.new.conn.now) (λ _. ⊥) }
-{
-    match table {
-        NewTable::Meta => tx.execute(
-            "CREATE TABLE meta (id INTEGER PRIMARY KEY CHECK (id = 1), format INTEGER NOT NULL, cluster INTEGER NOT NULL, members INTEGER NOT NULL, node INTEGER NOT NULL, round INTEGER NOT NULL, number INTEGER NOT NULL) STRICT",
-            &[],
-        ),
-        NewTable::Slots => tx.execute(
-            "CREATE TABLE slots (position INTEGER PRIMARY KEY, promised INTEGER NOT NULL, ballot INTEGER NOT NULL, entry BLOB NOT NULL) STRICT",
-            &[],
-        ),
-        NewTable::Floor => tx.execute(
-            "CREATE TABLE floor (id INTEGER PRIMARY KEY CHECK (id = 1), ballot INTEGER NOT NULL) STRICT",
-            &[],
-        ),
-        NewTable::Learned => tx.execute(
-            "CREATE TABLE learned (position INTEGER PRIMARY KEY, entry BLOB NOT NULL) STRICT",
-            &[],
-        ),
+impl NewTable {
+    /// The statement that makes it.
+    fn text(self) -> &'static str
+        ensures { result.now ≡ text_of self }
+    {
+        match self {
+            NewTable::Meta => {
+                "CREATE TABLE meta (id INTEGER PRIMARY KEY CHECK (id = 1), format INTEGER NOT NULL, cluster INTEGER NOT NULL, members INTEGER NOT NULL, node INTEGER NOT NULL, round INTEGER NOT NULL, number INTEGER NOT NULL) STRICT"
+            }
+            NewTable::Slots => {
+                "CREATE TABLE slots (position INTEGER PRIMARY KEY, promised INTEGER NOT NULL, ballot INTEGER NOT NULL, entry BLOB NOT NULL) STRICT"
+            }
+            NewTable::Floor => {
+                "CREATE TABLE floor (id INTEGER PRIMARY KEY CHECK (id = 1), ballot INTEGER NOT NULL) STRICT"
+            }
+            NewTable::Learned => {
+                "CREATE TABLE learned (position INTEGER PRIMARY KEY, entry BLOB NOT NULL) STRICT"
+            }
+        }
     }
 }
 
@@ -62,35 +56,8 @@ fn make_table<S: Alter>(tx: &mut Transaction<'_, S>, table: NewTable) -> Result<
         (state S.Store tx.old.conn.now).now.schema ≡ schema_before table →
         OnOk result (Grows table (state S.Store tx.old.conn.now) (state S.Store tx.new.conn.now)) }
 {
-    run_table(tx, table)?;
+    tx.execute(table.text(), &[])?;
     Ok(())
-}
-
-fn run_row<S: Alter>(
-    tx: &mut Transaction<'_, S>,
-    identity: Identity,
-    round: u64,
-    number: u64,
-) -> Result<usize, Error>
-    requires round { round < INTEGERS }
-    requires number { number < INTEGERS }
-    ensures same_reference { tx.new.conn.ghost_name ≡ tx.old.conn.ghost_name }
-    ensures runs { HasCleanDisk (state S.Store tx.new.conn.now) →
-        IsTrue (state S.Store tx.old.conn.now).in_transaction →
-        ExecutesInside 0 put_meta (meta_params identity.cluster identity.members identity.node round number)
-        (state S.Store tx.old.conn.now) (state S.Store tx.new.conn.now) result }
-    ensures survives { Survives (state S.Store tx.old.conn.now) (state S.Store tx.new.conn.now) (λ _. ⊥) }
-{
-    tx.execute(
-        "INSERT OR REPLACE INTO meta VALUES (1, 3, ?1, ?2, ?3, ?4, ?5)",
-        params![
-            identity.cluster,
-            u32::from(identity.members),
-            u32::from(identity.node),
-            signed(round),
-            signed(number)
-        ],
-    )
 }
 
 fn set_row<S: Alter>(
@@ -110,7 +77,16 @@ fn set_row<S: Alter>(
         (state S.Store tx.old.conn.now).now.schema ≡ schema_3 →
         OnOk result (PutsMeta identity round number (state S.Store tx.old.conn.now) (state S.Store tx.new.conn.now)) }
 {
-    run_row(tx, identity, round, number)?;
+    tx.execute(
+        "INSERT OR REPLACE INTO meta VALUES (1, 3, ?1, ?2, ?3, ?4, ?5)",
+        params![
+            identity.cluster,
+            u32::from(identity.members),
+            u32::from(identity.node),
+            signed(round),
+            signed(number)
+        ],
+    )?;
     Ok(())
 }
 

@@ -16,11 +16,11 @@ use crate::calls::{Identity, Question};
 use crate::fault::{Adopt, AdoptFault};
 use crate::finding::{look, rows_in};
 use crate::formats::Format;
-use crate::reading::{Numbers, ReadFault, floor_in_rows, meta_in_rows};
+use crate::reading::{Found, ReadFault, floor_in_rows, meta_in_rows};
 use px_model::Meta;
 use sqlite::{Alter, Connection};
 
-fn meta_of<S: Alter>(conn: &mut Connection<S>, identity: Identity) -> Result<Numbers, AdoptFault>
+fn meta_of<S: Alter>(conn: &mut Connection<S>, identity: Identity) -> Adopt<Found>
     ensures why { OnErr result ((result ≡ Err AdoptFault.Memory) ⊎ (result ≡ Err AdoptFault.Failed)) }
     ensures rows { HasCleanDisk (state S.Store conn.new) → Began Format.Three (state S.Store conn.old) →
         IfOk result (λ m. seen meta_columns

@@ -1,6 +1,6 @@
 //! The decoding of an answer's rows.
 
-ghost use Rattle.std.specs.Prelude.{◌≡◌, ◌≢◌, ℕ, true, false, [], ◌∷◌, Err, IfOk, OnOk, OnErr};
+ghost use Rattle.std.specs.Prelude.{◌≡◌, ◌≢◌, ℕ, true, false, ◌&&◌, [], ◌∷◌, Err, IfOk, OnOk, OnErr};
 ghost use Rattle.std.specs.Prelude.{◌<◌, ◌≤◌, ◌^◌, MatchResult};
 ghost use Rattle.sqlite_value.specs.Order.{column};
 ghost use Rattle.px_model.specs.Bounds.{AnyCommand};
@@ -16,7 +16,7 @@ ghost use Rattle.px_store.specs.Seen.{is_learned_row, are_learned_rows, learned_
 ghost use Rattle.px_store.specs.inner.Seen.{IsEndOf, HasNumber, IsMetaIn};
 ghost use Rattle.px_store.specs.inner.Seen.{IsFloorIn};
 ghost use Rattle.px_store.specs.inner.Bytes.{read_in, is_entry_in};
-ghost use Rattle.px_store.specs.Judging.{are_floor_rows};
+ghost use Rattle.px_store.specs.Judging.{are_floor_rows, names_member, has_numbers, is_member_of};
 ghost use Rattle.px_store.specs.declared.reading.TheConstants.{NUMBERS};
 
 use crate::calls::Identity;
@@ -97,25 +97,19 @@ fn is_ballot_by(ballot: u64, members: u8) -> bool
     ballot / 256 >= 1 && ballot / 256 < NUMBERS && ballot % 256 < u64::from(members)
 }
 
-fn is_promised_by(ballot: u64, members: u8) -> bool
-    ensures { result ≡ is_none_or_ballot members ballot }
-{
-    ballot == 0 || is_ballot_by(ballot, members)
-}
-
 fn is_proposal_by(ballot: u64, entry: &[u8], members: u8) -> bool
     ensures { result ≡ is_proposal members ballot entry.now }
 {
-    if ballot == 0 {
-        return entry.len() == 0;
+    match ballot {
+        0 => entry.is_empty(),
+        _ => is_ballot_by(ballot, members) && is_entry_by(entry, members),
     }
-    is_ballot_by(ballot, members) && is_entry_by(entry, members)
 }
 
 fn is_slot_by(promised: u64, ballot: u64, entry: &[u8], members: u8) -> bool
     ensures { result ≡ is_slot members promised ballot entry.now }
 {
-    is_promised_by(promised, members)
+    (promised == 0 || is_ballot_by(promised, members))
         && ballot <= promised
         && is_proposal_by(ballot, entry, members)
 }
@@ -157,18 +151,6 @@ pub(crate) fn slot_in_rows(rows: &[Row], members: u8, position: u32, alloc: Glob
     }
 }
 
-fn entry_in_row(row: &Row, members: u8, position: u32) -> Read<Vec<u8>>
-    ensures good { IfOk result (λ e. is_learned_row members position row.now ≡ true) }
-    ensures value { IfOk result (λ e. bytes_in (column row.now 1) ≡ e.items) }
-    ensures fits { IfOk result (λ e. is_entry members e.items ≡ true) }
-    ensures bad { result ≡ Err ReadFault.Bad → is_learned_row members position row.now ≡ false }
-{
-    require(number(row, 0)? == u64::from(position))?;
-    let entry = bytes(row, 1)?;
-    require(is_entry_by(entry.as_slice(), members))?;
-    Ok(entry)
-}
-
 /// The learned entry of an answer.
 pub(crate) fn entry_in_rows(rows: &[Row], members: u8, position: u32) -> Read<Option<Vec<u8>>>
     ensures good { IfOk result (λ e. are_learned_rows members position rows.now ≡ true) }
@@ -178,7 +160,12 @@ pub(crate) fn entry_in_rows(rows: &[Row], members: u8, position: u32) -> Read<Op
 {
     match rows {
         [] => Ok(None),
-        [row] => Ok(Some(entry_in_row(row, members, position)?)),
+        [row] => {
+            require(number(row, 0)? == u64::from(position))?;
+            let entry = bytes(row, 1)?;
+            require(is_entry_by(entry.as_slice(), members))?;
+            Ok(Some(entry))
+        }
         _ => Err(ReadFault::Bad),
     }
 }
@@ -200,50 +187,68 @@ pub(crate) fn end_in_rows(rows: &[Row]) -> Read<u32>
     }
 }
 
-/// The numbers of the row for the whole node.
+/// What the row for the whole node has; where there is none it is the one to be made, of the node that opens.
 #[derive(Clone, Copy, PartialEq, Eq)]
-pub(crate) struct Numbers {
+pub(crate) struct Found {
+    pub(crate) has_row: bool,
+    pub(crate) owner: Identity,
     pub(crate) round: u64,
     pub(crate) number: u64,
 }
 
-fn expect_number(row: &Row, at: usize, wanted: u64) -> Read<()>
-    ensures { OnOk result (HasNumber row.now at wanted) }
+/// Whether there is such a member of such a cluster.
+fn is_member_of(cluster: u64, members: u64, node: u64) -> bool
+    ensures { result ≡ is_member_of cluster members node }
 {
-    require(number(row, at)? == wanted)
+    cluster <= 4_294_967_295 && 1 <= members && members <= 15 && node < members
 }
 
-fn meta_in_row(row: &Row, identity: Identity) -> Read<Numbers>
-    ensures value { IfOk result (λ m. IsMetaIn identity.cluster identity.members identity.node m.round m.number
-        (row.now ∷ [])) }
-    ensures round { IfOk result (λ m. m.round < NUMBERS) }
-    ensures number { IfOk result (λ m. m.number ≤ NUMBERS) }
+/// What the row for the whole node has, if a node writes such a row.
+pub(crate) fn found_in_row(row: &Row) -> Read<Found>
+    ensures good { OnOk result ((names_member row.now && has_numbers row.now) ≡ true) }
+    ensures bad { result ≡ Err ReadFault.Bad → (names_member row.now && has_numbers row.now) ≡ false }
+    ensures within { IfOk result (λ f. is_member_of f.owner.cluster f.owner.members f.owner.node ≡ true) }
+    ensures member { IfOk result (λ f. HasNumber row.now 3 f.owner.members) }
+    ensures cluster { IfOk result (λ f. HasNumber row.now 2 f.owner.cluster) }
+    ensures node { IfOk result (λ f. HasNumber row.now 4 f.owner.node) }
+    ensures round { IfOk result (λ f. HasNumber row.now 5 f.round) }
+    ensures number { IfOk result (λ f. HasNumber row.now 6 f.number) }
+    ensures low { IfOk result (λ f. f.round < NUMBERS) }
+    ensures most { IfOk result (λ f. f.number ≤ NUMBERS) }
 {
-    expect_number(row, 0, 1)?;
-    expect_number(row, 1, 3)?;
-    expect_number(row, 2, u64::from(identity.cluster))?;
-    expect_number(row, 3, u64::from(identity.members))?;
-    expect_number(row, 4, u64::from(identity.node))?;
+    let cluster = number(row, 2)?;
+    let members = number(row, 3)?;
+    let node = number(row, 4)?;
+    require(is_member_of(cluster, members, node))?;
     let round = number(row, 5)?;
     let counted = number(row, 6)?;
     require(round < NUMBERS && counted <= NUMBERS)?;
-    Ok(Numbers {
+    Ok(Found {
+        has_row: true,
+        owner: Identity {
+            cluster: cluster as u32,
+            members: members as u8,
+            node: node as u8,
+        },
         round,
         number: counted,
     })
 }
 
 /// The numbers of the row for the whole node, which must be one of format 3 and of this node.
-pub(crate) fn meta_in_rows(rows: &[Row], identity: Identity) -> Read<Numbers>
+pub(crate) fn meta_in_rows(rows: &[Row], identity: Identity) -> Read<Found>
     ensures value { IfOk result (λ m. IsMetaIn identity.cluster identity.members identity.node m.round m.number
         rows.now) }
     ensures round { IfOk result (λ m. m.round < NUMBERS) }
     ensures number { IfOk result (λ m. m.number ≤ NUMBERS) }
 {
-    match rows {
-        [row] => meta_in_row(row, identity),
-        _ => Err(ReadFault::Bad),
-    }
+    let [row] = rows else {
+        return Err(ReadFault::Bad);
+    };
+    require(number(row, 0)? == 1 && number(row, 1)? == 3)?;
+    let found = found_in_row(row)?;
+    require(found.owner == identity)?;
+    Ok(found)
 }
 
 /// The floor of an answer: with no row it is 0.
@@ -284,18 +289,13 @@ pub(crate) fn slot_from(alloc: Global, row: &SlotRow, members: u8) -> Result<Slo
     ensures fits { IfOk result (λ s. SlotFits AnyCommand members (slot_of s)) }
     ensures why { OnErr result (result ≡ Err StoreFault.Memory) }
 {
-    if row.ballot == 0 {
-        return Ok(Slot {
-            promised: row.promised,
-            accepted: None,
-        });
+    let promised = row.promised;
+    let ballot = row.ballot;
+    if ballot == 0 {
+        let accepted = None;
+        return Ok(Slot { promised, accepted });
     }
     let entry = entry_from(alloc, row.entry.as_slice(), members)?;
-    Ok(Slot {
-        promised: row.promised,
-        accepted: Some(Proposal {
-            ballot: row.ballot,
-            entry,
-        }),
-    })
+    let accepted = Some(Proposal { ballot, entry });
+    Ok(Slot { promised, accepted })
 }

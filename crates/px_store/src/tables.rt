@@ -1,9 +1,8 @@
 //! Whose tables a schema has.
-ghost use Rattle.std.specs.Prelude.{◌≡◌, ◌<◌, ◌-◌, ◌↔◌, List, [], ◌∷◌, length, pos, None, Some, IfSome, IsTrue};
-ghost use Rattle.sqlite_value.specs.declared.value.Value.TheVariants.{Null, Int};
-ghost use Rattle.sqlite_sql.specs.Term.{lit, col};
+ghost use Rattle.std.specs.Prelude.{◌≡◌, ◌<◌, ◌-◌, ◌↔◌, [], ◌∷◌, codes, None, Some, IfSome, IsTrue};
+ghost use Rattle.sqlite_value.specs.declared.value.Value.TheVariants.{Null};
+ghost use Rattle.sqlite_sql.specs.Term.{lit};
 ghost use Rattle.sqlite_schema.specs.Code.{term_to, op_term};
-ghost use Rattle.sqlite_schema.specs.declared.schema.Column.{Column};
 ghost use Rattle.px_store.specs.Tables as tables;
 ghost use Rattle.px_store.specs.Tables.{column_of, key_column, number_column, bytes_column, sheet};
 ghost use Rattle.px_store.specs.Tables.{key_is_one, only_row, with_tables, no_schema};
@@ -62,27 +61,17 @@ fn node_at(nodes: &[Op], depth: usize, at: usize) -> Option<&Op>
     Some(&nodes[at])
 }
 
-/// Whether the term is the key of a row.
-fn is_key(nodes: &[Op], depth: usize, at: usize) -> bool
-    ensures { IsTrue result ↔ (term_to nodes.now depth at ≡ col 1 0) }
-{
-    matches!(node_at(nodes, depth, at), Some(Op::Column(1, 0)))
-}
-
-/// Whether the term is 1.
-fn is_one(nodes: &[Op], depth: usize, at: usize) -> bool
-    ensures { IsTrue result ↔ (term_to nodes.now depth at ≡ lit (Int (pos 1))) }
-{
-    matches!(node_at(nodes, depth, at), Some(Op::Literal(Value::Int(1))))
-}
-
 /// Whether the term is that the key equals 1.
 fn is_key_one(nodes: &[Op], depth: usize, at: usize) -> bool
     ensures { IsTrue result ↔ (term_to nodes.now depth at ≡ key_is_one) }
 {
     match node_at(nodes, depth, at) {
         Some(Op::Binary(BinaryOp::Compare(CompareOp::Eq, Collation::Binary), a, b)) => {
-            is_key(nodes, depth - 1, *a) && is_one(nodes, depth - 1, *b)
+            matches!(node_at(nodes, depth - 1, *a), Some(Op::Column(1, 0)))
+                && matches!(
+                    node_at(nodes, depth - 1, *b),
+                    Some(Op::Literal(Value::Int(1)))
+                )
         }
         _ => false,
     }
@@ -157,27 +146,11 @@ fn is_meta(table: &Table) -> bool
     }
 }
 
-/// The columns behind the first, if that is one of this name and kind.
-fn behind<'a>(found: &'a [Column], name: &[u8], kind: Kind, not_null: bool) -> Option<&'a [Column]>
-    ensures some { IfSome result (λ rest. found.now ≡ column_of name.now kind not_null ∷ rest.now) }
-    ensures none { result ≡ None → (rest : List Column) → found.now ≡ column_of name.now kind not_null ∷ rest → ⊥ }
+/// Whether the columns are those of a proposal.
+fn are_proposal_columns(columns: &[Column]) -> bool
+    ensures { IsTrue result ↔ (columns.now ≡ number_column (codes "ballot") ∷ bytes_column (codes "entry") ∷ []) }
 {
-    match found {
-        [first, rest @ ..] if is_column(first, name, kind, not_null) => Some(rest),
-        _ => None,
-    }
-}
-
-fn are_slot_columns(columns: &[Column]) -> bool
-    ensures { IsTrue result ↔ (columns.now ≡ (tables.slots).columns) }
-{
-    let Some(behind_position) = behind(columns, b"position", Kind::Integer, false) else {
-        return false;
-    };
-    let Some(behind_promised) = behind(behind_position, b"promised", Kind::Integer, true) else {
-        return false;
-    };
-    match behind_promised {
+    match columns {
         [ballot, entry] => is_number(ballot, b"ballot") && is_bytes(entry, b"entry"),
         _ => false,
     }
@@ -186,9 +159,16 @@ fn are_slot_columns(columns: &[Column]) -> bool
 fn is_slots(table: &Table) -> bool
     ensures { IsTrue result ↔ (table.now ≡ tables.slots) }
 {
-    is_sheet(table, b"slots", 1)
-        && is_unchecked(&table.checks)
-        && are_slot_columns(table.columns.as_slice())
+    match table.columns.as_slice() {
+        [position, promised, proposal @ ..] => {
+            is_sheet(table, b"slots", 1)
+                && is_unchecked(&table.checks)
+                && is_key_column(position, b"position")
+                && is_number(promised, b"promised")
+                && are_proposal_columns(proposal)
+        }
+        _ => false,
+    }
 }
 
 fn is_floor(table: &Table) -> bool
@@ -225,15 +205,12 @@ fn format_of(found: &[Table]) -> Option<Format>
     ensures all { (f : Format) → found.now ≡ (schema_at f).tables → result ≡ Some f }
 {
     match found {
-        [meta, slots] => (is_meta(meta) && is_slots(slots)).then_some(Format::One),
-        [meta, slots, floor] => {
-            (is_meta(meta) && is_slots(slots) && is_floor(floor)).then_some(Format::Two)
-        }
-        [meta, slots, floor, learned] => {
-            (is_meta(meta) && is_slots(slots) && is_floor(floor) && is_learned(learned)).then_some(
-                Format::Three,
-            )
-        }
+        [meta, slots, more @ ..] if is_meta(meta) && is_slots(slots) => match more {
+            [] => Some(Format::One),
+            [floor] => is_floor(floor).then_some(Format::Two),
+            [floor, learned] => (is_floor(floor) && is_learned(learned)).then_some(Format::Three),
+            _ => None,
+        },
         _ => None,
     }
 }

@@ -127,7 +127,7 @@ impl<S: Alter> SqlRecords<S> {
             (state S.Store conn) (state S.Store (connection_after result)) }
     {
         match refuse_lost(&mut conn) {
-            Ok(()) => SqlRecords::adopt(alloc, conn, identity),
+            Ok(_format) => SqlRecords::adopt(alloc, conn, identity),
             Err(fault) => Err((fault, conn)),
         }
     }

@@ -162,14 +162,9 @@ impl<S: Alter> SqlRecords<S> {
         ensures counts { (result ≡ Err StoreFault.Failed) ↔ (0 < self.new.failures) }
         ensures same_identity { self.new.identity ≡ self.old.identity }
     {
-        match self.good_slot(position) {
-            Ok(slot) => {
-                let entry = slot.entry.as_slice();
-                let row = NewRow::Slot(position, ballot, slot.ballot);
-                self.keep(row, entry, self.meta)
-            }
-            Err(fault) => Err(fault),
-        }
+        let slot = self.good_slot(position)?;
+        let row = NewRow::Slot(position, ballot, slot.ballot);
+        self.keep(row, slot.entry.as_slice(), self.meta)
     }
 
     /// A proposal takes the place of a slot that is good.
@@ -192,10 +187,8 @@ impl<S: Alter> SqlRecords<S> {
         ensures counts { (result ≡ Err StoreFault.Failed) ↔ (0 < self.new.failures) }
         ensures same_identity { self.new.identity ≡ self.old.identity }
     {
-        match self.good_slot(position) {
-            Ok(_slot) => self.keep(NewRow::Slot(position, ballot, ballot), entry, self.meta),
-            Err(fault) => Err(fault),
-        }
+        let _slot = self.good_slot(position)?;
+        self.keep(NewRow::Slot(position, ballot, ballot), entry, self.meta)
     }
 
     /// An entry takes the place of a row that is good, or of none.
@@ -212,10 +205,8 @@ impl<S: Alter> SqlRecords<S> {
         ensures counts { (result ≡ Err StoreFault.Failed) ↔ (0 < self.new.failures) }
         ensures same_identity { self.new.identity ≡ self.old.identity }
     {
-        match self.good_entry(position) {
-            Ok(()) => self.keep(NewRow::Learned { position }, entry, self.meta),
-            Err(fault) => Err(fault),
-        }
+        self.good_entry(position)?;
+        self.keep(NewRow::Learned { position }, entry, self.meta)
     }
 
     /// Makes a change of the record.

@@ -1,8 +1,9 @@
-use Rattle.std.proofs.Common.{◌≡◌, rules, inl, inr, false}
+use Rattle.std.proofs.Common.{◌≡◌, Err, rules, refl, subst, inl, inr, false}
+use Rattle.px_store.specs.inner.Adopting.{IsRefused}
 use Rattle.sqlite.specs.Held.{state}
 use Rattle.px_model.specs.World.{nothing_stored}
 use Rattle.px_store.specs.Tables.{no_schema}
-use Rattle.px_store.specs.Formats.{schema_at, record_at}
+use Rattle.px_store.specs.Formats.{record_at}
 use Rattle.px_store.proofs.Owned.{judged_own, never_own, shows_tables, on_ok}
 use Rattle.px_store.proofs.adopt.bring.Goals as goal
 
@@ -26,33 +27,34 @@ returns-then-has_none-clause-tables g c = λ clean.
 pub returns-then-has_none-clause-unfound : goal.returns-then-has_none-clause-unfound
 returns-then-has_none-clause-unfound g c = λ clean own. never_own c.bring_none.result c.bring_none.ensures.never
 
-pub returns-in-Some-clause-known : goal.returns-in-Some-clause-known
-returns-in-Some-clause-known g c =
-    let is : (state g.S.Store c.args.conn.now).now.schema ≡ schema_at c.in-Some.format = search rules in
-    let auto : (state g.S.Store c.args.conn.now).in_transaction ≡ false = search rules in
-    on_ok c.bring_at.result (inr (c.in-Some.format, is), auto)
+pub returns-in_err-format-clause-unknown : goal.returns-in_err-format-clause-unknown
+returns-in_err-format-clause-unknown g c = λ unknown auto.
+    let e = c.in_err-format.ensures.unknown auto (λ f is. unknown (inr (f, is))) in
+    let same : c.from_residual.result ≡ Err c.in_err-format.field-0.0 = search rules in
+    (cc, refl)
 
-pub returns-in-Some-clause-unknown : goal.returns-in-Some-clause-unknown
-returns-in-Some-clause-unknown g c = λ unknown auto.
-    let is : (state g.S.Store c.args.conn.now).now.schema ≡ schema_at c.in-Some.format = search rules in
-    absurd (unknown (inr (c.in-Some.format, is)))
+pub returns-in_err-format-clause-refused : goal.returns-in_err-format-clause-refused
+returns-in_err-format-clause-refused g c = λ clean refused.
+    let same : c.from_residual.result ≡ Err c.in_err-format.field-0.0 = search rules in
+    record { now = refl; auto = c.in_err-format.ensures.settled (subst IsRefused same refused) }
 
-pub returns-in-Some-clause-refused : goal.returns-in-Some-clause-refused
-returns-in-Some-clause-refused g c = λ clean refused.
-    let is : (state g.S.Store c.args.conn.now).now.schema ≡ schema_at c.in-Some.format = search rules in
-    let auto : (state g.S.Store c.args.conn.now).in_transaction ≡ false = search rules in
-    c.bring_at.ensures.refused clean (record { schema = is; auto = auto }) refused
+pub returns-clause-known : goal.returns-clause-known
+returns-clause-known g c =
+    let began = c.in_ok-format.ensures.known in
+    on_ok c.bring_at.result (inr (c.in_ok-format.format, began.schema), began.auto)
 
-pub returns-in-Some-clause-tables : goal.returns-in-Some-clause-tables
-returns-in-Some-clause-tables g c = λ clean.
+pub returns-clause-unknown : goal.returns-clause-unknown
+returns-clause-unknown g c = λ unknown auto. absurd (unknown (inr (c.in_ok-format.format, (c.in_ok-format.ensures.known).schema)))
+
+pub returns-clause-refused : goal.returns-clause-refused
+returns-clause-refused g c = λ clean refused. c.bring_at.ensures.refused clean c.in_ok-format.ensures.known refused
+
+pub returns-clause-tables : goal.returns-clause-tables
+returns-clause-tables g c = λ clean.
     let s = state g.S.Store c.args.conn.now in
-    let is : (state g.S.Store c.args.conn.now).now.schema ≡ schema_at c.in-Some.format = search rules in
-    let auto : (state g.S.Store c.args.conn.now).in_transaction ≡ false = search rules in
-    shows_tables c.bring_at.result (record_at c.in-Some.format s.now.trees) (state g.S.Store c.bring_at.new.conn) (c.bring_at.ensures.made clean (record { schema = is; auto = auto }))
+    shows_tables c.bring_at.result (record_at c.in_ok-format.format s.now.trees) (state g.S.Store c.bring_at.new.conn) (c.bring_at.ensures.made clean c.in_ok-format.ensures.known)
 
-pub returns-in-Some-clause-unfound : goal.returns-in-Some-clause-unfound
-returns-in-Some-clause-unfound g c = λ clean own.
+pub returns-clause-unfound : goal.returns-clause-unfound
+returns-clause-unfound g c = λ clean own.
     let s = state g.S.Store c.args.conn.now in
-    let is : (state g.S.Store c.args.conn.now).now.schema ≡ schema_at c.in-Some.format = search rules in
-    let auto : (state g.S.Store c.args.conn.now).in_transaction ≡ false = search rules in
-    judged_own c.bring_at.result c.in-Some.format c.args.identity s.now.trees (c.bring_at.ensures.judged clean (record { schema = is; auto = auto })) own
+    judged_own c.bring_at.result c.in_ok-format.format c.args.identity s.now.trees (c.bring_at.ensures.judged clean c.in_ok-format.ensures.known) own

@@ -18,9 +18,9 @@ returns-in_err-found-clause-judged g c = λ clean began.
     let db = (state g.S.Store c.args.conn.now).now.trees in
     let read = c.in_ok-read.read in
     let said_of_read = c.in_ok-read.ensures in
-    let judged = judged_alike (number_of f) c.args.identity (seen meta_columns (db 0) 1) (rows_in read.meta) (seen floor_columns (trees_at f db 2) 1) (rows_in read.floor) (has_rows (db 1)) (has_rows (trees_at f db 3)) read.has_slot read.has_entry
+    let judged = judged_alike (number_of f) c.args.identity (seen meta_columns (db 0) 1) (rows_in read.meta) (seen floor_columns (trees_at f db 2) 1) (rows_in read.floor) (has_rows (db 1)) (has_rows (trees_at f db 3)) (has_rows (rows_in read.last_slot)) (has_rows (rows_in read.last_entry))
     (said_of_read.rows clean began) (said_of_read.floors clean began) (said_of_read.slots clean began) (said_of_read.entries clean began)
-    ∙ ap (λ n. refusal_of n c.args.identity (rows_in read.meta) (rows_in read.floor) (read.has_slot || read.has_entry)) (sym c.number.ensures) in
+    ∙ ap (λ n. refusal_of n c.args.identity (rows_in read.meta) (rows_in read.floor) (has_rows (rows_in read.last_slot) || has_rows (rows_in read.last_entry))) (sym c.number.ensures) in
     let same : c.from_residual-in_err-found.result ≡ Err c.in_err-found.field-0.0 = search rules in
     subst (λ r. IfErr r (λ e. IsVerdict e → refusal f c.args.identity db ≡ Some e)) (sym same) (λ verdict. judged ∙ c.in_err-found.ensures.refused verdict)
 
@@ -30,9 +30,9 @@ returns-then-has_table-clause-adopted g c = λ clean began.
     let db = (state g.S.Store c.args.conn.now).now.trees in
     let read = c.in_ok-read.read in
     let said_of_read = c.in_ok-read.ensures in
-    judged_alike (number_of f) c.args.identity (seen meta_columns (db 0) 1) (rows_in read.meta) (seen floor_columns (trees_at f db 2) 1) (rows_in read.floor) (has_rows (db 1)) (has_rows (trees_at f db 3)) read.has_slot read.has_entry
+    judged_alike (number_of f) c.args.identity (seen meta_columns (db 0) 1) (rows_in read.meta) (seen floor_columns (trees_at f db 2) 1) (rows_in read.floor) (has_rows (db 1)) (has_rows (trees_at f db 3)) (has_rows (rows_in read.last_slot)) (has_rows (rows_in read.last_entry))
     (said_of_read.rows clean began) (said_of_read.floors clean began) (said_of_read.slots clean began) (said_of_read.entries clean began)
-    ∙ ap (λ n. refusal_of n c.args.identity (rows_in read.meta) (rows_in read.floor) (read.has_slot || read.has_entry)) (sym c.number.ensures) ∙ c.in_ok-found.ensures.adopted
+    ∙ ap (λ n. refusal_of n c.args.identity (rows_in read.meta) (rows_in read.floor) (has_rows (rows_in read.last_slot) || has_rows (rows_in read.last_entry))) (sym c.number.ensures) ∙ c.in_ok-found.ensures.adopted
 
 pub returns-in-Ok-clause-adopted : goal.returns-in-Ok-clause-adopted
 returns-in-Ok-clause-adopted g c = λ clean began.
@@ -41,9 +41,9 @@ returns-in-Ok-clause-adopted g c = λ clean began.
     let db = (state g.S.Store c.args.conn.now).now.trees in
     let read = c.in_ok-read.read in
     let said_of_read = c.in_ok-read.ensures in
-    judged_alike (number_of f) c.args.identity (seen meta_columns (db 0) 1) (rows_in read.meta) (seen floor_columns (trees_at f db 2) 1) (rows_in read.floor) (has_rows (db 1)) (has_rows (trees_at f db 3)) read.has_slot read.has_entry
+    judged_alike (number_of f) c.args.identity (seen meta_columns (db 0) 1) (rows_in read.meta) (seen floor_columns (trees_at f db 2) 1) (rows_in read.floor) (has_rows (db 1)) (has_rows (trees_at f db 3)) (has_rows (rows_in read.last_slot)) (has_rows (rows_in read.last_entry))
     (said_of_read.rows mid began) (said_of_read.floors mid began) (said_of_read.slots mid began) (said_of_read.entries mid began)
-    ∙ ap (λ n. refusal_of n c.args.identity (rows_in read.meta) (rows_in read.floor) (read.has_slot || read.has_entry)) (sym c.number.ensures) ∙ c.in_ok-found.ensures.adopted
+    ∙ ap (λ n. refusal_of n c.args.identity (rows_in read.meta) (rows_in read.floor) (has_rows (rows_in read.last_slot) || has_rows (rows_in read.last_entry))) (sym c.number.ensures) ∙ c.in_ok-found.ensures.adopted
 
 pub returns-in-Ok-clause-made : goal.returns-in-Ok-clause-made
 returns-in-Ok-clause-made g c = λ clean began.
@@ -75,9 +75,9 @@ returns-in-Ok-clause-stop g c = λ clean began db' left.
     let rows = alike_few _ _ (said_of_read.rows mid began) c.in_ok-found.ensures.few in
     let round = ap (number_at 5) rows ∙ c.in_ok-found.ensures.round in
     let number = ap (number_at 6) rows ∙ c.in_ok-found.ensures.number in
-    let adopted = judged_alike (number_of f) c.args.identity (seen meta_columns (db 0) 1) (rows_in read.meta) (seen floor_columns (trees_at f db 2) 1) (rows_in read.floor) (has_rows (db 1)) (has_rows (trees_at f db 3)) read.has_slot read.has_entry
+    let adopted = judged_alike (number_of f) c.args.identity (seen meta_columns (db 0) 1) (rows_in read.meta) (seen floor_columns (trees_at f db 2) 1) (rows_in read.floor) (has_rows (db 1)) (has_rows (trees_at f db 3)) (has_rows (rows_in read.last_slot)) (has_rows (rows_in read.last_entry))
     (said_of_read.rows mid began) (said_of_read.floors mid began) (said_of_read.slots mid began) (said_of_read.entries mid began)
-    ∙ ap (λ n. refusal_of n c.args.identity (rows_in read.meta) (rows_in read.floor) (read.has_slot || read.has_entry)) (sym c.number.ensures) ∙ c.in_ok-found.ensures.adopted in
+    ∙ ap (λ n. refusal_of n c.args.identity (rows_in read.meta) (rows_in read.floor) (has_rows (rows_in read.last_slot) || has_rows (rows_in read.last_entry))) (sym c.number.ensures) ∙ c.in_ok-found.ensures.adopted in
     elim (c.in-Ok.ensures.stop clean next.schema db' left) [
       | inl was ↦ inl (said_of_read.crash mid began db' was)
       | inr is ↦ inr (whole_from f c.args.identity db found.round found.number adopted round number c.in_ok-found.ensures.low c.in_ok-found.ensures.most db'
@@ -98,9 +98,9 @@ returns-clause-stop g c = λ clean began db' left.
     let rows = alike_few _ _ (said_of_read.rows mid began) c.in_ok-found.ensures.few in
     let round = ap (number_at 5) rows ∙ c.in_ok-found.ensures.round in
     let number = ap (number_at 6) rows ∙ c.in_ok-found.ensures.number in
-    let adopted = judged_alike (number_of f) c.args.identity (seen meta_columns (db 0) 1) (rows_in read.meta) (seen floor_columns (trees_at f db 2) 1) (rows_in read.floor) (has_rows (db 1)) (has_rows (trees_at f db 3)) read.has_slot read.has_entry
+    let adopted = judged_alike (number_of f) c.args.identity (seen meta_columns (db 0) 1) (rows_in read.meta) (seen floor_columns (trees_at f db 2) 1) (rows_in read.floor) (has_rows (db 1)) (has_rows (trees_at f db 3)) (has_rows (rows_in read.last_slot)) (has_rows (rows_in read.last_entry))
     (said_of_read.rows mid began) (said_of_read.floors mid began) (said_of_read.slots mid began) (said_of_read.entries mid began)
-    ∙ ap (λ n. refusal_of n c.args.identity (rows_in read.meta) (rows_in read.floor) (read.has_slot || read.has_entry)) (sym c.number.ensures) ∙ c.in_ok-found.ensures.adopted in
+    ∙ ap (λ n. refusal_of n c.args.identity (rows_in read.meta) (rows_in read.floor) (has_rows (rows_in read.last_slot) || has_rows (rows_in read.last_entry))) (sym c.number.ensures) ∙ c.in_ok-found.ensures.adopted in
     elim (c.in-Err.ensures.stop after next.schema db' (c.fault_of.ensures.crash clean db' left)) [
       | inl was ↦ inl (said_of_read.crash mid began db' was)
       | inr is ↦ inr (whole_from f c.args.identity db found.round found.number adopted round number c.in_ok-found.ensures.low c.in_ok-found.ensures.most db'

@@ -57,7 +57,7 @@ without_row : (f : Format) (id : Identity) (db : Trees) (e : AdoptFault) → has
 without_row f id db e row is = rw (row, is) refl
 
 pub returns-in-Ok-clause-known : goal.returns-in-Ok-clause-known
-returns-in-Ok-clause-known g c = all_ok c.adopt.result c.in-Ok.ensures.known
+returns-in-Ok-clause-known g c = all_ok c.adopt.result (c.in-Ok._format, c.in-Ok.ensures.known)
 
 pub returns-in-Ok-clause-clean : goal.returns-in-Ok-clause-clean
 returns-in-Ok-clause-clean g c = both_ok c.adopt.result (λ r clean again has. c.in-Ok.ensures.clean (clean has))
@@ -68,10 +68,10 @@ returns-in-Ok-clause-refused g c = both_err c.adopt.result (λ e clean again has
     c.adopt.ensures.refused c.adopt.ensures.refused
 
 pub returns-in-Ok-clause-lost : goal.returns-in-Ok-clause-lost
-returns-in-Ok-clause-lost g c = λ none auto. absurd (has_tables _ (sym c.in-Ok.ensures.known.1.schema ∙ none))
+returns-in-Ok-clause-lost g c = λ none auto. absurd (has_tables _ (sym (c.in-Ok.ensures.known).schema ∙ none))
 
 pub returns-in-Ok-clause-unknown : goal.returns-in-Ok-clause-unknown
-returns-in-Ok-clause-unknown g c = λ unknown auto. absurd (unknown (inr (c.in-Ok.ensures.known.0, c.in-Ok.ensures.known.1.schema)))
+returns-in-Ok-clause-unknown g c = λ unknown auto. absurd (unknown (inr (c.in-Ok._format, (c.in-Ok.ensures.known).schema)))
 
 pub returns-in-Ok-clause-as_it_was : goal.returns-in-Ok-clause-as_it_was
 returns-in-Ok-clause-as_it_was g c = both_err c.adopt.result
@@ -105,7 +105,7 @@ pub returns-in-Ok-clause-found : goal.returns-in-Ok-clause-found
 returns-in-Ok-clause-found g c = both_ok c.adopt.result
     (λ r clean found has own.
     let same = c.in-Ok.ensures.stays (clean has) in
-    let known = still same c.in-Ok.ensures.known.1 in
+    let known = still same c.in-Ok.ensures.known in
     subst (λ (d : Database). IsOpened g.S.Store r (record_at Three d.trees)) same.now
     (found has (subst (λ (d : Database). IsOwn c.args.identity d.trees) (sym same.now) own) (λ none. has_tables _ (sym known.schema ∙ none))))
     c.adopt.ensures.clean c.adopt.ensures.found
