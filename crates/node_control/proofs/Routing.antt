@@ -18,9 +18,10 @@ passed_over (Err e) c d request r v is h = h
 passed_over (Ok t) c d request r v is h = subst (λ x. HandledAs c d x r) (sym is) (request, refl, h)
 
 -- what isn't served isn't found
-pub unserved : {R : Type 0} {G : Ghosts R} (c d : HttpService R G) (q : http.Request (List ℕ)) (r : Response) →
-    is_served c q ≡ false → IsTurnedAway c d not_found r → IsHandled c d q r
-unserved c d q r none turned = subst (λ b. HandledIf b c d (asked_for q) r) (sym none) turned
+pub unserved : {R T E : Type 0} {G : Ghosts R} (o : Result T E) (c d : HttpService R G) (q : http.Request (List ℕ)) (r : Response) →
+    is_served c q ≡ false → IsTurnedAway c d not_found r → OnOk o (IsHandled c d q r)
+unserved (Err e) c d q r none turned = tt
+unserved (Ok t) c d q r none turned = subst (λ b. HandledIf b c d (asked_for q) r) (sym none) turned
 
 -- what is served is handled as what it asks for
 pub served_over : {R T E : Type 0} {G : Ghosts R} (o : Result T E) (c d : HttpService R G) (q : http.Request (List ℕ)) (r : Response)

@@ -139,10 +139,7 @@ impl<RT: Files + Net> SocketPaths for RT {
 fn free<P: SocketPaths>(paths: &P, path: &str) -> bool
     ensures { result ≡ true → P.is_free paths.now path.now }
 {
-    if paths.is_answered(path) {
-        return false;
-    }
-    paths.clear(path)
+    !paths.is_answered(path) && paths.clear(path)
 }
 
 /// A socket at `inner`, in the folder `folder`, to which its owner and its group may connect, is put at the path, where
@@ -161,11 +158,6 @@ fn bind_at<RT: Files + Net>(
     Ok(listener)
 }
 
-/// Whether a folder is there, and no link to one.
-fn is_folder<RT: Files>(rt: &RT, path: &str) -> bool {
-    fs::symlink_metadata(rt, path).is_ok_and(|found| found.is_dir())
-}
-
 /// Takes the folder away in which a socket was made, and the socket's name there.
 fn remove_folder<RT: Files>(rt: &RT, folder: &str, inner: &str) {
     let _gone = fs::remove_file(rt, inner);
@@ -178,8 +170,8 @@ fn listen<RT: Files + Net>(rt: &RT, alloc: Global, path: &str) -> io::Result<Lis
     let folder = format!(in alloc; "{path}.d")?;
     let inner = format!(in alloc; "{path}.d/s")?;
     let (folder, inner) = (folder.as_str(), inner.as_str());
-    // a node that was killed meanwhile left one
-    if is_folder(rt, folder) {
+    // a node that was killed meanwhile left one; what a link leads to is none
+    if fs::symlink_metadata(rt, folder).is_ok_and(|found| found.is_dir()) {
         remove_folder(rt, folder, inner);
     }
     DirBuilder::new().mode(FOLDER_MODE).create(rt, folder)?;

@@ -125,7 +125,7 @@ fn query_of(uri: &Uri) -> &str
 }
 
 /// What a request asks for.
-fn asked_for(alloc: Global, request: &http::Request<Bytes>) -> Result<Routed<'_>, AllocError>
+fn asked_for(alloc: Global, request: &http::Request<Bytes>) -> Made<Routed<'_>>
     ensures { IfOk result (λ v. routed_value v ≡ asked_for request.now) }
 {
     let uri = request.uri();
@@ -164,7 +164,7 @@ impl<R: Records> HttpService<R> {
     }
 
     /// Names the node that answers, and the number of positions that it applied.
-    fn add_node_fields(&self, response: &mut Response) -> Result<(), AllocError>
+    fn add_node_fields(&self, response: &mut Response) -> Made<()>
         ensures fields { OnOk result
             (fields_of response.new ≡ fields_of response.old ++ node_fields self.now.handler.node) }
         ensures status { OnOk result (response.new.status ≡ response.old.status) }
@@ -180,7 +180,7 @@ impl<R: Records> HttpService<R> {
     }
 
     /// Adds the fields of an answer.
-    fn add_fields(&self, code: u16, kind: &str, response: &mut Response) -> Result<(), AllocError>
+    fn add_fields(&self, code: u16, kind: &str, response: &mut Response) -> Made<()>
         ensures fields { OnOk result
             (fields_of response.new ≡ fields_of response.old ++ answer_fields self.now.handler.node code kind.now) }
         ensures status { OnOk result (response.new.status ≡ response.old.status) }
@@ -195,7 +195,7 @@ impl<R: Records> HttpService<R> {
     }
 
     /// Fills a response with an answer.
-    fn fill(&self, answer: &Answer, kind: &str, response: &mut Response) -> Result<(), AllocError>
+    fn fill(&self, answer: &Answer, kind: &str, response: &mut Response) -> Made<()>
         requires { IsBlank response.old }
         ensures fields { OnOk result
             (fields_of response.new ≡ answer_fields self.now.handler.node answer.now.code kind.now) }
@@ -242,7 +242,7 @@ impl<R: Records> HttpService<R> {
     }
 
     /// Asks the request handler.
-    fn ask(&mut self, request: &Request, response: &mut Response) -> Result<(), AllocError>
+    fn ask(&mut self, request: &Request, response: &mut Response) -> Made<()>
         requires { IsBlank response.old }
         ensures answered { OnOk result
             (IsAnswered self.old.handler self.new.handler self.old.counters request.now response.new) }
@@ -260,42 +260,34 @@ impl<R: Records> HttpService<R> {
     }
 
     /// Asks nothing: this is answered.
-    fn turn_away(&mut self, answer: &Answer, response: &mut Response)
+    fn turn_away(&mut self, answer: &Answer, response: &mut Response) -> Made<()>
         requires { IsBlank response.old }
         ensures away { IsTurnedAway self.old self.new (answer_value answer.now) response.new }
+        ensures memory { OnErr result (self.new ≡ self.old) }
         ensures scraped { self.new.is_scraped ≡ self.old.is_scraped }
         ensures kept { IsKept self.old self.new }
         ensures counted { self.new.counters ≡ counted_as self.old.is_scraped response.new.status self.old.counters }
     {
         self.write(answer, TEXT, response);
         self.count(response.status.as_u16());
+        Ok(())
     }
 
     /// Asks nothing: this status is all that is answered.
-    fn refuse(&mut self, code: u16, response: &mut Response)
+    fn refuse(&mut self, code: u16, response: &mut Response) -> Made<()>
         requires { IsBlank response.old }
         ensures away { IsTurnedAway self.old self.new (no_text code) response.new }
+        ensures memory { OnErr result (self.new ≡ self.old) }
         ensures scraped { self.new.is_scraped ≡ self.old.is_scraped }
         ensures kept { IsKept self.old self.new }
         ensures counted { self.new.counters ≡ counted_as self.old.is_scraped response.new.status self.old.counters }
     {
         let body = String::new(self.alloc);
-        self.turn_away(&Answer { code, body }, response);
-    }
-
-    /// Asks nothing: what is asked isn't served here.
-    fn not_found(&mut self, response: &mut Response)
-        requires { IsBlank response.old }
-        ensures away { IsTurnedAway self.old self.new not_found response.new }
-        ensures scraped { self.new.is_scraped ≡ self.old.is_scraped }
-        ensures kept { IsKept self.old self.new }
-        ensures counted { self.new.counters ≡ counted_as self.old.is_scraped response.new.status self.old.counters }
-    {
-        self.refuse(404, response);
+        self.turn_away(&Answer { code, body }, response)
     }
 
     /// Asks nothing now: the client is to ask again.
-    fn put_off(&mut self, response: &mut Response) -> Result<(), AllocError>
+    fn put_off(&mut self, response: &mut Response) -> Made<()>
         requires { IsBlank response.old }
         ensures away { OnOk result (IsTurnedAway self.old self.new waiting response.new) }
         ensures still { self.new.handler ≡ self.old.handler }
@@ -306,12 +298,11 @@ impl<R: Records> HttpService<R> {
             (self.new.counters ≡ counted_as self.old.is_scraped response.new.status self.old.counters) }
     {
         let body = String::from_str(self.alloc, "waiting\n")?;
-        self.turn_away(&Answer { code: 503, body }, response);
-        Ok(())
+        self.turn_away(&Answer { code: 503, body }, response)
     }
 
     /// Reads, where figures alone are served.
-    fn look(&mut self, request: &Request, response: &mut Response) -> Result<(), AllocError>
+    fn look(&mut self, request: &Request, response: &mut Response) -> Made<()>
         requires { IsBlank response.old }
         ensures read { is_read request.now ≡ true → OnOk result
             (IsAnswered self.old.handler self.new.handler self.old.counters request.now response.new) }
@@ -327,15 +318,12 @@ impl<R: Records> HttpService<R> {
     {
         match request {
             Request::Read { at: _, read: _ } => self.ask(request, response),
-            Request::Change(_) | Request::Stop => {
-                self.not_found(response);
-                Ok(())
-            }
+            Request::Change(_) | Request::Stop => self.refuse(404, response),
         }
     }
 
     /// Asks a change, unless the node is catching up, or as many were asked since its last round as may be.
-    fn change(&mut self, request: &Request, response: &mut Response) -> Result<(), AllocError>
+    fn change(&mut self, request: &Request, response: &mut Response) -> Made<()>
         requires blank { IsBlank response.old }
         requires change { is_change request.now ≡ true }
         ensures asked { (self.old.is_listening || (self.old.changes_left == 0)) ≡ false → OnOk result
@@ -359,7 +347,7 @@ impl<R: Records> HttpService<R> {
 
     /// Handles a request that was understood: a change isn't asked while the node is catching up, nor more of them
     /// between two rounds than may be, and at the last connection nothing is but `health` and `stop`.
-    fn pass_on(&mut self, request: &Request, response: &mut Response) -> Result<(), AllocError>
+    fn pass_on(&mut self, request: &Request, response: &mut Response) -> Made<()>
         requires { IsBlank response.old }
         ensures passed { OnOk result (IsPassedOn self.old self.new request.now response.new) }
         ensures still { self.old.is_scraped ≡ true → self.new.handler ≡ self.old.handler }
@@ -382,7 +370,7 @@ impl<R: Records> HttpService<R> {
     }
 
     /// Handles what a request asks for.
-    fn handle_as(&mut self, routed: &Routed, response: &mut Response) -> Result<(), AllocError>
+    fn handle_as(&mut self, routed: &Routed, response: &mut Response) -> Made<()>
         requires { IsBlank response.old }
         ensures handled { OnOk result (HandledAs self.old self.new (routed_value routed.now) response.new) }
         ensures still { self.old.is_scraped ≡ true → self.new.handler ≡ self.old.handler }
@@ -394,14 +382,10 @@ impl<R: Records> HttpService<R> {
     {
         match routed {
             Routed::Asked(request) => self.pass_on(request, response),
-            Routed::Refused(status) => {
-                self.refuse(*status, response);
-                Ok(())
-            }
+            Routed::Refused(status) => self.refuse(*status, response),
             Routed::Unread(code) => {
                 let answer = Answer::refused(self.alloc, *code, 0)?;
-                self.turn_away(&answer, response);
-                Ok(())
+                self.turn_away(&answer, response)
             }
         }
     }
@@ -425,8 +409,7 @@ impl<R: Records> HttpService<R> {
             (self.new.counters ≡ counted_as self.old.is_scraped response.new.status self.old.counters) }
     {
         if !self.is_served(request) {
-            self.not_found(response);
-            return Ok(());
+            return self.refuse(404, response);
         }
         let routed = asked_for(self.alloc, request)?;
         self.handle_as(&routed, response)

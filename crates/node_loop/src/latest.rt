@@ -126,9 +126,7 @@ impl Latest {
         ensures { IfSome result (λ i. IsVoteAt self.now member i) }
     {
         for i in 0..self.kept.len() {
-            let Some(kept) = self.kept.get(i) else {
-                return None;
-            };
+            let kept = self.kept.get(i)?;
             if kept.to == member && matches!(kept.kind, Kind::Vote) {
                 return Some(i);
             }
@@ -145,9 +143,7 @@ impl Latest {
         if bytes.is_empty() {
             return None;
         }
-        let Some(head) = self.head else {
-            return None;
-        };
+        let head = self.head?;
         if self.request.as_slice() != bytes
             || proposal_of(&head) != Some((self.ballot, self.position))
         {
@@ -184,9 +180,7 @@ impl Latest {
         ensures again { HandsAt i (sent_in self.entry.now) (W.traffic wire.old) (W.traffic wire.new) }
         ensures same { W.identity wire.new ≡ W.identity wire.old }
     {
-        let Some(kept) = self.kept.get(i) else {
-            return None;
-        };
+        let kept = self.kept.get(i)?;
         let length = kept.bytes.len();
         if length > PACKET && !self.is_large_due(kept.to, now) {
             return None;

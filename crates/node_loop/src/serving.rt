@@ -148,10 +148,7 @@ fn is_outside(bytes: &[u8]) -> bool
     ensures inside { result ≡ false → (g : Group) (from to : ℕ) (message : Message) →
         DatagramBytes g from to message bytes.now → from ≢ 255 }
 {
-    match Head::read(bytes) {
-        Some(head) => head.from == CLIENT,
-        None => false,
-    }
+    Head::read(bytes).is_some_and(|head| head.from == CLIENT)
 }
 
 /// Whether a datagram that has come isn't shown to the node: an ask where these aren't heard, or the request that was

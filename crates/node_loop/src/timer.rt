@@ -42,7 +42,8 @@ pub trait Timer {
 
     /// What the node does next, at this time, where this is seen of it.
     fn action(&mut self, now: u64, view: View) -> Action
-        ensures timer_events { Adds (timer_events self.old) (timer_events self.new) (Looks now view (is_tick result) ∷ []) }
+        ensures timer_events { Adds (timer_events self.old) (timer_events self.new)
+            (Looks now view (is_tick result) ∷ []) }
         ensures short { IsShort result };
 
     /// Votes were sent for what another proposes at a position that isn't learned; they may be lost.

@@ -54,10 +54,7 @@ pub(crate) fn came(buffers: &[u8], len: Option<usize>) -> Option<&[u8]>
     requires { IfSome len (λ n. n ≤ length buffers.now) }
     ensures { option_map (λ b. b.now) result ≡ option_map (λ n. take n buffers.now) len }
 {
-    match len {
-        Some(n) => Some(&buffers[..n]),
-        None => None,
-    }
+    Some(&buffers[..len?])
 }
 
 /// One call of a node, for a datagram or for none.

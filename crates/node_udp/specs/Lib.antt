@@ -2,5 +2,4 @@ pub mod Addresses
 pub mod Members
 pub mod Asking
 pub mod Sockets
-pub mod MemorySockets
 pub mod inner

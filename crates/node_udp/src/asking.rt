@@ -88,14 +88,8 @@ fn answer_in(m: &Membership, node: u8, bytes: &[u8]) -> Option<AskAnswer>
     ensures { Answers (group m.now) node (Some bytes.now) result }
 {
     match decode(m, bytes) {
-        Ok((from, message)) => {
-            if from == node {
-                ask_answer(&message)
-            } else {
-                None
-            }
-        }
-        Err(_) => None,
+        Ok((from, message)) if from == node => ask_answer(&message),
+        Ok(_) | Err(_) => None,
     }
 }
 

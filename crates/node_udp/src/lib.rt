@@ -2,7 +2,7 @@
 //!
 //! # Organization
 //!
-//! - [`UdpWire`]: a wire of a member, or of a client, over a [`Socket`]: the system's, or a [`MemorySocket`].
+//! - [`UdpWire`]: a wire of a member, or of a client, over a [`Socket`]: the system's, or a test's in memory.
 //!   [`parse_address`]: where a member listens; [`shown_is_read`]: what is shown of it is read as it. [`Network`]: what
 //!   binds a socket and looks up a host's name, the system or a test's own.
 //! - [`ask_once`]: one command asked of one node over any wire, and its [`AskAnswer`].
@@ -41,7 +41,6 @@ mod answer;
 mod asking;
 mod host;
 mod laws;
-mod memory_socket;
 mod network;
 mod socket;
 mod udp;
@@ -50,7 +49,6 @@ pub use address::{Address, parse_address};
 pub use answer::AskAnswer;
 pub use asking::ask_once;
 pub use laws::shown_is_read;
-pub use memory_socket::MemorySocket;
 pub use network::Network;
 pub use pf_entry::Command;
 pub use px_replica::NodeFault;

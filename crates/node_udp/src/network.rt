@@ -61,9 +61,7 @@ impl<R: Net> Network for R {
             if let SocketAddr::V4(_) = address {
                 return Some(ip);
             }
-            if first.is_none() {
-                first = Some(ip);
-            }
+            first = first.or(Some(ip));
         }
         first
     }

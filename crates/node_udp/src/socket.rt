@@ -53,10 +53,8 @@ impl Socket for UdpSocket {
 
     fn peek(&mut self) -> Result<(), ErrorKind> {
         let mut room = [0u8; 1];
-        match self.peek_from(&mut room) {
-            Ok(_) => Ok(()),
-            Err(error) => Err(error.kind()),
-        }
+        let peeked = self.peek_from(&mut room);
+        peeked.map(|_| ()).map_err(|error| error.kind())
     }
 
     fn send(&mut self, bytes: &[u8], to: SocketAddr) -> Result<usize, ErrorKind> {

@@ -138,27 +138,12 @@ fn own_address(peers: &[Address], me: u8) -> Option<Address>
     Some(Address::any_port(ip))
 }
 
-/// The clock's reading, for a member.
-fn reading<C: Clock>(clock: &C, me: u8) -> Option<Instant> {
-    if me == CLIENT {
-        return None;
-    }
-    Instant::now(clock).ok()
-}
-
 /// Whether a datagram is of a client, by its head.
 fn is_asking(datagram: &[u8]) -> bool
     ensures { (g : Group) (from to : ℕ) (message : Message) →
         DatagramBytes g from to message datagram.now → result ≡ (from == CLIENT) }
 {
     Head::read(datagram).is_some_and(|head| head.from == CLIENT)
-}
-
-/// Whether an address is one of these.
-fn is_among(peers: &[Address], address: Address) -> bool
-    ensures { result ≡ list_any (λ a. ⟦<Address as PartialEq>⟧.eq a address) peers.now }
-{
-    peers.contains(&address)
 }
 
 impl<R: Network + Clock + Copy> UdpWire<UdpSocket, R> {
@@ -345,23 +330,24 @@ impl<S: Socket, C> UdpWire<S, C> {
 
     /// Whether a datagram is heard: it comes from a member's address, or is of a client, where such are heard.
     fn is_heard(&self, from: SocketAddr, datagram: &[u8]) -> bool
-        ensures member { list_any (λ a. ⟦<Address as PartialEq>⟧.eq a (address_at from)) (peers_of self.now) ≡ true → result ≡ true }
-        ensures only { hears_of self.now ≡ false → result ≡ list_any (λ a. ⟦<Address as PartialEq>⟧.eq a (address_at from)) (peers_of self.now) }
+        ensures member { list_any (λ a. ⟦<Address as PartialEq>⟧.eq a (address_at from)) (peers_of self.now) ≡ true →
+            result ≡ true }
+        ensures only { hears_of self.now ≡ false →
+            result ≡ list_any (λ a. ⟦<Address as PartialEq>⟧.eq a (address_at from)) (peers_of self.now) }
         ensures message { (g : Group) (sender to : ℕ) (message : Message) →
             DatagramBytes g sender to message datagram.now →
             result ≡ (list_any (λ a. ⟦<Address as PartialEq>⟧.eq a (address_at from)) (peers_of self.now)
             || (hears_of self.now && (sender == CLIENT))) }
     {
-        is_among(self.peers.as_slice(), Address::of_socket(from))
-            || (self.hears_asks && is_asking(datagram))
+        self.peers.contains(&Address::of_socket(from)) || (self.hears_asks && is_asking(datagram))
     }
 
     /// What is given of a datagram that came: all its bytes, or none of a stranger's, which is counted.
     fn admit(&mut self, from: SocketAddr, datagram: &[u8]) -> usize
         ensures member { list_any (λ a. ⟦<Address as PartialEq>⟧.eq a (address_at from)) (peers_of self.old) ≡ true →
             (result ≡ length datagram.now) × (strangers_of self.new ≡ strangers_of self.old) }
-        ensures stranger { list_any (λ a. ⟦<Address as PartialEq>⟧.eq a (address_at from)) (peers_of self.old) ≡ false → hears_of self.old ≡ false →
-            (result ≡ 0) × (strangers_of self.new ≡ one_more (strangers_of self.old)) }
+        ensures stranger { list_any (λ a. ⟦<Address as PartialEq>⟧.eq a (address_at from)) (peers_of self.old) ≡ false →
+            hears_of self.old ≡ false → (result ≡ 0) × (strangers_of self.new ≡ one_more (strangers_of self.old)) }
         ensures client { (g : Group) (to : ℕ) (message : Message) → hears_of self.old ≡ true →
             DatagramBytes g CLIENT to message datagram.now → result ≡ length datagram.now }
         ensures others { (g : Group) (sender to : ℕ) (message : Message) →
@@ -391,7 +377,10 @@ impl<S: Socket, C> UdpWire<S, C> {
 impl<S: Socket, C: Clock> UdpWire<S, C> {
     /// The clock's reading, for a member.
     fn now(&self) -> Option<Instant> {
-        reading(&self.clock, self.me)
+        if self.me == CLIENT {
+            return None;
+        }
+        Instant::now(&self.clock).ok()
     }
 
     /// Takes the time between two readings off what is left of the wait, or the most that counts.
@@ -416,25 +405,19 @@ impl<S: Socket, C: Clock> UdpWire<S, C> {
         self.since = None;
     }
 
-    /// Whether any of the wait is left. The socket waits no longer than that.
+    /// Whether any of the wait is left. The socket waits no longer than that. A client, whose clock isn't read, has all
+    /// of it left.
     fn is_waiting(&mut self, now: Option<Instant>) -> bool
         ensures still { IsStill (S.traffic (socket_of self.old)) (S.traffic (socket_of self.new)) self.old self.new }
         ensures failures { self.old.failures ≤ self.new.failures }
         ensures strangers { self.new.strangers ≡ self.old.strangers }
     {
-        if self.me != CLIENT {
-            self.pass(self.since, now, self.wait / PART);
-            if self.left.is_zero() {
-                return false;
-            }
+        self.pass(self.since, now, self.wait / PART);
+        if self.left.is_zero() {
+            return false;
         }
         let _is_blocking = self.set_blocking(true);
-        let timeout = if self.me == CLIENT {
-            self.wait
-        } else {
-            self.left
-        };
-        let _is_set = self.set_timeout(timeout);
+        let _is_set = self.set_timeout(self.left);
         true
     }
 
@@ -447,12 +430,9 @@ impl<S: Socket, C: Clock> UdpWire<S, C> {
         if self.me != CLIENT && to == CLIENT {
             return self.last;
         }
-        let place = if self.me == CLIENT {
-            0
-        } else {
-            usize::from(to)
-        };
-        self.peers.get(place).map(|address| address.socket())
+        let place = if self.me == CLIENT { 0 } else { to };
+        let found = self.peers.get(usize::from(place));
+        found.map(|address| address.socket())
     }
 
     /// Whether all of the bytes were sent there.

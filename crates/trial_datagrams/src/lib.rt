@@ -5,7 +5,7 @@
 //!
 //! The tests are in a crate of their own, since a crate with tests is proved twice.
 //!
-//! Within: `bytes`, `party`, `bench`, `disk` and `own` are what tests share; `entries`, `datagrams`, `heads`, `kinds`
+//! Within: `bytes`, `party`, `bench`, `disk`, `own` and `memory_socket` are what tests share; `entries`, `datagrams`, `heads`, `kinds`
 //! and `largest` are of messages, `seals`, `packets`, `arrivals`, `pieces`, `receivers` and `clocks` of packets, `keys`
 //! and `starts` of files, `sockets` and `asking` of UDP.
 #![tactic(auto)]
@@ -34,6 +34,7 @@ mod keys;
 mod kinds;
 #[cfg(test)]
 mod largest;
+pub mod memory_socket;
 #[cfg(test)]
 mod own;
 #[cfg(test)]

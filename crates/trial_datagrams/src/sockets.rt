@@ -3,10 +3,13 @@ use crate::bytes::{
     ACCEPT, ASK_REFUSED, ASKED, LEARNED, NACK, NEED, PREPARE, PREPARE_ALL, PROMISE, PROMISE_ALL,
     VOTE,
 };
-use node_udp::{BindFault, UdpWire, parse_address};
+use crate::memory_socket::MemorySocket;
+use node_udp::{Address, BindFault, Socket, UdpWire, parse_address};
 use pf_addr::Addr;
 use px_transport::Wire;
+use std::alloc::{AllocError, Global};
 use std::cell::Cell;
+use std::net::SocketAddr;
 use std::panic::Expect;
 use std::time::Instant;
 
@@ -448,4 +451,47 @@ fn a_wait_lasts_until_something_comes(rt: HostRuntime) {
     let is_sent = other.send(0, b"a");
     let woken = waited(&rt, &mut one, 60_000).unwrap_or(60_000);
     assert!(rt; is_sent && idle >= 90 && woken < 50_000);
+}
+
+/// The addresses of two members.
+fn two_members(alloc: Global) -> Result<Vec<Address>, AllocError> {
+    let mut peers = Vec::new(alloc);
+    for text in ["127.0.0.1:39470", "127.0.0.1:39471"] {
+        if let Some(address) = parse_address(text) {
+            peers.push(address)?;
+        }
+    }
+    Ok(peers)
+}
+
+/// One datagram, with where it comes from.
+fn one_datagram(alloc: Global, from: SocketAddr) -> Result<Vec<(SocketAddr, Vec<u8>)>, AllocError> {
+    let mut coming = Vec::new(alloc);
+    coming.push((from, Vec::from_slice(alloc, b"hello")?))?;
+    Ok(coming)
+}
+
+/// What a socket in memory receives from a member is given, and what is sent goes to that socket.
+#[test]
+fn a_wire_goes_over_a_socket_in_memory(rt: HostRuntime) {
+    let from = "127.0.0.1:39471".parse::<SocketAddr>();
+    let from = from.expect(&rt, "an address");
+    let coming = one_datagram(rt.alloc(), from).expect(&rt, "memory");
+    let peers = two_members(rt.alloc()).expect(&rt, "memory");
+    let socket = MemorySocket::new(rt.alloc(), coming);
+    let mut wire = UdpWire::over(socket, rt, peers, 0, 10).expect(&rt, "a wire");
+    let is_given = hears(&mut wire, 20, b"hello") && hears_none(&mut wire);
+    assert!(rt; is_given && wire.send(1, b"there") && wire.failures() == 0);
+}
+
+/// What a socket in memory was handed is kept, each with where it goes.
+#[test]
+fn a_socket_in_memory_keeps_what_goes(rt: HostRuntime) {
+    let to = "127.0.0.1:39471".parse::<SocketAddr>();
+    let to = to.expect(&rt, "an address");
+    let mut socket = MemorySocket::new(rt.alloc(), Vec::new(rt.alloc()));
+    let is_sent = socket.send(b"there", to) == Ok(5);
+    let went = socket.went().expect(&rt, "memory");
+    let is_kept = went.len() == 1 && went[0].0 == to && went[0].1.as_slice() == b"there".as_slice();
+    assert!(rt; is_sent && is_kept);
 }

@@ -4,7 +4,7 @@ use Rattle.node_control.proofs.service.HttpService.handle.Goals as goal
 
 pub returns-then-not-is_served-clause-handled : goal.returns-then-not-is_served-clause-handled
 returns-then-not-is_served-clause-handled g c =
-    unserved _ _ c.args.request.now _ (sym c.is_served.ensures ∙ c.if-not-is_served.true) c.not_found.ensures.away
+    unserved c.refuse.result _ _ c.args.request.now _ (sym c.is_served.ensures ∙ c.if-not-is_served.true) c.refuse.ensures.away
 
 pub returns-clause-handled : goal.returns-clause-handled
 returns-clause-handled g c =

@@ -1,5 +1,5 @@
 -- the vote for the member that sent the request
-use Rattle.std.proofs.Common.{◌≡◌, ℕ, Option, Some, None, IfSome, option_map, ap}
+use Rattle.std.proofs.Common.{rules, ◌≡◌, ℕ, Option, Some, None, IfSome, option_map, ap}
 use Rattle.px_wire.specs.declared.head.Head.{Head}
 use Rattle.node_loop.specs.declared.state.Latest.{Latest}
 use Rattle.node_loop.specs.Keeping.{IsVoteAt, client_in}
@@ -12,5 +12,6 @@ for_client l m (Some i) client is = (m, client, is)
 
 pub returns-clause-vote : goal.returns-clause-vote
 returns-clause-vote c =
-    for_client c.args.self.now c.in-Some.head.from c.place_of_vote.result (ap (option_map (λ (h : Head). h.from)) c.in-Some.is)
+    let is : c.args.self.now.head ≡ Some c.in_ok-head.head = search rules in
+    for_client c.args.self.now c.in_ok-head.head.from c.place_of_vote.result (ap (option_map (λ (h : Head). h.from)) is)
     c.place_of_vote.ensures

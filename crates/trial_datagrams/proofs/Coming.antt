@@ -5,8 +5,8 @@ use Rattle.std.specs.declared.net.socket_addr.SocketAddr.{SocketAddr}
 use Rattle.std.proofs.lemmas.List.{take_more_set, map-set, length-map, append-nil}
 use Rattle.px_transport.specs.Wires.{Adds}
 use Rattle.node_udp.specs.Sockets.{SocketEvent, Came, Went}
-use Rattle.node_udp.specs.MemorySockets.{WentOver, came_in, came_of, kept_of, went_in, went_of}
-use Rattle.node_udp.specs.declared.memory_socket.MemorySocket.{MemorySocket}
+use Rattle.trial_datagrams.specs.MemorySockets.{WentOver, came_in, came_of, kept_of, went_in, went_of}
+use Rattle.trial_datagrams.specs.declared.memory_socket.MemorySocket.{MemorySocket}
 
 came_append : (es fs : List SocketEvent) → came_in (es ++ fs) ≡ came_in es ++ came_in fs
 came_append [] fs = refl

@@ -2,7 +2,7 @@
 use Rattle.std.specs.Prelude.{◌≡◌, ℕ, List, [], ◌∷◌, map, take, Option, Some, None, IfSome, if◌then◌else◌}
 use Rattle.std.specs.declared.net.socket_addr.SocketAddr.{SocketAddr}
 use Rattle.node_udp.specs.Sockets.{SocketEvent, Came, Went}
-use Rattle.node_udp.specs.declared.memory_socket.MemorySocket.{MemorySocket}
+use Rattle.trial_datagrams.specs.declared.memory_socket.MemorySocket.{MemorySocket}
 
 -- the datagrams that came so far, in order, each with where it came from
 abbrev pub came_of : MemorySocket → List (SocketAddr × List ℕ)

@@ -1,7 +1,7 @@
 -- the next one is cut to the room and comes
 use Rattle.std.proofs.Common.{rules, ap, refl, take}
-use Rattle.node_udp.proofs.Coming.{came_more, went_came}
-use Rattle.node_udp.proofs.memory_socket.MemorySocketSocket.receive.Goals as goal
+use Rattle.trial_datagrams.proofs.Coming.{came_more, went_came}
+use Rattle.trial_datagrams.proofs.memory_socket.MemorySocketSocket.receive.Goals as goal
 
 pub returns-clause-came : goal.returns-clause-came
 returns-clause-came c =

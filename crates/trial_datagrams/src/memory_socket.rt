@@ -1,9 +1,9 @@
 //! A socket in memory.
 
 ghost use Rattle.std.specs.Prelude.{◌≡◌, ◌≤◌, ◌++◌, [], ◌∷◌, Some, OnOk, length, map, option_map, take};
-ghost use Rattle.node_udp.specs.MemorySockets.{WentOver, came_of, kept_of, went_of};
+ghost use Rattle.trial_datagrams.specs.MemorySockets.{WentOver, came_of, kept_of, went_of};
 
-use crate::socket::Socket;
+use node_udp::Socket;
 use std::alloc::{AllocError, Global};
 use std::io::ErrorKind;
 use std::net::SocketAddr;

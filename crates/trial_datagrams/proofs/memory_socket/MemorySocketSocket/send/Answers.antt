@@ -1,7 +1,7 @@
 -- it is kept, or is so no longer
 use Rattle.std.proofs.Common.{false, refl}
-use Rattle.node_udp.proofs.Coming.{went_kept, went_lost}
-use Rattle.node_udp.proofs.memory_socket.MemorySocketSocket.send.Goals as goal
+use Rattle.trial_datagrams.proofs.Coming.{went_kept, went_lost}
+use Rattle.trial_datagrams.proofs.memory_socket.MemorySocketSocket.send.Goals as goal
 
 pub returns-in-Ok : goal.returns-in-Ok
 returns-in-Ok c = record {
