@@ -8,7 +8,3 @@ count_text left = codes "pfx: " ++ decimal left ++ codes " positions left in the
 abbrev pub left_text : (front : Option ℕ) → List ℕ
 left_text None = []
 left_text (Some front) = if nat_lt front 900000 then [] else count_text (1000000 - front)
-
--- at which line a script is
-abbrev pub line_text : (line : ℕ) → List ℕ
-line_text line = codes "\rline " ++ decimal line ++ codes ": "

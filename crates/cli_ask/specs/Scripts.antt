@@ -10,8 +10,8 @@ use Rattle.cli_ask.specs.Checking.{command_refusal}
 use Rattle.cli_ask.specs.declared.checking.Refused.{Refused}
 use Rattle.cli_ask.specs.declared.script.Change.{Change}
 use Rattle.cli_ask.specs.declared.script.Left.{Left}
-use Rattle.cli_ask.specs.declared.script.ScriptFault.{ScriptFault}
-use Rattle.cli_ask.specs.declared.script.ScriptFault.TheVariants.{Memory, Line}
+use Rattle.cli_ask.specs.declared.outcome.Outcome.{Outcome}
+use Rattle.cli_ask.specs.declared.outcome.Outcome.TheVariants as outcome
 
 -- a change: the number of its line, its arguments, `pfctl` first, and the text behind them
 pub record ScriptChange : Type 0 where
@@ -118,7 +118,16 @@ abbrev pub begun_at : Option ScriptChange → Behind → List Item
 begun_at None behind = []
 begun_at (Some c) behind = at_words c behind
 
--- why there is no next change: out of memory isn't specified
-abbrev pub IsBadAt : ScriptFault → List Item → Type 0
-IsBadAt Memory items = Unit {0}
-IsBadAt (Line at) items = items ≡ Bad at ∷ []
+-- why there is no next change: the next line asks for none, which is 40; out of memory isn't specified
+abbrev pub IsBadAt : Outcome → List Item → Type 0
+IsBadAt (outcome.Answered kind reply) items = ⊥
+IsBadAt (outcome.Refused r) items = (r.code ≡ 40) × (items ≡ Bad r.line ∷ [])
+IsBadAt outcome.Memory items = Unit {0}
+IsBadAt outcome.Unread items = ⊥
+
+-- this is the refusal; out of memory isn't specified
+abbrev pub IsRefusal : Option Refused → Outcome → Type 0
+IsRefusal refusal (outcome.Answered kind reply) = ⊥
+IsRefusal refusal (outcome.Refused r) = refusal ≡ Some r
+IsRefusal refusal outcome.Memory = Unit {0}
+IsRefusal refusal outcome.Unread = ⊥

@@ -1,16 +1,15 @@
 //! What is sent at a control socket for an operator's arguments.
 
-ghost use Rattle.std.specs.Prelude.{◌≡◌, IfOk, codes, false, map, option_map};
+ghost use Rattle.std.specs.Prelude.{◌≡◌, IfOk, codes, false, is_some, map, option_map};
 ghost use Rattle.std.specs.List.{list_any};
 ghost use Rattle.clap.specs.Words.{first_of, found_of, rows_of};
 ghost use Rattle.cli_io.specs.Given.{is_given};
 ghost use Rattle.pf_entry.specs.Owned.{command_value};
-ghost use Rattle.pf_arguments.specs.Answers.{action_value, IsShort};
 ghost use Rattle.pf_arguments.specs.Asked.{is_too_long};
 ghost use Rattle.cli_ask.specs.Sending.{has_control};
-ghost use Rattle.cli_ask.specs.Calls.{call_value, lines_call, entry_call, change_call, action_call};
+ghost use Rattle.cli_ask.specs.Calls.{call_value, lines_call, change_call};
 ghost use Rattle.cli_ask.specs.Calls.{pfctl_call, sync, plain_call, valued_call, own_call};
-ghost use Rattle.cli_ask.specs.Calls.{options_have_control, has_table_option, has_ruleset_option, has_option};
+ghost use Rattle.cli_ask.specs.Calls.{options_have_control, has_option};
 ghost use Rattle.cli_ask.specs.Calls.{call_of};
 ghost use Rattle.cli_ask.specs.Outcomes.{IsCall};
 
@@ -22,20 +21,8 @@ use crate::target::Given;
 use clap::ArgMatches;
 use cli_io::{has_flag, value_in, values_in};
 use pf_arguments::{Action, USAGE, from_matches};
-use pf_entry::{Command, EncodeFault, Path, Profile};
+use pf_entry::{Command, Path, Profile};
 use std::alloc::{AllocError, Global};
-
-/// A command that an entry has room for.
-fn entry_call(alloc: Global, command: &Command, kind: Kind) -> Result<Call, AllocError>
-    requires { is_too_long (command_value command.now) ≡ false }
-    ensures { IfOk result (λ c. call_value c ≡ entry_call (command_value command.now) kind) }
-{
-    match Call::entry(alloc, command, kind) {
-        Ok(call) => Ok(call),
-        Err(EncodeFault::Memory) => Err(AllocError),
-        Err(EncodeFault::TooLong) => unreachable!(),
-    }
-}
 
 /// A load that changes nothing, since its text is refused wherever it is loaded.
 fn sync(alloc: Global) -> Result<Call, AllocError>
@@ -46,7 +33,7 @@ fn sync(alloc: Global) -> Result<Call, AllocError>
         profile: Profile::Two,
         text: Vec::from_slice(alloc, b"sync\n")?,
     };
-    entry_call(alloc, &command, Kind::Sync)
+    Call::entry(alloc, &command, Kind::Sync).map_err(|_memory| AllocError)
 }
 
 /// Whether the value of an option that is sent has a control character.
@@ -59,30 +46,24 @@ fn options_have_control(matches: &ArgMatches<'_>) -> bool
         || value_in(matches, "change").is_some_and(has_control)
 }
 
-/// Whether the arguments have an option of pfctl's for a table.
-fn has_table_option(matches: &ArgMatches<'_>) -> bool
-    ensures { result ≡ has_table_option (rows_of (found_of matches.now)) }
+/// Whether an option with a value is there.
+fn has_value(matches: &ArgMatches<'_>, id: &str) -> bool
+    ensures { result ≡ is_some (first_of id.now (rows_of (found_of matches.now))) }
 {
-    value_in(matches, "table").is_some()
-        || value_in(matches, "change").is_some()
-        || value_in(matches, "flush").is_some()
-}
-
-/// Whether they have one for a ruleset.
-fn has_ruleset_option(matches: &ArgMatches<'_>) -> bool
-    ensures { result ≡ has_ruleset_option (rows_of (found_of matches.now)) }
-{
-    value_in(matches, "file").is_some()
-        || value_in(matches, "path").is_some()
-        || value_in(matches, "show").is_some()
-        || has_flag(matches, "check")
+    value_in(matches, id).is_some()
 }
 
 /// Whether the arguments have an option of pfctl's.
 pub(crate) fn has_option(matches: &ArgMatches<'_>) -> bool
     ensures { result ≡ has_option (rows_of (found_of matches.now)) }
 {
-    has_table_option(matches) || has_ruleset_option(matches)
+    has_value(matches, "table")
+        || has_value(matches, "change")
+        || has_value(matches, "flush")
+        || has_value(matches, "file")
+        || has_value(matches, "path")
+        || has_value(matches, "show")
+        || has_flag(matches, "check")
 }
 
 impl Given<'_, '_> {
@@ -97,7 +78,7 @@ impl Given<'_, '_> {
                 return Err(Outcome::Refused(refused));
             }
         }
-        Ok(entry_call(self.alloc, command, Kind::Change)?)
+        Call::entry(self.alloc, command, Kind::Change).map_err(|_memory| Outcome::Memory)
     }
 
     /// The request that posts arguments to a path, each in a line of its own.
@@ -110,14 +91,19 @@ impl Given<'_, '_> {
         Ok(Call::post(target, lines_of(self.alloc, words)?, kind))
     }
 
-    /// The request of an action, whose addresses are the rest of the arguments.
-    fn action_call(&self, action: &Action, rest: &[&str]) -> Result<Call, Outcome>
-        requires short { IsShort action.now }
-        requires plain { list_any has_control (map (λ r. r.now) rest.now) ≡ false }
-        ensures { IsCall result (action_call (rows_of (found_of self.now.matches.now)) (map (λ r. r.now) rest.now)
-            self.now.at (action_value action.now)) }
+    /// The request that pfctl's options ask for, with the text that `-f` names; its addresses are the rest of the
+    /// arguments.
+    #[tactic(auto, using(crate::proofs::Actions::fault_call))]
+    fn pfctl_call(&self, rest: &[&str], text: &[u8]) -> Result<Call, Outcome>
+        requires { list_any has_control (map (λ r. r.now) rest.now) ≡ false }
+        ensures { IsCall result (pfctl_call (rows_of (found_of self.now.matches.now)) (map (λ r. r.now) rest.now)
+            text.now self.now.at) }
     {
-        let path = match action {
+        let action = match from_matches(self.alloc, self.matches, text) {
+            Ok(action) => action,
+            Err(fault) => return Err(fault.code().map_or(Outcome::Memory, refused)),
+        };
+        let path = match &action {
             Action::Change(command) => return self.change_call(command),
             Action::CheckOnly(_) => return Err(refused(USAGE)),
             Action::ShowRules(_) => "/v1/rules",
@@ -129,19 +115,6 @@ impl Given<'_, '_> {
             }
         };
         Ok(Call::get(self.alloc, self.target(path, self.at)?, Kind::List))
-    }
-
-    /// The request that pfctl's options ask for, with the text that `-f` names.
-    #[tactic(auto, using(crate::proofs::Actions::fault_call))]
-    fn pfctl_call(&self, rest: &[&str], text: &[u8]) -> Result<Call, Outcome>
-        requires { list_any has_control (map (λ r. r.now) rest.now) ≡ false }
-        ensures { IsCall result (pfctl_call (rows_of (found_of self.now.matches.now)) (map (λ r. r.now) rest.now)
-            text.now self.now.at) }
-    {
-        match from_matches(self.alloc, self.matches, text) {
-            Ok(action) => self.action_call(&action, rest),
-            Err(fault) => Err(fault.code().map_or(Outcome::Memory, refused)),
-        }
     }
 
     /// The request of one of the node's own subcommands without arguments.

@@ -2,7 +2,7 @@
 
 ghost use Rattle.std.specs.Prelude.{◌≡◌, ◌≤◌};
 ghost use Rattle.cli_ask.specs.Calls.{call_value};
-ghost use Rattle.cli_ask.specs.Asking.{answer_value, is_last, in_time, limit_of, OrMemory, AskedOn, AskedAt};
+ghost use Rattle.cli_ask.specs.Asking.{answer_value, is_last, in_time, OrMemory, AskedOn, AskedAt};
 
 use crate::call::{Call, Kind};
 use crate::commands::{WAITING, number_after, outcome_call, outcome_of, waiting};
@@ -98,13 +98,6 @@ impl<RT: Pauses> Asking<'_, RT> {
     }
 }
 
-/// For how many seconds it is waited in all.
-fn limit_of(seconds: u32) -> u32
-    ensures { result ≡ limit_of seconds }
-{
-    if seconds == 0 { PATIENCE } else { seconds }
-}
-
 /// Asks, and waits for the given number of seconds in all: for a node that isn't so far yet, and for what comes of a
 /// command that was accepted, whose position is asked for again where no answer comes; it is `waiting` where none came
 /// in time. No command is asked twice that may have been accepted. With 0 seconds it is asked once, and the answer is
@@ -121,7 +114,8 @@ pub(crate) fn ask_at<RT: Pauses + Clock, C: Control>(
         (answer_value result) }
 {
     let is_once = seconds == 0;
-    let deadline = Deadline::new(rt, limit_of(seconds));
+    let limit = if is_once { PATIENCE } else { seconds };
+    let deadline = Deadline::new(rt, limit);
     let asking = Asking {
         rt,
         alloc,

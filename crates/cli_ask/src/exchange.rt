@@ -77,21 +77,17 @@ impl Deadline {
     pub(crate) fn new<RT: Clock>(rt: &RT, seconds: u32) -> Deadline
         ensures { result.seconds ≡ seconds }
     {
-        Deadline {
-            start: Instant::now(rt).ok(),
-            seconds,
-        }
+        let start = Instant::now(rt).ok();
+        Deadline { start, seconds }
     }
 
     /// How long that is; an error where it has passed.
     pub(crate) fn left<RT: Clock>(self, rt: &RT) -> io::Result<Duration> {
-        let start = self.start.ok_or(io::Error::from(ErrorKind::TimedOut))?;
+        let over = io::Error::from(ErrorKind::TimedOut);
+        let start = self.start.ok_or(over)?;
         let limit = Duration::from_secs(u64::from(self.seconds));
         let left = limit.saturating_sub(Instant::now(rt)?.duration_since(start));
-        if left.is_zero() {
-            return Err(io::Error::from(ErrorKind::TimedOut));
-        }
-        Ok(left)
+        (!left.is_zero()).then_some(left).ok_or(over)
     }
 }
 

@@ -72,15 +72,13 @@ pub(crate) fn write_outcome<W: Write>(alloc: Global, outcome: Outcome, writer: &
             Ok(()) => answer_status(kind, &reply),
             Err(_) => Status::Failed,
         },
-        Outcome::Refused(refused) => {
-            let Ok(line) = refusal_line(alloc, refused) else {
-                return out_of_memory(writer);
-            };
-            match write_bytes(writer, line.as_bytes()) {
+        Outcome::Refused(refused) => match refusal_line(alloc, refused) {
+            Ok(line) => match write_bytes(writer, line.as_bytes()) {
                 Ok(()) => Status::Refused,
                 Err(_) => Status::Failed,
-            }
-        }
+            },
+            Err(_) => out_of_memory(writer),
+        },
         Outcome::Memory => out_of_memory(writer),
         Outcome::Unread => Status::Failed,
     }

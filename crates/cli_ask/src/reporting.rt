@@ -2,7 +2,7 @@
 
 ghost use Rattle.std.specs.Prelude.{OnOk};
 ghost use Rattle.std.specs.Io.KnownBytes.{Appends};
-ghost use Rattle.cli_ask.specs.Reporting.{left_text, line_text};
+ghost use Rattle.cli_ask.specs.Reporting.{left_text};
 
 use crate::options::POSITIONS;
 use std::io::{self, Write};
@@ -21,11 +21,4 @@ pub(crate) fn report_left<E: Write>(front: Option<u32>, errors: &mut E) -> io::R
         }
         _ => Ok(()),
     }
-}
-
-/// Shows on a terminal how far a script is.
-pub(crate) fn report_line<E: Write>(line: u64, errors: &mut E) -> io::Result<()>
-    ensures { OnOk result (Appends (E.contents errors.old) (E.contents errors.new) (line_text line)) }
-{
-    write!(errors, "\rline {line}: ")
 }

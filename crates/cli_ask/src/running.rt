@@ -3,24 +3,22 @@
 ghost use Rattle.std.specs.Prelude.{◌≡◌, IfOk, IfErr, codes, map, option_map, unwrap_or};
 ghost use Rattle.clap.specs.Words.{found_of, rows_of};
 ghost use Rattle.cli_ask.specs.Arguments.{given_of};
-ghost use Rattle.cli_ask.specs.Asking.{answer_value};
 ghost use Rattle.cli_io.specs.Numbers.{number_at};
 ghost use Rattle.cli_io.specs.Sources.{IsText, IsNamed};
-ghost use Rattle.cli_ask.specs.Outcomes.{IsUnread, HasNoText};
-ghost use Rattle.cli_ask.specs.Outcomes.{Replied, AsksWith, Asks, Runs};
+ghost use Rattle.cli_ask.specs.Outcomes.{HasNoText};
+ghost use Rattle.cli_ask.specs.Outcomes.{Asks, Runs};
 ghost use Rattle.cli_ask.specs.Outcomes.{has_others, IsScript, IsNoScript};
 ghost use Rattle.cli_ask.specs.Running.{Ran};
 
 use crate::arguments::has_option;
 use crate::asking::{Pauses, ask_at};
-use crate::call::Kind;
 use crate::commands::is_command;
 use crate::control::{Control, Direct};
 use crate::exchange::Answered;
 use crate::options::command;
 use crate::outcome::{Outcome, refused, write_outcome};
 use crate::reporting::report_left;
-use crate::script::refused_script;
+use crate::script::check_script;
 use crate::scripting::ScriptRequest;
 use crate::target::Given;
 use clap::ArgMatches;
@@ -33,32 +31,6 @@ use std::alloc::Global;
 use std::convert::AsStr;
 use std::io::{Read, Write};
 use std::time::Clock;
-
-/// What a source that can't be read gives: of a file 90.
-fn unread(name: &str, fault: InputFault) -> Outcome
-    ensures { IsUnread name.now result }
-{
-    match fault {
-        InputFault::Memory => Outcome::Memory,
-        InputFault::Failed | InputFault::TooLong if name == "-" => Outcome::Unread,
-        InputFault::Failed | InputFault::TooLong => refused(UNREADABLE),
-    }
-}
-
-/// The outcome of an answer. For a command the number of positions left is written, once the log nears its end.
-fn replied<E: Write>(kind: Kind, answer: Answered, errors: &mut E) -> Outcome
-    ensures { Replied kind (answer_value answer) result }
-{
-    match answer {
-        Ok(reply) => {
-            if is_command(kind) {
-                let _logged = report_left(reply.front, errors);
-            }
-            Outcome::Answered(kind, reply)
-        }
-        Err(fault) => fault.code().map_or(Outcome::Memory, |code| refused(code)),
-    }
-}
 
 /// Whether arguments are there beside a script that are none of it.
 fn has_others(matches: &ArgMatches<'_>) -> bool
@@ -79,7 +51,7 @@ struct Run<'r, 'm, 'a, RT> {
 }
 
 impl<RT: Pauses + Clock + Sources> Run<'_, '_, '_, RT> {
-    /// The text that an option names; none without it.
+    /// The text that an option names; none without it. A file that can't be read gives 90.
     fn text_for<R: Read>(&self, named: Option<&str>, reader: &mut R) -> Result<Vec<u8>, Outcome>
         ensures text { IfOk result (λ text. IsNamed (option_map (λ n. n.now) named.entry)
             (IsText (RT.has self.now.rt.now) (R.remaining reader.old)) text.items) }
@@ -88,26 +60,15 @@ impl<RT: Pauses + Clock + Sources> Run<'_, '_, '_, RT> {
         let Some(name) = named else {
             return Ok(Vec::new(self.alloc));
         };
-        source_named(self.rt, self.alloc, name, reader).map_err(|fault| unread(name, fault))
+        source_named(self.rt, self.alloc, name, reader).map_err(|fault| match fault {
+            InputFault::Memory => Outcome::Memory,
+            _ if name == "-" => Outcome::Unread,
+            _ => refused(UNREADABLE),
+        })
     }
 
-    /// Makes the request that the arguments ask for with this text.
-    fn ask_with<C: Control, E: Write>(&self, peer: &mut C, text: &[u8], errors: &mut E) -> Outcome
-        ensures { AsksWith (C.exchanged peer.old) (C.exchanged peer.new)
-            (rows_of (found_of self.now.matches.now)) text.now result }
-    {
-        let (alloc, matches) = (self.alloc, self.matches);
-        let at = number_in(matches, "at").unwrap_or(0);
-        let call = match (Given { alloc, matches, at }).call(text) {
-            Ok(call) => call,
-            Err(outcome) => return outcome,
-        };
-        let seconds = number_in(matches, "wait").unwrap_or(0);
-        let answer = ask_at(self.rt, alloc, peer, &call, seconds);
-        replied(call.kind, answer, errors)
-    }
-
-    /// What the arguments give at a control socket.
+    /// What the arguments give at a control socket. For a command the number of positions left is written, once the log
+    /// nears its end.
     fn outcome_of<C: Control, R: Read, E: Write>(
         &self,
         control: &mut C,
@@ -120,9 +81,25 @@ impl<RT: Pauses + Clock + Sources> Run<'_, '_, '_, RT> {
         if number_in(self.matches, "from").is_some() {
             return refused(USAGE);
         }
-        match self.text_for(value_in(self.matches, "file"), reader) {
-            Ok(text) => self.ask_with(control, text.as_slice(), errors),
-            Err(outcome) => outcome,
+        let text = match self.text_for(value_in(self.matches, "file"), reader) {
+            Ok(text) => text,
+            Err(outcome) => return outcome,
+        };
+        let (alloc, matches) = (self.alloc, self.matches);
+        let at = number_in(matches, "at").unwrap_or(0);
+        let call = match (Given { alloc, matches, at }).call(text.as_slice()) {
+            Ok(call) => call,
+            Err(outcome) => return outcome,
+        };
+        let seconds = number_in(matches, "wait").unwrap_or(0);
+        match ask_at(self.rt, alloc, control, &call, seconds) {
+            Ok(reply) => {
+                if is_command(call.kind) {
+                    let _logged = report_left(reply.front, errors);
+                }
+                Outcome::Answered(call.kind, reply)
+            }
+            Err(fault) => fault.code().map_or(Outcome::Memory, |code| refused(code)),
         }
     }
 
@@ -146,9 +123,7 @@ impl<RT: Pauses + Clock + Sources> Run<'_, '_, '_, RT> {
         }
         let script = self.text_for(Some(file), reader)?;
         if !has_flag(self.matches, "unchecked") {
-            if let Some(refused) = refused_script(self.alloc, script.as_slice(), self.from())? {
-                return Err(Outcome::Refused(refused));
-            }
+            check_script(self.alloc, script.as_slice(), self.from())?;
         }
         Ok(script)
     }

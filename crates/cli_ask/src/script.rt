@@ -5,10 +5,11 @@ ghost use Rattle.pf_scripts.specs.WordsRead.{IsAskedAs};
 ghost use Rattle.cli_ask.specs.Calls.{call_value};
 ghost use Rattle.cli_ask.specs.Scripting.{call_for};
 ghost use Rattle.cli_ask.specs.Scripts.{items_left, items_in, change_value, found, IsBadAt};
-ghost use Rattle.cli_ask.specs.Scripts.{fault_of, script_refusal};
+ghost use Rattle.cli_ask.specs.Scripts.{fault_of, script_refusal, IsRefusal};
 
 use crate::call::{Call, Kind};
 use crate::checking::{Found, Refused, refused_command};
+use crate::outcome::Outcome;
 use pf_arguments::USAGE;
 use pf_scripts::{ChangeFault, cut_line, push_bytes, read_change, takes_text, words_in};
 use std::alloc::{AllocError, Global};
@@ -31,25 +32,6 @@ pub(crate) struct Change<'a> {
     pub(crate) text: Vec<u8>,
 }
 
-/// Why there is no next change.
-#[derive(Clone, Copy)]
-pub(crate) enum ScriptFault {
-    /// A growth was refused.
-    Memory,
-    /// 40: a line that asks for no change.
-    Line(u64),
-}
-
-impl From<AllocError> for ScriptFault {
-    ghost use Rattle.cli_ask.specs.declared.script.ScriptFault.TheVariants.{Memory};
-
-    ghost from_gives = { λ _ e. e ≡ Memory };
-
-    fn from(_error: AllocError) -> ScriptFault {
-        ScriptFault::Memory
-    }
-}
-
 /// Puts the lines up to a line `.`, or to the end of the script, behind the text of a change.
 fn read_text(left: &mut Left<'_>, change: &mut Change<'_>) -> Result<(), AllocError>
     ensures found { OnOk result (items_left left.old (Some (change_value change.old))
@@ -68,9 +50,9 @@ fn read_text(left: &mut Left<'_>, change: &mut Change<'_>) -> Result<(), AllocEr
 }
 
 /// A change, or why there is none; none at the end of the script.
-type Next<'a> = Result<Option<Change<'a>>, ScriptFault>;
+type Next<'a> = Result<Option<Change<'a>>, Outcome>;
 
-/// The next change: its first line is the next that isn't empty.
+/// The next change: its first line is the next that isn't empty. A line that asks for no change is refused with 40.
 pub(crate) fn next_change<'a>(alloc: Global, left: &mut Left<'a>) -> Next<'a>
     ensures found { IfOk result (λ c. items_left left.old None
         ≡ found (option_map change_value c) (items_left left.new None)) }
@@ -79,12 +61,13 @@ pub(crate) fn next_change<'a>(alloc: Global, left: &mut Left<'a>) -> Next<'a>
 {
     while let Some((first, rest)) = cut_line(left.bytes) {
         let line = left.line;
+        let bad = Refused { code: USAGE, line };
         left.bytes = rest;
         left.line = line.saturating_add(1);
-        let words = words_in(alloc, first.content)?.ok_or(ScriptFault::Line(line))?;
+        let words = words_in(alloc, first.content)?.ok_or(Outcome::Refused(bad))?;
         if let [first, ..] = words.as_slice() {
             if *first != "pfctl" {
-                return Err(ScriptFault::Line(line));
+                return Err(Outcome::Refused(bad));
             }
             let text = Vec::new(alloc);
             let mut change = Change { line, words, text };
@@ -119,30 +102,25 @@ impl Change<'_> {
         ensures { IsAskedAs result call_value (call_for (change_value self.now)) }
     {
         let command = read_change(alloc, self.words.as_slice(), self.text.as_slice())?;
-        Call::entry(alloc, &command, Kind::Change).map_err(|fault| {
-            fault
-                .code()
-                .map_or(ChangeFault::Memory, |code| ChangeFault::Refused(code))
-        })
+        Call::entry(alloc, &command, Kind::Change).map_err(|fault| fault
+            .code()
+            .map_or(ChangeFault::Memory, ChangeFault::Refused))
     }
 }
 
 /// What the first change from this line on is refused for that is refused wherever it is asked; so is a line that asks
 /// for none.
-pub(crate) fn refused_script(alloc: Global, bytes: &[u8], from: u64) -> Found
-    ensures { IfOk result (λ r. r ≡ script_refusal from (items_in bytes.now)) }
+pub(crate) fn check_script(alloc: Global, bytes: &[u8], from: u64) -> Result<(), Outcome>
+    ensures good { IfOk result (λ _. script_refusal from (items_in bytes.now) ≡ None) }
+    ensures refused { IfErr result (IsRefusal (script_refusal from (items_in bytes.now))) }
 {
     let mut left = Left { bytes, line: 1 };
-    loop {
-        match next_change(alloc, &mut left) {
-            Ok(None) => return Ok(None),
-            Ok(Some(change)) => if change.line >= from {
-                if let Some(refused) = change.fault(alloc)? {
-                    return Ok(Some(refused));
-                }
-            },
-            Err(ScriptFault::Line(line)) => return Ok(Some(Refused { code: USAGE, line })),
-            Err(ScriptFault::Memory) => return Err(AllocError),
+    while let Some(change) = next_change(alloc, &mut left)? {
+        if change.line >= from {
+            if let Some(refused) = change.fault(alloc)? {
+                return Err(Outcome::Refused(refused));
+            }
         }
     }
+    Ok(())
 }

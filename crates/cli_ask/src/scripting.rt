@@ -1,9 +1,7 @@
 //! A script's changes are asked at a control socket, one after the other.
 
-ghost use Rattle.std.specs.Prelude.{◌≡◌, IfOk};
-ghost use Rattle.cli_ask.specs.Answers.{outcome_behind};
 ghost use Rattle.cli_ask.specs.Scripts.{change_value, items_in};
-ghost use Rattle.cli_ask.specs.Scripting.{call_for, printed, went_value, went_by_outcome, Makes};
+ghost use Rattle.cli_ask.specs.Scripting.{call_for, printed, went_value, Makes};
 ghost use Rattle.cli_ask.specs.Scripting.{end_text, Ended, AskedOne, AskedAll};
 
 use crate::answers::behind_line;
@@ -11,13 +9,13 @@ use crate::asking::{Pauses, ask_at};
 use crate::checking::Refused;
 use crate::commands::ASKED;
 use crate::control::Control;
-use crate::exchange::{AskFault, Reply};
-use crate::outcome::refusal_line;
-use crate::reporting::{report_left, report_line};
-use crate::script::{Change, Left, ScriptFault, next_change};
+use crate::exchange::AskFault;
+use crate::outcome::{Outcome, refusal_line};
+use crate::reporting::report_left;
+use crate::script::{Change, Left, next_change};
 use cli_io::{Status, out_of_memory, write_bytes};
 use pf_scripts::ChangeFault;
-use std::alloc::{AllocError, Global};
+use std::alloc::Global;
 use std::io::Write;
 use std::time::Clock;
 
@@ -44,18 +42,6 @@ enum Went {
     Stopped(Vec<u8>),
 }
 
-/// How a change went, by its answer: it was made where the outcome begins with `ok`.
-fn went_by(alloc: Global, reply: Reply) -> Result<Went, AllocError>
-    ensures { IfOk result (λ went. printed went
-        ≡ went_by_outcome (outcome_behind reply.body.items) reply.body.items) }
-{
-    let outcome = behind_line(reply.body.as_slice(), ASKED);
-    if outcome.starts_with(b"ok") {
-        return Ok(Went::Made(Vec::from_slice(alloc, outcome)?));
-    }
-    Ok(Went::Stopped(reply.body))
-}
-
 /// Writes what ends a script, and the line at which it ended.
 fn write_end<W: Write>(alloc: Global, said: &[u8], line: u64, writer: &mut W) -> Status
     ensures { Ended (end_text said.now line) result (W.contents writer.old) (W.contents writer.new) }
@@ -73,7 +59,8 @@ fn write_end<W: Write>(alloc: Global, said: &[u8], line: u64, writer: &mut W) ->
 }
 
 impl<RT: Pauses + Clock> ScriptRequest<'_, RT> {
-    /// Asks one change, and waits for what comes of it. With `--unchecked` its arguments may be refused here.
+    /// Asks one change, and waits for what comes of it: it was made where the outcome begins with `ok`. With
+    /// `--unchecked` its arguments may be refused here.
     fn make<C: Control, E: Write>(
         &self,
         control: &mut C,
@@ -93,7 +80,11 @@ impl<RT: Pauses + Clock> ScriptRequest<'_, RT> {
         };
         let reply = ask_at(self.rt, self.alloc, control, &call, self.seconds)?;
         let _logged = report_left(reply.front, errors);
-        Ok(went_by(self.alloc, reply)?)
+        let outcome = behind_line(reply.body.as_slice(), ASKED);
+        if outcome.starts_with(b"ok") {
+            return Ok(Went::Made(Vec::from_slice(self.alloc, outcome)?));
+        }
+        Ok(Went::Stopped(reply.body))
     }
 
     /// Asks one change and writes what came of it; none where it was made, else how the script ends.
@@ -137,14 +128,14 @@ impl<RT: Pauses + Clock> ScriptRequest<'_, RT> {
             let change = match next_change(self.alloc, &mut left) {
                 Ok(Some(change)) => change,
                 Ok(None) => return Status::Done,
-                Err(ScriptFault::Line(line)) => {
-                    return write_end(self.alloc, b"refused 40\n", line, writer);
+                Err(Outcome::Refused(bad)) => {
+                    return write_end(self.alloc, b"refused 40\n", bad.line, writer);
                 }
-                Err(ScriptFault::Memory) => return out_of_memory(writer),
+                Err(_) => return out_of_memory(writer),
             };
             if change.line >= self.from {
                 if self.is_terminal {
-                    let _logged = report_line(change.line, errors);
+                    let _logged = write!(errors, "\rline {}: ", change.line);
                 }
                 if let Some(status) = self.ask_one(control, &change, writer, errors) {
                     return status;

@@ -1,9 +1,9 @@
 //! Verdicts, which a node answers in parts.
 
-ghost use Rattle.std.specs.Prelude.{◌≡◌, true, false, Some, OnOk};
+ghost use Rattle.std.specs.Prelude.{◌≡◌, Some};
 ghost use Rattle.cli_ask.specs.Calls.{call_value};
 ghost use Rattle.cli_ask.specs.Replies.{reply_value};
-ghost use Rattle.cli_ask.specs.Asking.{behind_lines, left_by, is_whole, IsOfOne, with_more};
+ghost use Rattle.cli_ask.specs.Asking.{left_by};
 ghost use Rattle.cli_ask.specs.Asking.{answer_value, parts_value, BegunParts, AskedVerdicts};
 
 use crate::asking::{Asking, Pauses};
@@ -11,16 +11,16 @@ use crate::call::Call;
 use crate::control::Control;
 use crate::exchange::{Answered, AskFault, Reply};
 use pf_scripts::cut_line;
-use std::alloc::AllocError;
 
 /// How many times verdicts are asked for that a node doesn't answer at once, until all are of one position.
 const BEGINNINGS: u32 = 3;
 
-/// What is behind that many lines.
-fn behind_lines(text: &[u8], count: usize) -> &[u8]
-    ensures { result.now ≡ behind_lines count text.now }
+/// The packets, each a line, behind those that have a verdict so far.
+fn left_by<'a>(so_far: &Reply, call: &'a Call) -> &'a [u8]
+    ensures { result.now ≡ left_by (Some (reply_value so_far.now)) (call_value call.now).body }
 {
-    let mut left = text;
+    let count = so_far.body.iter().filter(|byte| **byte == b'\n').count();
+    let mut left = call.body.as_slice();
     for _line in 0..count {
         let Some((_, rest)) = cut_line(left) else {
             return left;
@@ -28,39 +28,6 @@ fn behind_lines(text: &[u8], count: usize) -> &[u8]
         left = rest;
     }
     left
-}
-
-/// The packets, each a line, behind those that have a verdict so far.
-fn left_by<'a>(so_far: &Reply, call: &'a Call) -> &'a [u8]
-    ensures { result.now ≡ left_by (Some (reply_value so_far.now)) (call_value call.now).body }
-{
-    let count = so_far.body.iter().filter(|byte| **byte == b'\n').count();
-    behind_lines(call.body.as_slice(), count)
-}
-
-/// Whether nothing is asked behind it: it isn't one of verdicts, or leaves no packet.
-fn is_whole(so_far: &Reply, call: &Call) -> bool
-    ensures { result ≡ is_whole (Some (reply_value so_far.now)) (call_value call.now).body }
-{
-    so_far.code != 200 || left_by(so_far, call).is_empty()
-}
-
-/// Whether a node had applied as many positions as it answered.
-fn is_of_one(so_far: &Reply, part: &Reply) -> bool
-    ensures same { result ≡ true → IsOfOne (Some (reply_value so_far.now)) (reply_value part.now) }
-    ensures other { result ≡ false → IsOfOne (Some (reply_value so_far.now)) (reply_value part.now) → ⊥ }
-{
-    part.applied == so_far.applied
-}
-
-/// Puts an answer behind those so far.
-fn push_part(so_far: &mut Reply, part: &Reply) -> Result<(), AllocError>
-    ensures { OnOk result (reply_value so_far.new
-        ≡ with_more (Some (reply_value so_far.old)) (reply_value part.now)) }
-{
-    so_far.body.extend_from_slice(part.body.as_slice())?;
-    so_far.code = part.code;
-    Ok(())
 }
 
 impl<RT: Pauses> Asking<'_, RT> {
@@ -72,15 +39,19 @@ impl<RT: Pauses> Asking<'_, RT> {
     {
         let mut so_far = self.ask_on(control, call)?;
         for _part in 0..call.body.len() {
-            if is_whole(&so_far, call) {
+            let left = left_by(&so_far, call);
+            // it isn't one of verdicts, or leaves no packet
+            if so_far.code != 200 || left.is_empty() {
                 return Ok(Some(so_far));
             }
-            let others = call.with_body(self.alloc, left_by(&so_far, call))?;
+            let others = call.with_body(self.alloc, left)?;
             let next = self.ask_on(control, &others)?;
-            if !is_of_one(&so_far, &next) {
+            // as many positions are applied as before
+            if next.applied != so_far.applied {
                 return Ok(None);
             }
-            push_part(&mut so_far, &next)?;
+            so_far.body.extend_from_slice(next.body.as_slice())?;
+            so_far.code = next.code;
         }
         Err(AskFault::BadAnswer)
     }

@@ -1,3 +1,2 @@
 pub mod KeyLines
 mod StartsLines
-pub mod Newlines

@@ -2,7 +2,7 @@
 use Rattle.std.proofs.Common.{◌≡◌, ◌∙◌, ℕ, zero, suc, ◌+◌, ◌-◌, ◌*◌, ◌/◌, ◌<◌, ◌^◌, List, [], ◌∷◌, ◌++◌, length, take, drop, get_or, ap, sym, refl, arith, append_assoc}
 use Rattle.std.specs.Prelude.{Ok, Some}
 use Rattle.std.specs.Int.{w32, w64, to_be_bytes, from_be_bytes, byte_at, bytes_high_first}
-use Rattle.std.proofs.lemmas.List.{length-append, length-take, length-drop, take_at, drop_at, drop-drop, take_rest, take_more}
+use Rattle.std.proofs.lemmas.List.{length-append, take_at, drop_at, drop-drop, take_more}
 use Rattle.std.proofs.lemmas.Nat.{mod_below, from_be_bytes-to_be_bytes_4, from_be_bytes-to_be_bytes_8}
 use Rattle.hex.specs.Hex.{encode_lower, lower_digits, decode_sized, IsBytes}
 use Rattle.hex.proofs.HexLemmas.{length-encode_with, decode_sized-encode_lower}
@@ -81,25 +81,20 @@ birth_of m b fits e =
     ∷ get_or x 13 0 ∷ get_or x 14 0 ∷ get_or x 15 0 ∷ [])) e
     ∙ from_be_bytes-to_be_bytes_8 m.birth fits.birth
 
--- what follows the first line, as the reader cuts it
-abbrev pub behind : List ℕ → List ℕ
-behind text = take (length text - 13) (drop 13 text)
+-- what follows the first line
+pub behind : (ms : List KnownMember) (text lines : List ℕ) → lines ≡ drop 13 text → text ≡ starts_text ms → lines ≡ lines_of ms
+behind ms text lines cut e = cut ∙ ap (drop 13) e
 
 -- how many lines a string has
-pub count_is : (ms : List KnownMember) (text : List ℕ) → text ≡ starts_text ms → length (behind text) / 33 ≡ length ms
-count_is ms text e =
-    let n : length text ≡ length (starts_text ms) = ap length e in
-    let m : length (behind text) ≡ 33 * length ms =
-    omega (arith, n, length-append version (lines_of ms), length-lines ms, length-take (length text - 13) (drop 13 text), length-drop 13 text) in
-    omega (arith, m)
+pub count_is : (ms : List KnownMember) (lines : List ℕ) → lines ≡ lines_of ms → length lines / 33 ≡ length ms
+count_is ms lines e = omega (arith, ap length e, length-lines ms)
 
 -- the digits of a line of a ruleset, as the reader cuts them
-pub digits_of : (ms : List KnownMember) (text : List ℕ) (i : ℕ) (d : KnownMember) → text ≡ starts_text ms → i < length ms →
-    take ((33 * i + 32) - 33 * i) (drop (33 * i) (behind text)) ≡ encode_lower (known_bytes (get_or ms i d))
-digits_of ms text i d e h =
+pub digits_of : (ms : List KnownMember) (lines : List ℕ) (i : ℕ) (d : KnownMember) → lines ≡ lines_of ms → i < length ms →
+    take ((33 * i + 32) - 33 * i) (drop (33 * i) lines) ≡ encode_lower (known_bytes (get_or ms i d))
+digits_of ms lines i d e h =
     let long : (33 * i + 32) - 33 * i ≡ 32 = omega arith in
-    ap (λ n. take n (drop (33 * i) (behind text))) long ∙ ap (λ x. take 32 (drop (33 * i) x)) (take_rest text 13)
-    ∙ ap (λ x. take 32 (drop (33 * i) (drop 13 x))) e ∙ digits_at ms i d h
+    ap (λ n. take n (drop (33 * i) lines)) long ∙ ap (λ x. take 32 (drop (33 * i) x)) e ∙ digits_at ms i d h
 
 -- a member more
 pub one_more : (ms read new : List KnownMember) (i : ℕ) (m d : KnownMember) → i < length ms → read ≡ take i ms →

@@ -1,6 +1,5 @@
 pub mod Settings
 pub mod Files
-pub mod inner
 pub mod KeyTexts
 pub mod Clusters
 pub mod StartsTexts

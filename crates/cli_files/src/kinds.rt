@@ -2,7 +2,7 @@
 
 ghost use Rattle.std.specs.Prelude.{◌≡◌};
 ghost use Rattle.toml.specs.View.{view, items_view};
-ghost use Rattle.cli_files.specs.Settings.{kind_of, number_of, are_texts, fits, is_setting};
+ghost use Rattle.cli_files.specs.Settings.{kind_of, number_of, are_texts, is_setting};
 
 use toml::Value;
 
@@ -52,23 +52,17 @@ fn are_texts(values: &[Value]) -> bool
     true
 }
 
-/// Whether a value is of a kind.
-fn fits(kind: Kind, value: &Value) -> bool
-    ensures { result ≡ fits kind (view value.now) }
-{
-    match kind {
-        Kind::Text => value.is_str(),
-        Kind::Number(most) => number_of(value).is_some_and(|number| number <= u64::from(most)),
-        Kind::Flag => value.is_bool(),
-        Kind::Texts => value
-            .as_array()
-            .is_some_and(|values| are_texts(values.as_slice())),
-    }
-}
-
 /// Whether the key names a setting that takes this value.
 pub(crate) fn is_setting(key: &str, value: &Value) -> bool
     ensures { result ≡ is_setting key.now (view value.now) }
 {
-    kind_of(key).is_some_and(|kind| fits(kind, value))
+    match kind_of(key) {
+        Some(Kind::Text) => value.is_str(),
+        Some(Kind::Number(most)) => number_of(value).is_some_and(|n| n <= u64::from(most)),
+        Some(Kind::Flag) => value.is_bool(),
+        Some(Kind::Texts) => value
+            .as_array()
+            .is_some_and(|values| are_texts(values.as_slice())),
+        None => false,
+    }
 }

@@ -11,12 +11,7 @@ use px_packet::Start;
 pub fn next_start(last: Start, seconds: u64, salt: u32) -> Option<Start>
     ensures { result ≡ next_start last seconds salt }
 {
-    if last.number == u32::MAX {
-        return None;
-    }
-    let time = seconds.min(u64::from(u32::MAX)) as u32;
-    Some(Start {
-        number: time.max(last.number + 1),
-        salt,
-    })
+    let next = last.number.checked_add(1)?;
+    let number = next.max(seconds.min(u64::from(u32::MAX)) as u32);
+    Some(Start { number, salt })
 }

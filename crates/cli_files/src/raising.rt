@@ -24,13 +24,9 @@ fn known_in_text(alloc: Global, text: &[u8], members: u8) -> Result<Vec<KnownMem
     ensures why { IfErr result IsOfRead }
 {
     match read_starts(alloc, text) {
-        Ok(known) => if known.len() == usize::from(members) {
-            Ok(known)
-        } else {
-            Err(RaiseFault::Damaged)
-        },
+        Ok(known) if known.len() == usize::from(members) => Ok(known),
         Err(StartsFault::Memory) => Err(RaiseFault::Memory),
-        Err(StartsFault::Version | StartsFault::Damaged) => Err(RaiseFault::Damaged),
+        _ => Err(RaiseFault::Damaged),
     }
 }
 

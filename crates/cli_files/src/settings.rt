@@ -1,8 +1,7 @@
 //! A file of settings that was read.
 
-ghost use Rattle.std.specs.Prelude.{◌≡◌, Some, None, map, option_map, option_and_then, IfOk, IfErr, IsUtf8};
-ghost use Rattle.toml.specs.Data.{Members, no_members, as_str, get_member};
-ghost use Rattle.toml.specs.Errors.{IsMemory};
+ghost use Rattle.std.specs.Prelude.{◌≡◌, Some, None, map, option_map, option_and_then, IfOk, IfErr};
+ghost use Rattle.toml.specs.Data.{no_members, as_str, get_member};
 ghost use Rattle.toml.specs.Parse.{parse_document};
 ghost use Rattle.toml.specs.View.{view, table_view, items_view};
 ghost use Rattle.cli_files.specs.Settings.{first_wrong, number_of, flag_at, texts_of, texts_at, IsRefused};
@@ -12,7 +11,6 @@ use crate::kinds::{is_setting, kind_of, number_of};
 use crate::lines::{line_at, line_of};
 use crate::settings_fault::FileFault;
 use std::alloc::{AllocError, Global};
-use toml::de::Error;
 use toml::{Table, Value, table_from_slice};
 
 /// The settings of a file. Each key names a setting, and its value is one that the setting takes.
@@ -33,29 +31,6 @@ fn first_wrong(table: &Table) -> Option<&str>
     None
 }
 
-/// What a string that isn't TOML is refused for.
-fn syntax_fault(text: &[u8], error: Error) -> FileFault
-    requires { ¬ IsMemory error → IsUtf8 text.now → parse_document text.now ≡ None }
-    ensures { IsRefused result text.now }
-{
-    match error.span() {
-        Some(span) => FileFault::Syntax(line_at(text, span.start)),
-        None => FileFault::Memory,
-    }
-}
-
-/// What a key is refused for.
-fn key_fault(text: &[u8], key: &str) -> FileFault
-    requires { (ms : Members) × (parse_document text.now ≡ Some ms) × (first_wrong ms ≡ Some key.now) }
-    ensures { IsRefused result text.now }
-{
-    let line = line_of(text, key);
-    match kind_of(key) {
-        Some(_) => FileFault::Value(line),
-        None => FileFault::Unknown(line),
-    }
-}
-
 impl NodeFile {
     /// A file without any setting.
     pub fn empty(alloc: Global) -> NodeFile
@@ -73,14 +48,17 @@ impl NodeFile {
         ensures all { IfOk result (λ f. first_wrong (settings_of f) ≡ None) }
         ensures refused { IfErr result (λ fault. IsRefused fault text.now) }
     {
-        let table = table_from_slice(alloc, text).map_err(|error| syntax_fault(text, error))?;
-        match first_wrong(&table).map(|key| key_fault(text, key)) {
-            None => Ok(NodeFile { table }),
-            Some(fault) => {
-                drop(table);
-                Err(fault)
-            }
-        }
+        let table = table_from_slice(alloc, text).map_err(|error| {
+            error.span().map_or(
+                FileFault::Memory,
+                |span| FileFault::Syntax(line_at(text, span.start)),
+            )
+        })?;
+        let Some(key) = first_wrong(&table) else {
+            return Ok(NodeFile { table });
+        };
+        let line = line_of(text, key);
+        Err(kind_of(key).map_or(FileFault::Unknown(line), |_| FileFault::Value(line)))
     }
 
     /// The text of a setting, if the file has one.
@@ -108,18 +86,9 @@ impl NodeFile {
     pub fn texts(&self, alloc: Global, name: &str) -> Result<Vec<&str>, AllocError>
         ensures { IfOk result (λ v. map (λ s. s.now) v.items ≡ texts_at (get_member name.now (settings_of self.now))) }
     {
-        match value_at(&self.table, name).and_then(|value| value.as_array()) {
-            Some(values) => texts_in(alloc, values.as_slice()),
-            None => Ok(Vec::new(alloc)),
-        }
+        let values = value_at(&self.table, name).and_then(|value| value.as_array());
+        texts_in(alloc, values.map_or(&[], |values| values.as_slice()))
     }
-}
-
-/// The value of a key.
-fn value_at<'t>(table: &'t Table, key: &str) -> Option<&'t Value>
-    ensures { option_map (λ v. view v.now) result ≡ get_member key.now (table_view table.now) }
-{
-    table.get(key)
 }
 
 /// The strings among values.
@@ -133,4 +102,11 @@ fn texts_in(alloc: Global, values: &[Value]) -> Result<Vec<&str>, AllocError>
         }
     }
     Ok(texts)
+}
+
+/// The value of a key.
+fn value_at<'t>(table: &'t Table, key: &str) -> Option<&'t Value>
+    ensures { option_map (λ v. view v.now) result ≡ get_member key.now (table_view table.now) }
+{
+    table.get(key)
 }

@@ -3,7 +3,7 @@
 ghost use Rattle.std.specs.Prelude.{◌≡◌};
 ghost use Rattle.cli_files.specs.declared.starts_fault.StartsFault.TheVariants.{Memory};
 
-use std::alloc::{AllocError, AllocFailed};
+use std::alloc::AllocError;
 use thiserror::Error;
 
 /// Why a file of starts isn't read.
@@ -24,14 +24,6 @@ impl From<AllocError> for StartsFault {
     ghost from_gives = { λ _ e. e ≡ Memory };
 
     fn from(_e: AllocError) -> StartsFault {
-        StartsFault::Memory
-    }
-}
-
-impl<T: Drop> From<AllocFailed<T>> for StartsFault {
-    ghost from_gives = { λ _ e. e ≡ Memory };
-
-    fn from(_e: AllocFailed<T>) -> StartsFault {
         StartsFault::Memory
     }
 }

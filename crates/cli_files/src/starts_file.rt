@@ -50,9 +50,7 @@ impl<C: Clock> Seconds for C {
     ghost reports = { λ _ _. ⊤ };
 
     fn seconds(&self) -> u64 {
-        let Ok(now) = SystemTime::now(self) else {
-            return 0;
-        };
+        let now = SystemTime::now(self).unwrap_or(SystemTime::UNIX_EPOCH);
         now.duration_since(SystemTime::UNIX_EPOCH)
             .map_or(0, |since| since.as_secs())
     }

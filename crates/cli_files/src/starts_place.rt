@@ -34,14 +34,6 @@ pub(crate) struct StartsFile<'a, F: Files> {
     pub(crate) path: &'a str,
 }
 
-/// The folder that a file is in.
-fn folder_of(path: &str) -> &str {
-    match Path::new(path).parent() {
-        Some(folder) if !folder.as_os_str().is_empty() => folder.as_os_str(),
-        _ => ".",
-    }
-}
-
 impl<F: Files> StartsPlace for StartsFile<'_, F> {
     // no contract states what a file has
     ghost has = { λ _ _. ⊤ };
@@ -69,6 +61,9 @@ impl<F: Files> StartsPlace for StartsFile<'_, F> {
         file.write_all(text)?;
         file.sync_all()?;
         fs::rename(files, beside.as_str(), path)?;
-        Ok(fs::open(files, folder_of(path))?.sync_all()?)
+        let parent = Path::new(path).parent();
+        let folder = parent.map_or("", |folder| folder.as_os_str());
+        let folder = if folder.is_empty() { "." } else { folder };
+        Ok(fs::open(files, folder)?.sync_all()?)
     }
 }

@@ -14,9 +14,6 @@ use std::alloc::Global;
 /// How many members there are at most.
 const MEMBERS_MAX: usize = 15;
 
-/// How many bytes the first line has.
-const VERSION_BYTES: usize = 13;
-
 /// How many digits a line has, and with its newline.
 const DIGITS: usize = 32;
 
@@ -47,10 +44,7 @@ pub fn read_starts(alloc: Global, text: &[u8]) -> Result<Vec<KnownMember>, Start
     ensures damaged { result ≡ Err StartsFault.Damaged → (members : List declared.KnownMember) →
         AreFit members → length members ≤ 15 → text.now ≡ starts_text members → ⊥ }
 {
-    if text.len() < VERSION_BYTES || &text[..VERSION_BYTES] != VERSION {
-        return Err(StartsFault::Version);
-    }
-    let lines = &text[VERSION_BYTES..];
+    let lines = text.strip_prefix(VERSION).ok_or(StartsFault::Version)?;
     let count = lines.len() / LINE;
     if count > MEMBERS_MAX {
         return Err(StartsFault::Damaged);
@@ -58,11 +52,11 @@ pub fn read_starts(alloc: Global, text: &[u8]) -> Result<Vec<KnownMember>, Start
     let mut members = Vec::with_capacity(alloc, count)?;
     for i in 0..count {
         let digits = &lines[LINE * i..LINE * i + DIGITS];
-        members.push(member_in(digits).ok_or(StartsFault::Damaged)?)?;
+        let member = member_in(digits).ok_or(StartsFault::Damaged)?;
+        members.push(member).map_err(|_| StartsFault::Memory)?;
     }
     let again = write_starts(alloc, members.as_slice())?;
-    if again.as_slice() != text {
-        return Err(StartsFault::Damaged);
-    }
-    Ok(members)
+    (again.as_slice() == text)
+        .then_some(members)
+        .ok_or(StartsFault::Damaged)
 }

@@ -1,7 +1,7 @@
 //! The text of a file of starts.
 
 ghost use Rattle.std.specs.Prelude.{◌≡◌, ◌++◌, IfOk, OnOk};
-ghost use Rattle.cli_files.specs.StartsTexts.{known_bytes, line_of, starts_text};
+ghost use Rattle.cli_files.specs.StartsTexts.{line_of, starts_text};
 
 use crate::known::KnownMember;
 use std::alloc::{AllocError, Global};
@@ -9,24 +9,15 @@ use std::alloc::{AllocError, Global};
 /// The first line.
 pub(crate) const VERSION: &[u8] = b"pfx starts 1\n";
 
-/// The 16 bytes of a member.
-fn known_bytes(alloc: Global, member: &KnownMember) -> Result<Vec<u8>, AllocError>
-    ensures { IfOk result (λ v. v.items ≡ known_bytes member.now) }
-{
-    let mut bytes = Vec::from_slice(alloc, &member.start.number.to_be_bytes())?;
-    bytes.extend_from_slice(&member.start.salt.to_be_bytes())?;
-    bytes.extend_from_slice(&member.birth.to_be_bytes())?;
-    Ok(bytes)
-}
-
 /// Writes the line of a member behind what the text has.
 fn write_line(alloc: Global, member: &KnownMember, text: &mut Vec<u8>) -> Result<(), AllocError>
     ensures { OnOk result (text.new.items ≡ text.old.items ++ line_of member.now) }
 {
-    let digits = hex::encode(alloc, known_bytes(alloc, member)?)?;
-    text.extend_from_slice(digits.as_bytes())?;
-    text.push(b'\n')?;
-    Ok(())
+    let mut bytes = Vec::from_slice(alloc, &member.start.number.to_be_bytes())?;
+    bytes.extend_from_slice(&member.start.salt.to_be_bytes())?;
+    bytes.extend_from_slice(&member.birth.to_be_bytes())?;
+    text.extend_from_slice(hex::encode(alloc, bytes)?.as_bytes())?;
+    Ok(text.push(b'\n')?)
 }
 
 /// The text of the members of a cluster.

@@ -1,13 +1,13 @@
 //! What a node answers at its control socket.
 
-ghost use Rattle.std.specs.Prelude.{◌≡◌, ℕ, List, [], ◌∷◌, IfOk, string_bytes};
+ghost use Rattle.std.specs.Prelude.{◌≡◌, ℕ, List, [], ◌∷◌};
 ghost use Rattle.std.specs.List.{AllByRecursion};
 ghost use Rattle.cli_ask.specs.Reading.{ReadAt};
-ghost use Rattle.cli_follow.specs.Exchanges.{Exchange, Entries, Status, Adds, IsAnswered, asked, target_of};
+ghost use Rattle.cli_follow.specs.Exchanges.{Exchange, Entries, Status, Adds, IsAnswered, asked};
 
 use cli_ask::{AskFault, Reply, read_at};
 use cli_io::{Shown, knock};
-use std::alloc::{AllocError, Global};
+use std::alloc::Global;
 use std::io::Write;
 use std::net::Net;
 use std::time::Clock;
@@ -37,20 +37,6 @@ pub struct ControlSocket<'a, RT, S> {
     pub(crate) path: &'a str,
 }
 
-/// The target of the entries from a position on.
-fn entries_target(alloc: Global, from: u32) -> Result<String, AllocError>
-    ensures { IfOk result (λ t. string_bytes t ≡ target_of (Entries from)) }
-{
-    format!(in alloc; "/v1/entries?from={from}")
-}
-
-/// The target of the node's status.
-fn status_target(alloc: Global) -> Result<String, AllocError>
-    ensures { IfOk result (λ t. string_bytes t ≡ target_of Status) }
-{
-    String::from_str(alloc, "/v1/status")
-}
-
 impl<'a, RT: Net + Clock, S: cli_ask::ControlSockets<'a>> Control for ControlSocket<'a, RT, S> {
     // each answer was read at this path, under the target of its question
     ghost exchanged = { λ peer es. AllByRecursion (IsAnswered (λ target answer.
@@ -58,12 +44,12 @@ impl<'a, RT: Net + Clock, S: cli_ask::ControlSockets<'a>> Control for ControlSoc
         S.Socket.Stream.contents S.Socket.Stream.remaining peer.path.now target answer)) es };
 
     fn entries(&mut self, alloc: Global, from: u32) -> Result<Reply, AskFault> {
-        let target = entries_target(alloc, from)?;
+        let target = format!(in alloc; "/v1/entries?from={from}")?;
         read_at(self.rt, self.sockets, alloc, self.path, target)
     }
 
     fn status(&mut self, alloc: Global) -> Result<Reply, AskFault> {
-        let target = status_target(alloc)?;
+        let target = String::from_str(alloc, "/v1/status")?;
         read_at(self.rt, self.sockets, alloc, self.path, target)
     }
 

@@ -79,11 +79,8 @@ fn files_in(alloc: Global, texts: Vec<PathText<'_>>) -> Result<Vec<TextFile>, Al
     let mut files = Vec::new(alloc);
     for it in texts {
         let PathText { path, text } = it;
-        files.push(TextFile {
-            name: file_name(alloc, path)?,
-            text,
-            is_put: false,
-        })?;
+        let (name, is_put) = (file_name(alloc, path)?, false);
+        files.push(TextFile { name, text, is_put })?;
     }
     Ok(files)
 }
@@ -100,11 +97,9 @@ fn files_of(alloc: Global, config: &Config) -> Result<Option<Vec<TextFile>>, All
     };
     let mut files = files_in(alloc, texts)?;
     if !has_name(files.as_slice(), "main.conf") {
-        files.push(TextFile {
-            name: String::from_str(alloc, "main.conf")?,
-            text: String::new(alloc),
-            is_put: false,
-        })?;
+        let name = String::from_str(alloc, "main.conf")?;
+        let (text, is_put) = (String::new(alloc), false);
+        files.push(TextFile { name, text, is_put })?;
     }
     Ok(Some(files))
 }
@@ -121,13 +116,6 @@ fn is_written(files: &[TextFile], name: &str, text: &str) -> bool
     ensures { result ≡ list_any (is_there name.now text.now) files.now }
 {
     files.iter().any(|old| old.is_put && old.name.as_str() == name && old.text.as_str() == text)
-}
-
-/// Whether all are there.
-fn are_put(files: &[TextFile]) -> bool
-    ensures { result ≡ list_all is_put files.now }
-{
-    files.iter().all(|file| file.is_put)
 }
 
 /// Writes a file that isn't there: what is at this path is removed first, a link too, whose target stays as it
@@ -227,11 +215,9 @@ impl TextFiles {
         let written = self.written.as_slice();
         for old in written {
             if is_gone(files.as_slice(), old) {
-                files.push(TextFile {
-                    name: String::from_str(alloc, old.name.as_str())?,
-                    text: String::new(alloc),
-                    is_put: false,
-                })?;
+                let name = String::from_str(alloc, old.name.as_str())?;
+                let (text, is_put) = (String::new(alloc), false);
+                files.push(TextFile { name, text, is_put })?;
             }
         }
         Ok(files)
@@ -269,7 +255,7 @@ impl TextFiles {
     {
         let files = self.with_gone(files)?;
         self.written = self.put_each(folders, files)?;
-        Ok(are_put(self.written.as_slice()))
+        Ok(self.written.iter().all(|file| file.is_put))
     }
 
     /// Writes the files of what was followed. That one couldn't be written is logged once until it could be. Where

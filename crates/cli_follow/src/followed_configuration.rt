@@ -81,21 +81,16 @@ impl FollowedConfiguration {
             next_of (followed_of self.old) (decode_of digits.now) ≡ None }
         ensures err { OnErr result (self.new ≡ self.old) }
     {
-        let Some(next) = self.position.checked_add(1) else {
-            return Err(TakeFault::BadLine);
-        };
-        match hex::decode(alloc, digits) {
-            Ok(bytes) => match apply_bytes(alloc, &mut self.config, bytes.as_slice()) {
-                Ok(is_done) => {
-                    self.position = next;
-                    self.is_moved = self.is_moved || is_done;
-                    Ok(())
-                }
-                Err(_) => Err(TakeFault::Memory),
-            },
-            Err(FromHexError::OutOfMemory) => Err(TakeFault::Memory),
-            Err(_) => Err(TakeFault::BadLine),
-        }
+        let next = self.position.checked_add(1).ok_or(TakeFault::BadLine)?;
+        let bytes = hex::decode(alloc, digits).map_err(|error| match error {
+            FromHexError::OutOfMemory => TakeFault::Memory,
+            _ => TakeFault::BadLine,
+        })?;
+        let is_done = apply_bytes(alloc, &mut self.config, bytes.as_slice());
+        let is_done = is_done.map_err(|_| TakeFault::Memory)?;
+        self.position = next;
+        self.is_moved = self.is_moved || is_done;
+        Ok(())
     }
 
     /// Takes the entries of lines, the first of them at this configuration's position: what a control socket

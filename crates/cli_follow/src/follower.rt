@@ -4,7 +4,7 @@ ghost use Rattle.std.specs.Prelude.{◌≡◌, ◌+◌, ◌||◌, ◌&&◌, ℕ,
 ghost use Rattle.std.specs.Io.KnownBytes.{Appends};
 ghost use Rattle.cli_io.specs.Written.{AppendsFront};
 ghost use Rattle.nft_rules.specs.Seen.{machine_of};
-ghost use Rattle.cli_follow.specs.Output.{wanted, start, is_again, is_more, is_behind, caught_up, informed};
+ghost use Rattle.cli_follow.specs.Output.{wanted, start, is_again, caught_up, informed};
 ghost use Rattle.cli_follow.specs.Output.{after_entries, after_status, written_if, written_to};
 ghost use Rattle.cli_follow.specs.Output.{Wanted};
 ghost use Rattle.cli_follow.specs.Output as code;
@@ -89,21 +89,6 @@ pub(crate) fn is_again(asks: u64) -> bool
     asks % AGAIN == 0
 }
 
-/// Whether an answer hasn't all entries that are applied, by where it leads from and to, and its length.
-fn is_more(from: u32, to: u32, body: &[u8]) -> bool
-    ensures { result ≡ is_more from to body.now }
-{
-    to.saturating_sub(from) >= ENTRIES_MAX || body.len() >= ENTRIES_BYTES
-}
-
-/// Whether a node that knows of the commands of that many positions has another log than the one that was followed so
-/// far.
-fn is_behind(front: Option<u32>, position: u32) -> bool
-    ensures { result ≡ is_behind front position }
-{
-    front.is_some_and(|front| front < position)
-}
-
 /// Logs why nothing is written for a position.
 pub(crate) fn log_refusal<E: Write>(errors: &mut E, position: u32, code: u8) {
     let _logged = writeln!(errors, "pfx: at {position} refused {code}");
@@ -119,13 +104,6 @@ fn write_lines<W: Write>(writer: &mut W, lines: &[u8]) -> Result<(), WriteFault>
         return Err(WriteFault::Closed);
     }
     Ok(())
-}
-
-/// Whether something is to be written: commands were done, or the members are others than what was written has.
-fn is_wanted(is_moved: bool, is_new: bool, has_begun: bool) -> bool
-    ensures { result ≡ (is_moved || (is_new && has_begun)) }
-{
-    is_moved || (is_new && has_begun)
 }
 
 /// What is due where something is to be written or not.
@@ -189,20 +167,15 @@ impl Follower {
         })
     }
 
-    /// Whether the node is asked where its members listen.
-    fn is_guarded(&self) -> bool
-        ensures { result ≡ (wanted_of self.now).is_guarded }
-    {
-        self.nft.as_ref().is_some_and(|nft| nft.is_guarded)
-    }
-
     /// What is due where all that is applied is there.
     fn caught_up(&self, again: bool) -> Due
         ensures due { (asks : ℕ) → caught_up (wanted_of self.now) again (follower_of asks self.now)
             ≡ due_in (wanted_of self.now) (follower_of asks self.now) result }
         ensures guarded { result ≡ Due.Status → (wanted_of self.now).is_guarded ≡ true }
     {
-        if self.is_guarded() && (self.followed.is_moved || again) {
+        // the node is asked where its members listen
+        let is_guarded = self.nft.as_ref().is_some_and(|nft| nft.is_guarded);
+        if is_guarded && (self.followed.is_moved || again) {
             return Due::Status;
         }
         if self.followed.is_moved {
@@ -229,7 +202,8 @@ impl Follower {
             Err(fault) => return Ok(Due::Nothing(fault)),
         };
         let from = self.followed.position;
-        if is_behind(reply.front, from) {
+        // a node that knows of the commands of fewer positions has another log than the one that was followed so far
+        if reply.front.is_some_and(|front| front < from) {
             return Ok(Due::Another);
         }
         match self.followed.take(alloc, reply.body.as_slice()) {
@@ -237,7 +211,9 @@ impl Follower {
             Err(TakeFault::Memory) => return Err(AllocError),
             Err(TakeFault::BadLine) => return Ok(Due::Nothing(AskFault::BadAnswer)),
         }
-        if is_more(from, self.followed.position, reply.body.as_slice()) {
+        // an answer of so many entries, or of that length, hasn't all that are applied
+        let taken = self.followed.position.saturating_sub(from);
+        if taken >= ENTRIES_MAX || reply.body.len() >= ENTRIES_BYTES {
             return Ok(Due::More);
         }
         Ok(self.caught_up(is_again(asks)))
@@ -254,7 +230,8 @@ impl Follower {
         match &mut self.nft {
             Some(nft) => {
                 let is_new = nft.kernel.set_members(members);
-                due_if(is_wanted(self.followed.is_moved, is_new, self.has_begun))
+                // commands were done, or the members are others than what was written has
+                due_if(self.followed.is_moved || (is_new && self.has_begun))
             }
             None => Due::Rest,
         }

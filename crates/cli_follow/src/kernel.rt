@@ -4,7 +4,7 @@ ghost use Rattle.std.specs.Prelude.{◌≡◌, [], IfOk, None, not};
 ghost use Rattle.nft_rules.specs.Refusing.{Renders};
 ghost use Rattle.nft_rules.specs.Seen.{machine_of};
 ghost use Rattle.nft_text.specs.Loading.{transactions_value, rendered_lines};
-ghost use Rattle.cli_follow.specs.Output.{are_same, end_of, is_same, loads, same_members};
+ghost use Rattle.cli_follow.specs.Output.{are_same, is_same, loads, same_members};
 ghost use Rattle.cli_follow.specs.inner.Seen.{given_of, lines_of};
 
 use nft_rules::{MachineInterface, Member, RenderFault};
@@ -82,9 +82,8 @@ impl Kernel {
         ensures { Renders transactions_value result (rendered_lines config.now (machine_of self.now.interfaces.items)
             self.now.members.items position) }
     {
-        let (interfaces, members) = (self.interfaces.as_slice(), self.members.as_slice());
         let alloc = *self.members.allocator();
-        rendered_lines(alloc, config, interfaces, members, position)
+        rendered_lines(alloc, config, &self.interfaces, &self.members, position)
     }
 
     /// Whether this is what was handed out last, but for the names.
@@ -98,16 +97,6 @@ impl Kernel {
         match self.rendered(config, last.position) {
             Ok(again) => Ok(are_same(&again, &last.lines)),
             Err(fault) => fault.code().map(|_| false).ok_or(AllocError),
-        }
-    }
-
-    /// The line that ends what was handed out last; nothing where that has the names of this position.
-    fn end_of(&self, position: u32) -> &[u8]
-        ensures { result.now ≡ end_of position (given_of self.now.last) }
-    {
-        match &self.last {
-            Some(last) if last.position != position => last.lines.end.as_bytes(),
-            _ => &[],
         }
     }
 
@@ -128,8 +117,13 @@ impl Kernel {
             Ok(lines) => lines,
             Err(fault) => return Ok(Step::Refused(fault.code().ok_or(AllocError)?)),
         };
+        // what was handed out last is ended, unless it has the names of this position
+        let end = match &self.last {
+            Some(last) if last.position != position => last.lines.end.as_bytes(),
+            _ => &[],
+        };
         let mut written = Vec::from_slice(*self.members.allocator(), lines.load.as_bytes())?;
-        written.extend_from_slice(self.end_of(position))?;
+        written.extend_from_slice(end)?;
         self.last = Some(Loaded { position, lines });
         Ok(Step::Lines(written))
     }

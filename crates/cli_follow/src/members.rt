@@ -1,29 +1,19 @@
 //! Where a node reports that its members listen.
 
 ghost use Rattle.std.specs.Prelude.{◌≡◌, IfOk, map, option_map};
-ghost use Rattle.cli_follow.specs.Members.{some_texts, texts_on, members_reported};
+ghost use Rattle.cli_follow.specs.Members.{texts_on, members_reported};
 
 use crate::files::Made;
 use cli_nft::{Member, members_in};
 use pf_scripts::{cut_line, words_in};
 use std::alloc::Global;
 
-/// Texts, if there are some.
-fn some_texts<'w, 'a>(texts: &'w [&'a str]) -> Option<&'w [&'a str]>
-    ensures { option_map (λ ts. map (λ t. t.now) ts.now) result ≡ some_texts (map (λ t. t.now) texts.now) }
-{
-    if texts.is_empty() {
-        return None;
-    }
-    Some(texts)
-}
-
-/// The strings behind `members`, if these are the arguments of a line that begins with it.
+/// The strings behind `members`, if these are the arguments of a line that begins with it and has some behind it.
 fn texts_on<'w, 'a>(words: &'w [&'a str]) -> Option<&'w [&'a str]>
     ensures { option_map (λ ts. map (λ t. t.now) ts.now) result ≡ texts_on (map (λ w. w.now) words.now) }
 {
     match words {
-        [first, texts @ ..] if *first == "members" => some_texts(texts),
+        [first, texts @ ..] if *first == "members" && !texts.is_empty() => Some(texts),
         _ => None,
     }
 }

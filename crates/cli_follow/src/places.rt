@@ -66,10 +66,9 @@ fn files_in(alloc: Global, folder: Option<&str>) -> Result<Option<TextFiles>, Al
     ensures none { IfOk result (λ files. recorded files ≡ []) }
     ensures behind { IfOk result (λ files. are_behind files ≡ false) }
 {
-    match folder {
-        Some(folder) => Ok(Some(TextFiles::new(alloc, folder)?)),
-        None => Ok(None),
-    }
+    folder
+        .map(|folder| TextFiles::new(alloc, folder))
+        .transpose()
 }
 
 /// Where the arguments want it written. 40 where they want it nowhere, `--nft` and `--interfaces` aren't both there, or

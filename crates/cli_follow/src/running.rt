@@ -10,7 +10,7 @@ ghost use Rattle.cli_follow.specs.Files.{Acted, FilesWritten, FilesWrittenIf, Fi
 ghost use Rattle.cli_follow.specs.Output.{AsksEntries, wanted, is_again, Went, Stopped, TurnFiled, TurnLeft, Ends};
 ghost use Rattle.cli_follow.specs.inner.Seen.{follower_of, wanted_of, due_in, stage_in, stage_if, Leads, Fails};
 ghost use Rattle.cli_follow.specs.Output as code;
-ghost use Rattle.cli_follow.specs.Places.{AreTurns, IsEnding, IsNoEnding, FollowedTo, FollowedBy};
+ghost use Rattle.cli_follow.specs.Places.{AreTurns, IsEnding, IsNoEnding, FollowedBy};
 ghost use Rattle.cli_follow.specs.Running.{RanOut, Ran};
 
 use crate::control::{Control, ControlSockets};
@@ -125,9 +125,7 @@ fn turn<F: Folders, C: Control, W: Write, E: Write>(
     ensures status { IfOk result (λ d. d ≡ Due.Status → ⊥) }
     ensures wanted { wanted_of follower.new ≡ wanted_of follower.old }
 {
-    let Ok(due) = ask(alloc, control, asks, follower) else {
-        return Err(WriteFault::Memory);
-    };
+    let due = ask(alloc, control, asks, follower)?;
     match due {
         Due::Write => {
             write_texts(folders, follower, files, errors)?;
@@ -159,8 +157,7 @@ fn rest<RT: Pauses, C: Control, E: Write>(
     due: Due,
     said: &mut Option<AskFault>,
 ) {
-    let was = *said;
-    *said = None;
+    let was = said.take();
     if let Due::Nothing(fault) = due {
         *said = Some(fault);
         if was != *said {
@@ -197,25 +194,14 @@ pub fn follow<RT: Pauses, F: Folders, C: Control, W: Write, E: Write>(
         (wanted (option_map (λ v. machine_of v.items) interfaces) is_guarded) files turns result
         (W.contents writer.old) (W.contents writer.new) }
 {
-    let Ok(mut follower) = Follower::new(alloc, interfaces, is_guarded) else {
-        return Err(WriteFault::Memory);
-    };
+    let mut follower = Follower::new(alloc, interfaces, is_guarded)?;
     let mut files = files;
     let mut said = None;
     for asks in 0..turns {
-        let due = match turn(
-            folders,
-            alloc,
-            control,
-            asks,
-            &mut follower,
-            &mut files,
-            writer,
-            errors,
-        ) {
-            Ok(due) => due,
-            Err(fault) => return Err(fault),
-        };
+        let (follower, files) = (&mut follower, &mut files);
+        let due = turn(
+            folders, alloc, control, asks, follower, files, writer, errors,
+        )?;
         if is_another(due) {
             return Err(WriteFault::Another);
         }
@@ -231,58 +217,11 @@ fn refused<E: Write>(code: u8, errors: &mut E) -> Status
     writeln!(errors, "refused {code}").map_or(Status::Failed, |()| Status::Refused)
 }
 
-/// That the log at the control socket is another than the one that was followed, logged on standard error.
-fn another<E: Write>(errors: &mut E) -> Status
-    ensures { IsEnding (Err WriteFault.Another) result }
-{
-    match errors.write_all(b"pfx: the log at the control socket isn't the one followed\n") {
-        Ok(()) => Status::Refused,
-        Err(_) => Status::Failed,
-    }
-}
-
 /// Out of memory, logged on standard error.
 fn memory<E: Write>(errors: &mut E) -> Status
     ensures { IsEnding (Err WriteFault.Memory) result }
 {
     writeln!(errors, "memory").map_or(Status::Failed, |()| Status::Memory)
-}
-
-/// That the output can't be written, logged on standard error.
-fn closed<E: Write>(errors: &mut E) -> Status
-    ensures { IsEnding (Err WriteFault.Closed) result }
-{
-    let _logged = errors.write_all(b"pfx: the output is closed\n");
-    Status::Failed
-}
-
-/// Follows the log to these places, and logs on standard error how that ended.
-fn follow_to<RT: Pauses, F: Folders, C: Control, W: Write, E: Write>(
-    rt: &RT,
-    folders: &mut F,
-    alloc: Global,
-    control: &mut C,
-    turns: u64,
-    places: Places,
-    writer: &mut W,
-    errors: &mut E,
-) -> Status
-    ensures { FollowedTo (C.exchanged control.old) (C.exchanged control.new)
-        (F.done folders.old) (F.done folders.new) places turns result
-        (W.contents writer.old) (W.contents writer.new) }
-{
-    let Places {
-        interfaces,
-        is_guarded,
-        files,
-    } = places;
-    if interfaces.is_some() && !is_guarded {
-        let _logged = errors.write_all(NO_GUARD);
-    }
-    let ended = follow(
-        rt, folders, alloc, control, turns, interfaces, is_guarded, files, writer, errors,
-    );
-    status_of(ended, errors)
 }
 
 /// How a run ends, logged on standard error.
@@ -291,8 +230,13 @@ fn status_of<E: Write>(ended: Result<(), WriteFault>, errors: &mut E) -> Status
 {
     match ended {
         Ok(()) => Status::Done,
-        Err(WriteFault::Closed) => closed(errors),
-        Err(WriteFault::Another) => another(errors),
+        Err(WriteFault::Closed) => {
+            let _logged = errors.write_all(b"pfx: the output is closed\n");
+            Status::Failed
+        }
+        Err(WriteFault::Another) => errors
+            .write_all(b"pfx: the log at the control socket isn't the one followed\n")
+            .map_or(Status::Failed, |()| Status::Refused),
         Err(WriteFault::Memory) => memory(errors),
     }
 }
@@ -301,13 +245,10 @@ fn status_of<E: Write>(ended: Result<(), WriteFault>, errors: &mut E) -> Status
 fn turns_in(matches: &ArgMatches<'_>) -> u64
     ensures { AreTurns (one_of (codes "turns") (rows_of (found_of matches.now))) result }
 {
-    match matches.get_one::<u64>("turns") {
-        Some(turns) => turns,
-        None => u64::MAX,
-    }
+    matches.get_one::<u64>("turns").unwrap_or(u64::MAX)
 }
 
-/// Follows the log at a control socket as the matches ask for.
+/// Follows the log at a control socket as the matches ask for, and logs on standard error how that ended.
 fn followed<RT: Files + Pauses + Sources, F: Folders, C: Control, W: Write, E: Write>(
     rt: &RT,
     folders: &mut F,
@@ -323,11 +264,23 @@ fn followed<RT: Files + Pauses + Sources, F: Folders, C: Control, W: Write, E: W
         turns result (W.contents writer.old) (W.contents writer.new)) }
 {
     let turns = turns_in(matches);
-    match places_for(rt, alloc, matches, errors) {
-        Ok(Ok(places)) => follow_to(rt, folders, alloc, control, turns, places, writer, errors),
-        Ok(Err(code)) => refused(code, errors),
-        Err(_) => memory(errors),
+    let places = match places_for(rt, alloc, matches, errors) {
+        Ok(Ok(places)) => places,
+        Ok(Err(code)) => return refused(code, errors),
+        Err(_) => return memory(errors),
+    };
+    let Places {
+        interfaces,
+        is_guarded,
+        files,
+    } = places;
+    if interfaces.is_some() && !is_guarded {
+        let _logged = errors.write_all(NO_GUARD);
     }
+    let ended = follow(
+        rt, folders, alloc, control, turns, interfaces, is_guarded, files, writer, errors,
+    );
+    status_of(ended, errors)
 }
 
 /// What is wrong with the arguments, on the output; out of memory, on standard error.

@@ -26,4 +26,4 @@ pub use machines::{INTERFACES_MAX, machine_in};
 pub use members::members_in;
 pub use nft_rules::Member;
 pub use outputs::{Written, config_output, nft_output};
-pub use running::{asks_nft, read_file, run_nft};
+pub use running::{Contents, asks_nft, read_file, run_nft};

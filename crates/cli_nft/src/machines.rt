@@ -21,12 +21,7 @@ pub const INTERFACES_MAX: usize = 1024;
 fn is_known(machine: &[MachineInterface], name: &[u8]) -> bool
     ensures { result ≡ list_any (λ n. bytes_eq n name.now) (known (machine_of machine.now)) }
 {
-    for interface in machine {
-        if interface.name.as_bytes() == name {
-            return true;
-        }
-    }
-    false
+    machine.iter().any(|it| it.name.as_bytes() == name)
 }
 
 /// The names that these strings are, none where one is no name of an interface.

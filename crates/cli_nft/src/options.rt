@@ -8,8 +8,6 @@ use clap::Command;
 use cli_io::{Argument, program_with, with_options};
 use std::alloc::{AllocError, Global};
 
-const NFT: &str = "As nft(8) loads it";
-
 const INTERFACES: &str = "The machine's interfaces, a line each: its name, then its groups";
 
 const MEMBERS: &str =
@@ -34,7 +32,7 @@ pub(crate) fn command<'a>(alloc: Global) -> Result<Command<'a>, AllocError>
         .about("Prints a ruleset as nft(8) loads it on a machine")
         .after_help(BELOW);
     let arguments = [
-        Argument::Flag("nft", NFT),
+        Argument::Flag("nft", "As nft(8) loads it"),
         Argument::Needed("interfaces", INTERFACES),
         Argument::Values("members", MEMBERS),
         Argument::U32("position", POSITION, false),

@@ -78,10 +78,7 @@ pub fn nft_output(
     let Some(members) = members else {
         return refused(alloc, INVALID_ARGUMENTS);
     };
-    let Some(text) = file else {
-        return refused(alloc, BAD_INTERFACES);
-    };
-    let Some(machine) = machine_in(alloc, text)? else {
+    let Some(machine) = file.map_or(Ok(None), |text| machine_in(alloc, text))? else {
         return refused(alloc, BAD_INTERFACES);
     };
     let rules = match parse(alloc, input, Place::Main, Profile::Two) {
@@ -117,10 +114,7 @@ pub fn config_output(
     ensures { IfOk result (λ w. written w ≡ config_output (option_map (λ t. t.now) file.entry) members.now
         position config.now) }
 {
-    let Some(text) = file else {
-        return refused(alloc, BAD_INTERFACES);
-    };
-    match machine_in(alloc, text)? {
+    match file.map_or(Ok(None), |text| machine_in(alloc, text))? {
         Some(machine) => written_lines(alloc, config, &machine, members, position),
         None => refused(alloc, BAD_INTERFACES),
     }

@@ -24,9 +24,7 @@ use std::io::{Read, Write};
 fn has_nft<S: AsStr>(arguments: &[S]) -> bool
     ensures { result ≡ list_any (λ w. bytes_eq w (codes "--nft")) (map S.text arguments.now) }
 {
-    arguments
-        .iter()
-        .any(|argument| argument.as_str() == "--nft")
+    arguments.iter().any(|it| it.as_str() == "--nft")
 }
 
 /// Whether the arguments, the program's name first, are `check` with `--nft` among what follows.
@@ -37,7 +35,7 @@ pub fn asks_nft<S: AsStr>(arguments: &[S]) -> bool
 }
 
 /// What a file has, none where it can't be read; an error where it is out of memory.
-type Contents = Result<Option<Vec<u8>>, AllocError>;
+pub type Contents = Result<Option<Vec<u8>>, AllocError>;
 
 /// The text of the file of interfaces, none where it can't be read.
 fn interfaces_in<T: Sources>(sources: &T, alloc: Global, inner: &ArgMatches<'_>) -> Contents

@@ -18,7 +18,7 @@ ghost use Rattle.cli_node.specs.Doing.{Adds, IsLeft};
 ghost use Rattle.cli_node.specs.Asked.{is_wait, names_node, unasked_code};
 ghost use Rattle.cli_node.specs.declared.ask.TheConstants.{CLIENT};
 
-use crate::outcome::{Outcome, answer_outcome, fault_outcome, numbered};
+use crate::outcome::{Outcome, answer_outcome, numbered};
 use clap::ArgMatches;
 use cli_io::{
     BAD_ADDRESS, INVALID_ARGUMENTS, InputFault, Sources, number_in, source_named, value_in,
@@ -76,17 +76,12 @@ impl<'a> AskArguments<'a> {
         ensures some { IfSome result (AreAskArguments (rows_of (found_of matches.now))) }
         ensures none { result ≡ None → names_node (rows_of (found_of matches.now)) ≡ false }
     {
-        let to = value_in(matches, "to")?;
-        let cluster = number_in(matches, "cluster")?;
-        let members = small_in(matches, "members")?;
-        let node = small_in(matches, "node")?;
-        let waits = waits_in(matches)?;
         Some(AskArguments {
-            to,
-            cluster,
-            members,
-            node,
-            waits,
+            to: value_in(matches, "to")?,
+            cluster: number_in(matches, "cluster")?,
+            members: small_in(matches, "members")?,
+            node: small_in(matches, "node")?,
+            waits: waits_in(matches)?,
         })
     }
 }
@@ -97,11 +92,8 @@ fn unread(name: &str, fault: InputFault) -> Outcome
 {
     match fault {
         InputFault::Memory => Outcome::Memory,
-        InputFault::Failed | InputFault::TooLong => if name == "-" {
-            Outcome::Unread
-        } else {
-            Outcome::Refused(INVALID_ARGUMENTS)
-        },
+        InputFault::Failed | InputFault::TooLong if name == "-" => Outcome::Unread,
+        InputFault::Failed | InputFault::TooLong => Outcome::Refused(INVALID_ARGUMENTS),
     }
 }
 
@@ -184,24 +176,6 @@ impl Client for HostRuntime {
     }
 }
 
-/// What the node answers to the command over a wire.
-fn asked_over<W: Wire>(
-    alloc: Global,
-    arguments: AskArguments<'_>,
-    m: &Membership,
-    command: &Command,
-    wire: &mut W,
-) -> Outcome
-    requires client { m.now.me ≡ CLIENT }
-    requires member { arguments.node < m.now.members }
-    ensures { IsAsked W.traffic wire.old wire.new m.now arguments.entry.node arguments.entry.waits command.now result }
-{
-    match ask_once(alloc, m, arguments.node, command, arguments.waits, wire) {
-        Ok(answer) => answer_outcome(arguments.node, answer),
-        Err(fault) => fault_outcome(fault),
-    }
-}
-
 /// Who is asked: the cluster and how many members it has, and nobody of them; none where the node is none of them.
 fn membership(arguments: AskArguments<'_>) -> Option<Membership>
     ensures some { IfSome result (λ m. (m.cluster ≡ arguments.entry.cluster) × (m.members ≡ arguments.entry.members) ×
@@ -214,7 +188,7 @@ fn membership(arguments: AskArguments<'_>) -> Option<Membership>
     Membership::new(arguments.cluster, arguments.members, CLIENT)
 }
 
-/// What `ask` gives: 40 of its numbers, the faults of the action, and 82, in this order; then the answer.
+/// What `ask` gives: the answer; else 40 of its numbers, the faults of the action, and 82, in this order.
 pub(crate) fn ask_outcome<T: Sources, C: Client, R: Read>(
     sources: &T,
     client: &mut C,
@@ -222,29 +196,23 @@ pub(crate) fn ask_outcome<T: Sources, C: Client, R: Read>(
     arguments: AskArguments<'_>,
     matches: &ArgMatches<'_>,
     reader: &mut R,
-) -> Outcome
-    ensures { AsksNode C.Wire.traffic (C.reaches client.old) (C.is_unreached client.old)
+) -> Result<Outcome, Outcome>
+    ensures asked { IfOk result (AsksNode C.Wire.traffic (C.reaches client.old) (C.is_unreached client.old)
         (Adds (C.went client.old) (C.went client.new)) (IsText (T.has sources.now) (R.remaining reader.old))
-        (rows_of (found_of matches.now)) arguments.entry (has_place arguments.entry.node arguments.entry.members)
-        result }
+        (rows_of (found_of matches.now)) arguments.entry (has_place arguments.entry.node arguments.entry.members)) }
+    ensures refused { IfErr result (AsksNode C.Wire.traffic (C.reaches client.old) (C.is_unreached client.old)
+        (Adds (C.went client.old) (C.went client.new)) (IsText (T.has sources.now) (R.remaining reader.old))
+        (rows_of (found_of matches.now)) arguments.entry (has_place arguments.entry.node arguments.entry.members)) }
 {
-    let Some(m) = membership(arguments) else {
-        return Outcome::Refused(INVALID_ARGUMENTS);
-    };
-    let text = match text_for(sources, alloc, value_in(matches, "file"), reader) {
-        Ok(text) => text,
-        Err(outcome) => return outcome,
-    };
-    let command = match change_in(alloc, matches, &text) {
-        Ok(command) => command,
-        Err(outcome) => return outcome,
-    };
-    match client.bind(arguments.to) {
-        Ok(mut wire) => {
-            let outcome = asked_over(alloc, arguments, &m, &command, &mut wire);
-            client.close(wire);
-            outcome
-        }
-        Err(outcome) => outcome,
+    let m = membership(arguments).ok_or(Outcome::Refused(INVALID_ARGUMENTS))?;
+    let text = text_for(sources, alloc, value_in(matches, "file"), reader)?;
+    let command = change_in(alloc, matches, &text)?;
+    let mut wire = client.bind(arguments.to)?;
+    let node = arguments.node;
+    let answer = ask_once(alloc, &m, node, &command, arguments.waits, &mut wire);
+    client.close(wire);
+    match answer {
+        Ok(answer) => Ok(answer_outcome(node, answer)),
+        Err(why) => Err(numbered(why.code())),
     }
 }

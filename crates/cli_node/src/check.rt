@@ -18,12 +18,12 @@ ghost use Rattle.cli_node.specs.declared.store.Found.{Found};
 ghost use Rattle.cli_node.specs.Stores.{IsFit, IsFoundAt, IsSoundAt, IsStoreless, identity_at};
 
 use crate::database::{Databases, Inspection};
-use crate::faults::{log_closed, log_metrics, log_place, log_storeless, log_unknown};
+use crate::faults::{log_closed, log_judged, log_metrics, log_place, log_storeless, log_unknown};
 use crate::files::NodeFiles;
 use crate::node::{NodeArguments, NodeStart, figures_at, membership};
-use crate::outcome::Outcome;
+use crate::outcome::{Outcome, numbered};
 use crate::sockets::{of_control, of_own_address};
-use crate::store::{Found, Opening, failed_outcome, identity_of, opening_of, untaken};
+use crate::store::{Found, Opening, failed_outcome, identity_of, opening_of};
 use cli_io::{BAD_ADDRESS, INVALID_ARGUMENTS, STORE_FAILED, Shown, open_regular};
 use node_loop::Membership;
 use px_store::examine;
@@ -71,7 +71,10 @@ impl<F, D> NodeStart<'_, F, D> {
     {
         match examine(conn, identity_of(m)) {
             Ok(()) => Outcome::Sound,
-            Err(fault) => untaken(self.rt, self.arguments.store, m, fault, conn),
+            Err(fault) => {
+                log_judged(self.rt, self.arguments.store, m, fault, conn);
+                numbered(fault.code())
+            }
         }
     }
 
@@ -119,37 +122,8 @@ impl<F, D> NodeStart<'_, F, D> {
         }
     }
 
-    /// What is refused of what is found where the arguments name a store.
-    #[tactic(auto, using(crate::proofs::Stores::by_opening, crate::proofs::Stores::sound))]
-    fn of_found<I: Inspection>(
-        &self,
-        inspection: &mut I,
-        m: Option<Membership>,
-        found: Found,
-    ) -> Outcome
-        ensures store { IsStoreless self.now.arguments.is_from_file self.now.arguments.is_new result }
-        ensures beyond { is_beyond false false result ≡ false }
-        ensures sound { result ≡ Sound → (owner : Membership) → m ≡ Some owner →
-            IsFit ⟦<FileStore<File> as Store>⟧ (I.is_unseen inspection.old self.now.arguments.store.now)
-            (I.holds inspection.old self.now.arguments.store.now) self.now.arguments.is_from_file
-            self.now.arguments.is_new found (identity_at owner) }
-        ensures over { I.is_over inspection.old → I.is_over inspection.new }
-    {
-        match opening_of(self.arguments.is_from_file, self.arguments.is_new, found) {
-            Opening::Makes => Outcome::Sound,
-            Opening::Opens => match m {
-                Some(m) => self.looked_at(inspection, m),
-                None => Outcome::Sound,
-            },
-            Opening::Refuses(code) => {
-                log_storeless(self.rt, self.arguments.store, code);
-                Outcome::Refused(code)
-            }
-        }
-    }
-
     /// What is refused of the store that the arguments name, where this was found; none when out of memory.
-    #[tactic(auto, using(crate::proofs::Stores::by_memory))]
+    #[tactic(auto, using(crate::proofs::Stores::by_opening, crate::proofs::Stores::by_memory, crate::proofs::Stores::sound))]
     fn of_store<I: Inspection>(
         &self,
         inspection: &mut I,
@@ -164,9 +138,19 @@ impl<F, D> NodeStart<'_, F, D> {
             self.now.arguments.is_new f (identity_at owner)) }
         ensures over { I.is_over inspection.old → I.is_over inspection.new }
     {
-        match found {
-            Some(found) => self.of_found(inspection, m, found),
-            None => Outcome::Memory,
+        let Some(found) = found else {
+            return Outcome::Memory;
+        };
+        match opening_of(self.arguments.is_from_file, self.arguments.is_new, found) {
+            Opening::Makes => Outcome::Sound,
+            Opening::Opens => match m {
+                Some(m) => self.looked_at(inspection, m),
+                None => Outcome::Sound,
+            },
+            Opening::Refuses(code) => {
+                log_storeless(self.rt, self.arguments.store, code);
+                Outcome::Refused(code)
+            }
         }
     }
 }
@@ -195,13 +179,11 @@ fn of_place(rt: &HostRuntime, arguments: NodeArguments<'_>, m: Option<Membership
     ensures none { m ≡ None → result ≡ Refused 40 }
     ensures some { (result ≡ Sound) ⊎ (result ≡ Refused 40) }
 {
-    match m {
-        Some(_) => Outcome::Sound,
-        None => {
-            log_place(rt, arguments);
-            Outcome::Refused(INVALID_ARGUMENTS)
-        }
+    if m.is_some() {
+        return Outcome::Sound;
     }
+    log_place(rt, arguments);
+    Outcome::Refused(INVALID_ARGUMENTS)
 }
 
 /// What is refused of the addresses that the arguments name.
@@ -257,13 +239,11 @@ pub fn check_node<F: NodeFiles, D: Databases, I: Inspection>(
     let m = membership(arguments);
     let place = of_place(rt, arguments, m);
     let key = start.of_key(arguments.key);
-    let other = start.of_key(arguments.other_key);
+    let keys = first_of(key, start.of_key(arguments.other_key));
     let found = start.found_store();
     let store = start.of_store(inspection, m, found);
     let starts = start.of_starts(m, found);
-    let addresses = of_addresses(rt, arguments);
-    let control = of_control(rt, arguments);
-    let sockets = first_of(addresses, control);
+    let sockets = first_of(of_addresses(rt, arguments), of_control(rt, arguments));
     let beside = first_of(store, first_of(starts, sockets));
-    first_of(place, first_of(first_of(key, other), beside))
+    first_of(place, first_of(keys, beside))
 }

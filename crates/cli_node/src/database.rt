@@ -93,13 +93,11 @@ fn made<D: Disk + Drop>(files: Unopened<D>) -> Result<FileStore<D>, Error>
     }
 }
 
+/// A database that is opened or made in files.
+type Made<D> = Result<Connection<FileStore<D>>, Error>;
+
 /// Makes a database without tables in files that hold none.
-fn make<D: Disk + Drop>(
-    alloc: Global,
-    files: Files<D>,
-    size: PageSize,
-    options: Options,
-) -> Result<Connection<FileStore<D>>, Error>
+fn make<D: Disk + Drop>(alloc: Global, files: Files<D>, size: PageSize, options: Options) -> Made<D>
     requires log { IsTrue (D.Disk.is_usable files.log) }
     requires db { IsTrue (D.Disk.is_usable files.db) }
     ensures named { IfErr result (λ e. IsTrue (is_open_error e)) }
@@ -117,11 +115,7 @@ fn make<D: Disk + Drop>(
 }
 
 /// The database that the files hold. Where they hold none, or one that a stop left half made, a new one of small pages.
-fn open_files<D: Disk + Drop>(
-    alloc: Global,
-    mut files: Files<D>,
-    options: Options,
-) -> Result<Connection<FileStore<D>>, Error>
+fn open_files<D: Disk + Drop>(alloc: Global, mut files: Files<D>, options: Options) -> Made<D>
     requires log { IsTrue (D.Disk.is_usable files.log) }
     requires db { IsTrue (D.Disk.is_usable files.db) }
     ensures named { IfErr result (λ e. IsTrue (is_open_error e)) }

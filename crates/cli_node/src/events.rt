@@ -7,39 +7,30 @@ use cli_io::Shown;
 
 /// Logs that a node begins, and with what.
 pub(crate) fn log_start(rt: &HostRuntime, arguments: NodeArguments<'_>) {
-    if arguments.is_quiet {
-        return;
+    let me = arguments.me;
+    let n = arguments.members.len();
+    let cluster = arguments.cluster;
+    let store = Shown(arguments.store);
+    if !arguments.is_quiet {
+        let _logged = eprintln!(rt;
+            "pfx: info: node {me} of {n}, cluster {cluster}, starts on {store}"
+        );
     }
-    let _logged = eprintln!(rt;
-        "pfx: info: node {} of {}, cluster {}, starts on {}",
-        arguments.me,
-        arguments.members.len(),
-        arguments.cluster,
-        Shown(arguments.store)
-    );
 }
 
 /// Logs how a node ends: a refusal as an error, else how far it came.
 pub(crate) fn log_end(rt: &HostRuntime, arguments: NodeArguments<'_>, outcome: Outcome) {
-    match outcome {
+    let me = arguments.me;
+    let _logged = match outcome {
         Outcome::Refused(code) => {
             log_why(rt, arguments, code);
-            let _logged = eprintln!(rt;
-                "pfx: error: node {} ends, refused {code} (pfx explain {code})",
-                arguments.me
-            );
+            eprintln!(rt; "pfx: error: node {me} ends, refused {code} (pfx explain {code})")
         }
-        Outcome::Front { front, applied } | Outcome::Stopped { front, applied } => {
-            if !arguments.is_quiet {
-                let _logged = eprintln!(rt;
-                    "pfx: info: node {} ends with {front} learned and {applied} applied",
-                    arguments.me
-                );
-            }
+        Outcome::Memory => eprintln!(rt; "pfx: error: node {me} ends, out of memory"),
+        Outcome::Front { front, applied } | Outcome::Stopped { front, applied }
+            if !arguments.is_quiet => {
+            eprintln!(rt; "pfx: info: node {me} ends with {front} learned and {applied} applied")
         }
-        Outcome::Memory => {
-            let _logged = eprintln!(rt; "pfx: error: node {} ends, out of memory", arguments.me);
-        }
-        _ => {}
-    }
+        _ => Ok(()),
+    };
 }

@@ -57,20 +57,12 @@ pub(crate) fn log_closed<RT: Files + Eprint, E: Display>(rt: &RT, path: &str, wh
 
 /// Logs why a store is neither opened nor created.
 pub(crate) fn log_storeless<RT: Files + Eprint>(rt: &RT, path: &str, code: u8) {
-    let path = Shown(path);
-    match code {
-        NO_STORE => {
-            let _logged = eprintln!(rt;
-                "pfx: error: store {path} is missing: --new creates one, for a node that never ran; else it is lost"
-            );
-        }
-        FILE_EXISTS => {
-            let _logged = eprintln!(rt;
-                "pfx: error: store {path} exists: a node is started on it without --new"
-            );
-        }
-        _ => log_closed(rt, path.0, &"it isn't a regular file"),
-    }
+    let why = match code {
+        NO_STORE => "is missing: --new creates one, for a node that never ran; else it is lost",
+        FILE_EXISTS => "exists: a node is started on it without --new",
+        _ => return log_closed(rt, path, &"it isn't a regular file"),
+    };
+    let _logged = eprintln!(rt; "pfx: error: store {} {why}", Shown(path));
 }
 
 /// Whether a store has no tables.
@@ -120,10 +112,10 @@ pub(crate) fn log_judged<RT: Eprint, S: Alter>(
 
 /// Logs which number isn't a member's.
 pub(crate) fn log_place(rt: &HostRuntime, arguments: NodeArguments<'_>) {
+    let me = arguments.me;
+    let n = arguments.members.len();
     let _logged = eprintln!(rt;
-        "pfx: error: node {} of {} members: a cluster has 1 to 15, numbered from 0",
-        arguments.me,
-        arguments.members.len()
+        "pfx: error: node {me} of {n} members: a cluster has 1 to 15, numbered from 0"
     );
 }
 

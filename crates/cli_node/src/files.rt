@@ -28,6 +28,9 @@ pub trait NodeFiles {
         ensures { IfOk result (raises self.now path.now m.members m.me may_be_made) };
 }
 
+/// A key that is read of a file.
+type ReadKey = Result<[u8; 32], KeyFault>;
+
 impl NodeFiles for HostRuntime {
     // some file's secret makes it; no contract ties a file to its path
     ghost makes = { λ _ cluster members _ key. ((text : List ℕ) × IsClusterKey text cluster members key)
@@ -36,12 +39,7 @@ impl NodeFiles for HostRuntime {
     // the number of a start is from 1 on; no contract states what the system's files, clock and random source give
     ghost raises = { λ _ _ _ _ _ start. 0 < start.number };
 
-    fn cluster_key(
-        &self,
-        path: &str,
-        cluster: u32,
-        members: &[&str],
-    ) -> Result<[u8; 32], KeyFault> {
+    fn cluster_key(&self, path: &str, cluster: u32, members: &[&str]) -> ReadKey {
         read_cluster_key(self, self.alloc(), path, cluster, members)
     }
 

@@ -55,21 +55,6 @@ impl<F: NodeFiles, D> NodeStart<'_, F, D> {
             .map_err(|fault| key_refused(self.rt, path, fault))
     }
 
-    /// The keys with this one, and another that the arguments name, if they do.
-    fn keys_with(&self, key: [u8; 32]) -> Result<Keys, Outcome>
-        ensures refused { OnErr result ((result ≡ Err Memory) ⊎ (result ≡ Err (Refused 83))) }
-        ensures key { IfOk result (λ k. k.key ≡ key) }
-        ensures other { IfOk result (λ k. IsNamed (F.makes self.now.files.now self.now.arguments.cluster
-            (map (λ t. t.now) self.now.arguments.members.now))
-            (option_map (λ t. t.now) self.now.arguments.other_key) k.other) }
-    {
-        let Some(path) = self.arguments.other_key else {
-            return Ok(Keys { key, other: None });
-        };
-        let other = Some(self.key_in(path)?);
-        Ok(Keys { key, other })
-    }
-
     /// The keys that the arguments name, if they do: 83 where a file can't be read or has none, or where others may
     /// read it.
     pub(crate) fn named_keys(&self) -> Result<Option<Keys>, Outcome>
@@ -84,25 +69,22 @@ impl<F: NodeFiles, D> NodeStart<'_, F, D> {
             return Ok(None);
         };
         let key = self.key_in(path)?;
-        Ok(Some(self.keys_with(key)?))
+        let other = match self.arguments.other_key {
+            Some(path) => Some(self.key_in(path)?),
+            None => None,
+        };
+        Ok(Some(Keys { key, other }))
     }
 }
 
-/// Whether an address is one at which this machine alone is heard.
-fn is_loopback_ip(ip: Addr) -> bool
-    ensures { result ≡ is_loopback_ip ip }
-{
-    match ip {
-        Addr::V4(bits) => bits / 0x100_0000 == 127,
-        Addr::V6(bits) => bits == 1,
-    }
-}
-
-/// Whether the text is such an address and a port; a name isn't.
+/// Whether the text is an address at which this machine alone is heard, and a port; a name isn't.
 fn is_loopback(text: &str) -> bool
     ensures { result ≡ is_loopback (address_of text.now) }
 {
-    parse_address(text).is_some_and(|address| is_loopback_ip(address.ip))
+    parse_address(text).is_some_and(|address| match address.ip {
+        Addr::V4(bits) => bits / 0x100_0000 == 127,
+        Addr::V6(bits) => bits == 1,
+    })
 }
 
 /// Logs on standard error that the datagrams of a node carry no tag, where others than this machine may send it some.
@@ -131,53 +113,24 @@ pub trait NewFiles {
         ensures refused { IfErr result (λ e. Adds (made self.old) (made self.new) (Unwritten path.now ∷ [])) };
 }
 
-/// Writes bytes into a new file, which its owner alone may read and write; none is left where they can't be written.
-fn write_private<F: Files>(files: &F, path: &str, text: &str) -> io::Result<()>
-    ensures { OnOk result (IsWritten F.File.contents text.now) }
-{
-    let mut file = make_private(files, path)?;
-    let written = file.write_all(text.as_bytes());
-    if written.is_err() {
-        let _gone = fs::remove_file(files, path);
-    }
-    written
-}
-
 impl<F: Files> NewFiles for F {
     // no contract ties a file to its path
     ghost made = { λ _. All (IsWrittenIn F.File.contents) };
 
+    // none is left where it can't be written
     fn make(&mut self, path: &str, text: &str) -> io::Result<()> {
-        write_private(&*self, path, text)
-    }
-}
-
-/// What is given for a new key that is to be in a file: 94 where one is there, 83 where the system refuses it.
-fn kept<RT: Eprint, F: NewFiles>(
-    rt: &RT,
-    files: &mut F,
-    alloc: Global,
-    path: &str,
-    key: &[u8; 32],
-) -> Outcome
-    ensures { IsKeptKey (Adds (F.made files.old) (F.made files.new)) path.now key.now result }
-{
-    let Ok(text) = key_text(alloc, key) else {
-        return Outcome::Memory;
-    };
-    match files.make(path, text.as_str()) {
-        Ok(()) => Outcome::Made,
-        Err(error) => {
-            log_error(rt, "key", path, &error);
-            Outcome::Refused(match error.kind() {
-                ErrorKind::AlreadyExists => FILE_EXISTS,
-                _ => BAD_KEY,
-            })
+        let files = &*self;
+        let mut file = make_private(files, path)?;
+        let written = file.write_all(text.as_bytes());
+        if written.is_err() {
+            let _gone = fs::remove_file(files, path);
         }
+        written
     }
 }
 
-/// A new key, of the next bytes of a random source: written out, or in a new file where one is named.
+/// A new key, of the next bytes of a random source: written out, or in a new file where one is named, which is refused
+/// with 94 where one is there, and with 83 where the system doesn't make it.
 pub(crate) fn key_outcome<R: RandomBytes + Eprint, F: NewFiles>(
     rt: &R,
     files: &mut F,
@@ -190,8 +143,20 @@ pub(crate) fn key_outcome<R: RandomBytes + Eprint, F: NewFiles>(
     let Ok(key) = new_key(rt) else {
         return Outcome::Unread;
     };
-    match file {
-        Some(path) => kept(rt, files, alloc, path, &key),
-        None => Outcome::Key(key),
+    let Some(path) = file else {
+        return Outcome::Key(key);
+    };
+    let Ok(text) = key_text(alloc, &key) else {
+        return Outcome::Memory;
+    };
+    match files.make(path, text.as_str()) {
+        Ok(()) => Outcome::Made,
+        Err(error) => {
+            log_error(rt, "key", path, &error);
+            Outcome::Refused(match error.kind() {
+                ErrorKind::AlreadyExists => FILE_EXISTS,
+                _ => BAD_KEY,
+            })
+        }
     }
 }

@@ -90,17 +90,7 @@ fn text_for<'g: 's, 's>(matches: &ArgMatches<'g>, file: &'s NodeFile, name: &str
 fn number_for(matches: &ArgMatches<'_>, file: &NodeFile, name: &str) -> Option<u32>
     ensures { result ≡ number_for (rows_of (found_of matches.now)) file.now name.now }
 {
-    if let Some(number) = number_in(matches, name) {
-        return Some(number);
-    }
-    u32::try_from(file.number(name)?).ok()
-}
-
-/// This many turns; without a number, more than a run can have.
-fn turns_or_all(turns: Option<u32>) -> u64
-    ensures { result ≡ turns_or_all turns }
-{
-    turns.map_or(u64::MAX, |turns| u64::from(turns))
+    number_in(matches, name).or_else(|| u32::try_from(file.number(name)?).ok())
 }
 
 /// Whether an option without a value is given, or so in the file.
@@ -122,17 +112,14 @@ impl<'a> NodeArguments<'a> {
             (map (λ t. t.now) members.now)) }
         ensures none { result ≡ None → is_complete (rows_of (found_of matches.now)) file.now ≡ false }
     {
-        let me = number_for(matches, file, "me")?;
-        let me = u8::try_from(me).ok()?;
-        let cluster = number_for(matches, file, "cluster")?;
-        let store = text_for(matches, file, "store")?;
         Some(NodeArguments {
-            me,
-            cluster,
-            store,
+            me: u8::try_from(number_for(matches, file, "me")?).ok()?,
+            cluster: number_for(matches, file, "cluster")?,
+            store: text_for(matches, file, "store")?,
             is_from_file: value_in(matches, "config").is_some(),
             is_new: has_flag(matches, "new"),
-            turns: turns_or_all(number_in(matches, "turns")),
+            // without a number more than a run can have
+            turns: number_in(matches, "turns").map_or(u64::MAX, |turns| u64::from(turns)),
             key: text_for(matches, file, "key"),
             other_key: text_for(matches, file, "other-key"),
             makes_starts: has_flag(matches, "new-starts"),
@@ -160,15 +147,6 @@ impl<'a> NodeArguments<'a> {
     }
 }
 
-/// How many members there are, if that many may be.
-fn count(members: &[&str]) -> Option<u8>
-    ensures some { IfSome result (λ n. n ≡ length members.now) }
-    ensures none { IsSome result ↔ IsTrue (is_count (length members.now)) }
-{
-    let n = members.len();
-    (n >= 1 && n <= usize::from(MEMBERS)).then(|| n as u8)
-}
-
 /// The cluster, how many members it has, and which one this is; none where the number is none of theirs.
 pub(crate) fn membership(arguments: NodeArguments<'_>) -> Option<Membership>
     ensures some { IfSome result (λ m. (m.cluster ≡ arguments.entry.cluster) × (m.me ≡ arguments.entry.me) ×
@@ -177,11 +155,11 @@ pub(crate) fn membership(arguments: NodeArguments<'_>) -> Option<Membership>
     ensures none { IsSome result ↔
         IsTrue (has_place arguments.entry.me (length arguments.entry.members.now)) }
 {
-    let members = count(arguments.members)?;
-    if arguments.me >= members {
+    let n = arguments.members.len();
+    if n > usize::from(MEMBERS) || usize::from(arguments.me) >= n {
         return None;
     }
-    Membership::new(arguments.cluster, members, arguments.me)
+    Membership::new(arguments.cluster, n as u8, arguments.me)
 }
 
 /// The wire of a member: its socket.
@@ -280,18 +258,12 @@ impl<F: NodeFiles, D: Databases> MemberStart<'_, F, D> {
         ensures keys { IfOk result (λ w. keys_of w ≡ keys_with sealing) }
         ensures inner { IfOk result (λ w. inner_of w ≡ wire) }
     {
-        let keys = sealing.keys;
+        let Sealing { keys, start } = sealing;
         let packets = PacketKeys::new(&keys.key, keys.other.as_ref());
-        PacketWire::new(
-            self.start.rt.alloc(),
-            wire,
-            *self.start.rt,
-            packets,
-            self.m.cluster(),
-            self.m.members(),
-            self.m.me(),
-            sealing.start,
-        )
+        let rt = self.start.rt;
+        let m = self.m;
+        let (cluster, n, me) = (m.cluster(), m.members(), m.me());
+        PacketWire::new(rt.alloc(), wire, *rt, packets, cluster, n, me, start)
     }
 
     /// The run of a member at its socket, with packets that are sealed if there are keys, and with a control socket at

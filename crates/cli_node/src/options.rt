@@ -1,7 +1,7 @@
 //! The arguments of `node`, `ask` and `key`, as `clap` reads them.
 
 ghost use Rattle.std.specs.Prelude.{◌≡◌, IfOk, false, map};
-ghost use Rattle.clap.specs.Words.{app_of, with_subcommand};
+ghost use Rattle.clap.specs.Words.{app_of};
 ghost use Rattle.clap.specs.declared.builder.command.Command.TheViews.{out-Command};
 ghost use Rattle.cli_node.specs.Arguments.{node_app, ask_app, key_app, with_all, net_app};
 ghost use Rattle.cli_node.specs.Arguments.{is_config, names_config};
@@ -15,8 +15,6 @@ use std::convert::AsStr;
 /// The help of each option, and what is below them.
 const CONFIG: &str =
     "A file of settings in TOML, named as these options, and members for the addresses; options override it";
-
-const ME: &str = "The node's number, from 0 on";
 
 const CLUSTER: &str = "The cluster's number, 0 to 4294967295";
 
@@ -56,14 +54,7 @@ const MEMBER: &str =
 
 const TO: &str = "The node's address: IPV4:PORT, [IPV6]:PORT or NAME:PORT";
 
-const MEMBERS: &str = "The number of members, 1 to 15";
-
-const NODE: &str = "The number of the node that is asked";
-
 const WAIT: &str = "Seconds to wait for the answer, 0 to 3600; 1 by default";
-
-/// The most seconds that it waits.
-const WAIT_MAX: u64 = 3_600;
 
 const NODE_BELOW: &str =
     "When it ends it prints front F applied A: the number of positions learned without a gap, and applied. A refusal is
@@ -77,8 +68,6 @@ socket, requests by UDP are ignored.";
 const KEY_BELOW: &str =
     "It writes 64 hexadecimal digits, as pfx node --key reads them, to FILE, which it creates and only its owner may
 read, or to standard output. A refusal is refused CODE: 94 the file exists, 83 it can't be created.";
-
-const KEY_FILE: &str = "The file to create";
 
 const ASK_BELOW: &str =
     "It prints asked NODE.NUMBER, no answer, or refused CODE; a node refuses with 60 (64 commands wait) or 62 (no number
@@ -96,7 +85,7 @@ fn node_command<'a>(alloc: Global, is_needed: bool) -> Result<Command<'a>, Alloc
         .after_help(NODE_BELOW);
     let arguments = [
         Argument::Value("config", CONFIG),
-        Argument::U8("me", ME, is_needed),
+        Argument::U8("me", "The node's number, from 0 on", is_needed),
         Argument::U32("cluster", CLUSTER, is_needed),
         Argument::NeededIf("store", STORE, is_needed),
         Argument::U32("turns", TURNS, false),
@@ -125,9 +114,9 @@ fn ask_command<'a>(alloc: Global) -> Result<Command<'a>, AllocError>
     let arguments = [
         Argument::Needed("to", TO),
         Argument::U32("cluster", CLUSTER, true),
-        Argument::U8("members", MEMBERS, true),
-        Argument::U8("node", NODE, true),
-        Argument::Number("wait", WAIT, 0, WAIT_MAX),
+        Argument::U8("members", "The number of members, 1 to 15", true),
+        Argument::U8("node", "The number of the node that is asked", true),
+        Argument::Number("wait", WAIT, 0, 3_600),
     ];
     pfctl_args(alloc, with_options(alloc, ask, &arguments)?)
 }
@@ -140,20 +129,8 @@ fn key_command<'a>(alloc: Global) -> Result<Command<'a>, AllocError>
     let key = Command::new(alloc, "key")
         .about("Makes a new key for a cluster, from the system's random source")
         .after_help(KEY_BELOW);
-    with_options(alloc, key, &[Argument::Single("file", KEY_FILE)])
-}
-
-/// A command with one subcommand more.
-fn with_subcommand<'a>(
-    command: Command<'a>,
-    subcommand: Command<'a>,
-) -> Result<Command<'a>, AllocError>
-    requires command { (out-Command command).has_globals ≡ false }
-    requires subcommand { (out-Command subcommand).has_globals ≡ false }
-    ensures app { IfOk result (λ c. app_of c ≡ with_subcommand (app_of command.entry) (app_of subcommand.entry).top) }
-    ensures local { IfOk result (λ c. (out-Command c).has_globals ≡ false) }
-{
-    command.subcommand(subcommand)
+    let file = Argument::Single("file", "The file to create");
+    with_options(alloc, key, &[file])
 }
 
 /// The program with these subcommands.
@@ -161,11 +138,11 @@ fn with_all<'a>(alloc: Global, is_needed: bool) -> Result<Command<'a>, AllocErro
     ensures { IfOk result (λ c. app_of c ≡ with_all is_needed) }
 {
     let node = node_command(alloc, is_needed)?;
-    let command = with_subcommand(Command::new(alloc, "pfx"), node)?;
+    let command = Command::new(alloc, "pfx").subcommand(node)?;
     let ask = ask_command(alloc)?;
-    let command = with_subcommand(command, ask)?;
+    let command = command.subcommand(ask)?;
     let key = key_command(alloc)?;
-    with_subcommand(command, key)
+    command.subcommand(key)
 }
 
 /// The same, of which one has to be given.
@@ -187,10 +164,6 @@ fn is_config(argument: &str) -> bool
 pub(crate) fn names_config<S: AsStr>(arguments: &[S]) -> bool
     ensures { result ≡ names_config (map S.text arguments.now) }
 {
-    for argument in arguments {
-        if is_config(argument.as_str()) {
-            return true;
-        }
-    }
-    false
+    let mut left = arguments.iter();
+    left.any(|argument| is_config(argument.as_str()))
 }

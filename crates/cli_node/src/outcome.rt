@@ -3,7 +3,7 @@
 ghost use Rattle.std.specs.Prelude.{◌≡◌, ◌≢◌, IfOk, string_bytes};
 ghost use Rattle.cli_node.specs.declared.outcome.Outcome.TheVariants.{Refused};
 ghost use Rattle.cli_node.specs.Outcomes.{line_of, status_of, Wrote};
-ghost use Rattle.cli_node.specs.Endings.{numbered, outcome_of, ending_of, answer_outcome, ended_outcome};
+ghost use Rattle.cli_node.specs.Endings.{numbered, ending_of, answer_outcome, ended_outcome};
 
 use cli_files::key_text;
 use cli_io::{
@@ -12,7 +12,6 @@ use cli_io::{
 };
 use node_loop::Ended;
 use node_udp::AskAnswer;
-use px_replica::NodeFault;
 use std::alloc::{AllocError, Global};
 use std::io::Write;
 
@@ -99,13 +98,6 @@ pub(crate) fn numbered(code: Option<u8>) -> Outcome
     code.map_or(Outcome::Memory, |code| Outcome::Refused(code))
 }
 
-/// What a fault of a node is shown as.
-pub(crate) fn fault_outcome(fault: NodeFault) -> Outcome
-    ensures { result ≡ outcome_of fault }
-{
-    numbered(fault.code())
-}
-
 /// How a run ends whose store has this number of failures: a node that had failed ends with what it failed of, 70 or
 /// 72.
 pub(crate) fn ending_of(outcome: Outcome, failures: u64) -> Outcome
@@ -126,7 +118,7 @@ pub(crate) fn ended_outcome(ended: Ended, without: Outcome) -> Outcome
     match ended {
         Ended::Front { front, applied } => Outcome::Front { front, applied },
         Ended::Stopped { front, applied } => Outcome::Stopped { front, applied },
-        Ended::Fault(fault) => fault_outcome(fault),
+        Ended::Fault(fault) => numbered(fault.code()),
         Ended::NoWire => without,
         Ended::NoControlSocket => Outcome::Refused(BAD_CONTROL_SOCKET),
         Ended::NoPort => Outcome::Refused(BAD_ADDRESS),

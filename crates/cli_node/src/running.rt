@@ -44,12 +44,12 @@ fn outcome_of<RT: RandomBytes + Eprint + Sources, N: Nodes, C: Client, F: NewFil
     if let Some(inner) = given_in(matches, "key") {
         return Some(key_outcome(rt, files, alloc, value_in(inner, "file")));
     }
-    let Some(inner) = given_in(matches, "ask") else {
-        return None;
+    let inner = given_in(matches, "ask")?;
+    let Some(arguments) = AskArguments::of(inner) else {
+        return Some(Outcome::Refused(INVALID_ARGUMENTS));
     };
-    match AskArguments::of(inner) {
-        Some(arguments) => Some(ask_outcome(rt, client, alloc, arguments, inner, reader)),
-        None => Some(Outcome::Refused(INVALID_ARGUMENTS)),
+    match ask_outcome(rt, client, alloc, arguments, inner, reader) {
+        Ok(outcome) | Err(outcome) => Some(outcome),
     }
 }
 

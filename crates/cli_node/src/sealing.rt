@@ -39,40 +39,9 @@ fn starts_refused(rt: &HostRuntime, path: &str, fault: RaiseFault) -> Outcome
 }
 
 impl<F: NodeFiles, D> MemberStart<'_, F, D> {
-    /// Whether a missing file of starts is made: with a store that is made, and where that is asked for.
-    fn may_make_starts(&self) -> bool
-        ensures { result ≡ (is_made self.now.start.arguments.is_from_file self.now.start.arguments.is_new self.now.found
-            || self.now.start.arguments.makes_starts) }
-    {
-        let arguments = self.start.arguments;
-        is_made(arguments.is_from_file, arguments.is_new, self.found) || arguments.makes_starts
-    }
-
-    /// How a node's packets are sealed with these keys in this start of it, written into the file beside its store
-    /// first, where this was found.
-    fn sealing_with(&self, keys: Keys) -> Result<Option<Sealing>, Outcome>
-        requires here { self.now.m.me < self.now.m.members }
-        ensures refused { OnErr result ((result ≡ Err Memory) ⊎ (result ≡ Err (Refused 95))) }
-        ensures keys { IfOk result (λ s. option_map (λ x. x.keys) s ≡ Some keys) }
-        ensures start { IfOk result (λ s. IfSome s (λ x. F.raises self.now.start.files.now
-            (self.now.start.arguments.store.now ++ codes "-starts") self.now.m.members self.now.m.me
-            (is_made self.now.start.arguments.is_from_file self.now.start.arguments.is_new self.now.found
-            || self.now.start.arguments.makes_starts) x.start)) }
-        ensures keyed { IfOk result (λ s. is_some s ≡ true) }
-    {
-        let rt = self.start.rt;
-        let files = self.start.files;
-        let store = self.start.arguments.store;
-        let path = starts_path(rt.alloc(), store).map_err(|_| Outcome::Memory)?;
-        let may_be_made = self.may_make_starts();
-        let start = files
-            .raise(path.as_str(), self.m, may_be_made)
-            .map_err(|fault| starts_refused(rt, path.as_str(), fault))?;
-        Ok(Some(Sealing { keys, start }))
-    }
-
-    /// How the node's packets are sealed, where it has keys, and this was found where its store is: 95 where its file
-    /// of starts can't be used.
+    /// How the node's packets are sealed, where it has keys, and this was found where its store is: with this start of
+    /// it, which is written into the file beside its store first. 95 where that file can't be used; a missing one is
+    /// made with a store that is made, and where that is asked for.
     pub(crate) fn sealing_for(&self, keys: Option<Keys>) -> Result<Option<Sealing>, Outcome>
         requires here { self.now.m.me < self.now.m.members }
         ensures refused { OnErr result ((result ≡ Err Memory) ⊎ (result ≡ Err (Refused 95))) }
@@ -84,10 +53,18 @@ impl<F: NodeFiles, D> MemberStart<'_, F, D> {
             || self.now.start.arguments.makes_starts) x.start)) }
         ensures keyed { IfOk result (λ s. is_some s ≡ is_some keys) }
     {
-        match keys {
-            Some(keys) => self.sealing_with(keys),
-            None => Ok(None),
-        }
+        let Some(keys) = keys else {
+            return Ok(None);
+        };
+        let rt = self.start.rt;
+        let files = self.start.files;
+        let arguments = self.start.arguments;
+        let path = starts_path(rt.alloc(), arguments.store).map_err(|_| Outcome::Memory)?;
+        let is_made = is_made(arguments.is_from_file, arguments.is_new, self.found);
+        let start = files
+            .raise(path.as_str(), self.m, is_made || arguments.makes_starts)
+            .map_err(|fault| starts_refused(rt, path.as_str(), fault))?;
+        Ok(Some(Sealing { keys, start }))
     }
 }
 

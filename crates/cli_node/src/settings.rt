@@ -57,10 +57,8 @@ fn file_refused<RT: Eprint>(rt: &RT, path: &str, fault: FileFault) -> Outcome
     match fault.line() {
         Some(line) => {
             let _logged = eprintln!(rt; "pfx: error: {path}:{line}: {fault} ({BAD_SETTINGS})");
-            Outcome::RefusedLine {
-                code: BAD_SETTINGS,
-                line,
-            }
+            let code = BAD_SETTINGS;
+            Outcome::RefusedLine { code, line }
         }
         None => {
             let _logged = eprintln!(rt; "pfx: error: {path}: {fault} ({BAD_SETTINGS})");
@@ -69,35 +67,19 @@ fn file_refused<RT: Eprint>(rt: &RT, path: &str, fault: FileFault) -> Outcome
     }
 }
 
-/// The settings in a file.
-fn settings_in<RT: Eprint + Sources>(
-    rt: &RT,
-    alloc: Global,
-    path: &str,
-) -> Result<NodeFile, Outcome>
-    ensures settings { IfOk result (λ f. (text : List ℕ) × RT.has rt.now path.now text × AreOfText text f) }
-    ensures refused { IfErr result (IsUnread (RT.has rt.now) path.now) }
-{
-    let bytes = bytes_at(rt, alloc, path)?;
-    match NodeFile::read(alloc, &bytes) {
-        Ok(file) => Ok(file),
-        Err(fault) => Err(file_refused(rt, path, fault)),
-    }
-}
+/// The settings of a file, or what it is refused for.
+type Settings = Result<NodeFile, Outcome>;
 
 /// The settings in the file that is named; none without one.
-fn settings_for<RT: Eprint + Sources>(
-    rt: &RT,
-    alloc: Global,
-    named: Option<&str>,
-) -> Result<NodeFile, Outcome>
+fn settings_for<RT: Eprint + Sources>(rt: &RT, alloc: Global, named: Option<&str>) -> Settings
     ensures settings { IfOk result (AreSettings (RT.has rt.now) (option_map (λ n. n.now) named.entry)) }
     ensures refused { IfErr result (IsUnsettled (RT.has rt.now) (option_map (λ n. n.now) named.entry)) }
 {
-    match named {
-        Some(path) => settings_in(rt, alloc, path),
-        None => Ok(NodeFile::empty(alloc)),
-    }
+    let Some(path) = named else {
+        return Ok(NodeFile::empty(alloc));
+    };
+    let bytes = bytes_at(rt, alloc, path)?;
+    NodeFile::read(alloc, &bytes).map_err(|fault| file_refused(rt, path, fault))
 }
 
 /// The number with which settings are refused: 92 where a file is named, 40 for arguments alone.
@@ -128,17 +110,6 @@ fn lacking<RT: Eprint>(rt: &RT, matches: &ArgMatches<'_>, file: &NodeFile) -> Ou
     if value_in(matches, "store").is_none() && file.text("store").is_none() {
         log_missing(rt, "store", code);
     }
-    Outcome::Refused(code)
-}
-
-/// What is refused where a setting lacks the one that it needs.
-fn halved<RT: Eprint>(rt: &RT, matches: &ArgMatches<'_>) -> Outcome
-    ensures { result ≡ Refused (settings_code (first_of (codes "config") (rows_of (found_of matches.now)))) }
-{
-    let code = settings_code(matches);
-    let _logged = eprintln!(rt;
-        "pfx: error: other-key or new-starts is given without key, or metrics without control ({code})"
-    );
     Outcome::Refused(code)
 }
 
@@ -200,12 +171,15 @@ fn outcome_for<'g: 'f, 'f, RT: Eprint, N: Nodes>(
         return lacking(rt, matches, file);
     };
     if !arguments.is_whole() {
-        return halved(rt, matches);
+        let code = settings_code(matches);
+        let _logged = eprintln!(rt;
+            "pfx: error: other-key or new-starts is given without key, or metrics without control ({code})"
+        );
+        return Outcome::Refused(code);
     }
-    if has_flag(matches, "check") {
-        nodes.check(arguments)
-    } else {
-        nodes.run(arguments)
+    match has_flag(matches, "check") {
+        true => nodes.check(arguments),
+        false => nodes.run(arguments),
     }
 }
 

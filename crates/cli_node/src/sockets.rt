@@ -8,7 +8,6 @@ use crate::faults::{log_error, log_why};
 use crate::node::{NodeArguments, bind, figures_at};
 use crate::outcome::Outcome;
 use cli_io::{BAD_ADDRESS, BAD_CONTROL_SOCKET, Shown, knock};
-use std::fmt::Display;
 use std::fs;
 use std::io::{self, Error, ErrorKind};
 use std::net::{TcpListener, UdpSocket};
@@ -33,23 +32,15 @@ pub(crate) fn try_control(rt: &HostRuntime, path: &str) -> io::Result<()> {
     fs::remove_file(rt, beside.as_str())
 }
 
-/// Tries the socket of the members' datagrams, and the port of figures, if there is one.
-fn try_ports(rt: &HostRuntime, arguments: NodeArguments<'_>) -> Result<(), Outcome>
-    ensures { IfErr result (λ o. (o ≡ Memory) ⊎ (o ≡ Refused 82)) }
+/// Tries the socket of the members' datagrams, the port of figures and the control socket, if there are such.
+fn try_all(rt: &HostRuntime, arguments: NodeArguments<'_>) -> Result<(), Outcome>
+    ensures refused { IfErr result (λ o. (o ≡ Memory) ⊎ ((o ≡ Refused 82) ⊎ (o ≡ Refused 84))) }
+    ensures beyond { IfErr result (λ o. is_beyond false (is_some arguments.entry.control) o ≡ false) }
 {
     drop(bind(rt, arguments)?);
     if let Some(figures) = figures_at(arguments)? {
         let _bound = TcpListener::bind(rt, figures).map_err(|_| Outcome::Refused(BAD_ADDRESS))?;
     }
-    Ok(())
-}
-
-/// Tries them, and the control socket, if there is one.
-fn try_all(rt: &HostRuntime, arguments: NodeArguments<'_>) -> Result<(), Outcome>
-    ensures refused { IfErr result (λ o. (o ≡ Memory) ⊎ ((o ≡ Refused 82) ⊎ (o ≡ Refused 84))) }
-    ensures beyond { IfErr result (λ o. is_beyond false (is_some arguments.entry.control) o ≡ false) }
-{
-    try_ports(rt, arguments)?;
     let Some(path) = arguments.control else {
         return Ok(());
     };
@@ -72,34 +63,36 @@ pub(crate) fn try_sockets(rt: &HostRuntime, arguments: NodeArguments<'_>) -> Res
     tried
 }
 
-/// Logs why a start would be refused for a socket; `--check` doesn't refuse it.
-fn log_unsure<E: Display>(rt: &HostRuntime, what: &str, name: &str, why: &E) {
-    let name = Shown(name);
-    let _logged = eprintln!(rt; "pfx: info: {what} {name}: {why}; a start would be refused");
+/// What is refused of a socket that was tried; nothing where it is in use, as by this node where it runs: that a start
+/// would be refused is logged.
+fn tried(rt: &HostRuntime, what: &str, name: &str, socket: io::Result<()>, code: u8) -> Outcome
+    ensures { (result ≡ Sound) ⊎ (result ≡ Refused code) }
+{
+    let Err(error) = socket else {
+        return Outcome::Sound;
+    };
+    if error.kind() == ErrorKind::AddrInUse {
+        let name = Shown(name);
+        let _logged = eprintln!(rt; "pfx: info: {what} {name}: {error}; a start would be refused");
+        return Outcome::Sound;
+    }
+    log_error(rt, what, name, &error);
+    Outcome::Refused(code)
 }
 
-/// What is refused of the node's own address; nothing where it is in use, as by this node where it runs.
+/// What is refused of the node's own address.
 pub(crate) fn of_own_address(rt: &HostRuntime, arguments: NodeArguments<'_>) -> Outcome
     ensures { (result ≡ Sound) ⊎ (result ≡ Refused 82) }
 {
     let Some(own) = arguments.members.get(usize::from(arguments.me)) else {
         return Outcome::Sound;
     };
-    match UdpSocket::bind(rt, *own) {
-        Ok(_bound) => Outcome::Sound,
-        Err(error) if error.kind() == ErrorKind::AddrInUse => {
-            log_unsure(rt, "address", own, &error);
-            Outcome::Sound
-        }
-        Err(error) => {
-            log_error(rt, "address", own, &error);
-            Outcome::Refused(BAD_ADDRESS)
-        }
-    }
+    let bound = UdpSocket::bind(rt, *own).map(drop);
+    tried(rt, "address", own, bound, BAD_ADDRESS)
 }
 
-/// What is refused of the control socket, if there is one; nothing where a node answers there, as this one where it
-/// runs, or where its folder is missing.
+/// What is refused of the control socket, if there is one; nothing where its folder is missing, which may be made with
+/// the service.
 pub(crate) fn of_control(rt: &HostRuntime, arguments: NodeArguments<'_>) -> Outcome
     ensures why { (result ≡ Sound) ⊎ ((result ≡ Memory) ⊎ (result ≡ Refused 84)) }
     ensures beyond { is_beyond false (is_some arguments.entry.control) result ≡ false }
@@ -107,20 +100,9 @@ pub(crate) fn of_control(rt: &HostRuntime, arguments: NodeArguments<'_>) -> Outc
     let Some(path) = arguments.control else {
         return Outcome::Sound;
     };
-    let Err(error) = try_control(rt, path) else {
-        return Outcome::Sound;
-    };
-    match error.kind() {
-        ErrorKind::OutOfMemory => Outcome::Memory,
-        // its folder may be made with the service
-        ErrorKind::NotFound => Outcome::Sound,
-        ErrorKind::AddrInUse => {
-            log_unsure(rt, "control socket", path, &error);
-            Outcome::Sound
-        }
-        _ => {
-            log_error(rt, "control socket", path, &error);
-            Outcome::Refused(BAD_CONTROL_SOCKET)
-        }
+    match try_control(rt, path) {
+        Err(error) if error.kind() == ErrorKind::OutOfMemory => Outcome::Memory,
+        Err(error) if error.kind() == ErrorKind::NotFound => Outcome::Sound,
+        made => tried(rt, "control socket", path, made, BAD_CONTROL_SOCKET),
     }
 }

@@ -102,23 +102,6 @@ impl<F, D: Databases> NodeStart<'_, F, D> {
     }
 }
 
-/// What a store that isn't accepted gives; why is logged on standard error.
-pub(crate) fn untaken<RT: Eprint, S: Alter>(
-    rt: &RT,
-    path: &str,
-    m: Membership,
-    fault: AdoptFault,
-    conn: &mut Connection<S>,
-) -> Outcome
-    ensures is { result ≡ adopt_outcome fault }
-    ensures clean { HasCleanDisk (state S.Store conn.new) → HasCleanDisk (state S.Store conn.old) }
-    ensures stop { HasCleanDisk (state S.Store conn.new) →
-        LeavesOld (state S.Store conn.old) (state S.Store conn.new) }
-{
-    log_judged(rt, path, m, fault, conn);
-    numbered(fault.code())
-}
-
 /// Whom the store of a member belongs to.
 pub(crate) fn identity_of(m: Membership) -> Identity
     ensures { result ≡ identity_at m }
@@ -143,29 +126,11 @@ pub(crate) fn failed_outcome<RT: Files + Eprint>(rt: &RT, path: &str, error: Err
     }
 }
 
-/// The file of a store that is made: an empty one that its owner alone may read, where nothing is; else the one that is
-/// there, which can be read and written.
-fn make_file(rt: &HostRuntime, path: &str, found: Found) -> Result<(), Outcome>
-    ensures { IfErr result (λ o. o ≡ Refused 70) }
-{
-    let made = match found {
-        Found::Nothing => make_private(rt, path).map(drop),
-        Found::Empty | Found::Store | Found::Other => why_closed(rt, path),
-    };
-    made.map_err(|error| {
-        log_closed(rt, path, &error);
-        Outcome::Refused(STORE_FAILED)
-    })
-}
-
 /// Whether a start makes a store there, of nothing or of a file without a byte.
 pub(crate) fn is_made(is_from_file: bool, is_new: bool, found: Found) -> bool
     ensures { result ≡ is_made is_from_file is_new found }
 {
-    match found {
-        Found::Nothing | Found::Empty => is_new || !is_from_file,
-        Found::Store | Found::Other => false,
-    }
+    matches!(found, Found::Nothing | Found::Empty) && (is_new || !is_from_file)
 }
 
 /// The record in a database: a store that was there before the start has its tables.
@@ -214,8 +179,9 @@ impl<F, D: Databases> MemberStart<'_, F, D> {
         opened.map_err(|error| failed_outcome(self.start.rt, store, error))
     }
 
-    /// The database of a store that is made. Its file is made first (70), and then its node's sockets are tried (82,
-    /// 84): a refusal leaves a file without a byte, which is no store.
+    /// The database of a store that is made. Its file is made first (70), which its owner alone may read; an empty one
+    /// that is there must be one that can be read and written. Then its node's sockets are tried (82, 84): a refusal
+    /// leaves a file without a byte, which is no store.
     fn make_store(&self) -> Result<Opened, Outcome>
         ensures refused { IfErr result IsUnmade }
         ensures beyond { IfErr result (λ o. is_beyond false (is_some self.now.start.arguments.control) o ≡ false) }
@@ -223,8 +189,17 @@ impl<F, D: Databases> MemberStart<'_, F, D> {
             D.holds self.now.start.dbs.now self.now.start.arguments.store.now
             (state ⟦<FileStore<File> as Store>⟧ c).now (state ⟦<FileStore<File> as Store>⟧ c).in_transaction) }
     {
-        make_file(self.start.rt, self.start.arguments.store, self.found)?;
-        try_sockets(self.start.rt, self.start.arguments)?;
+        let rt = self.start.rt;
+        let path = self.start.arguments.store;
+        let made = match self.found {
+            Found::Nothing => make_private(rt, path).map(drop),
+            Found::Empty | Found::Store | Found::Other => why_closed(rt, path),
+        };
+        if let Err(error) = made {
+            log_closed(rt, path, &error);
+            return Err(Outcome::Refused(STORE_FAILED));
+        }
+        try_sockets(rt, self.start.arguments)?;
         self.open_file()
     }
 
@@ -281,7 +256,10 @@ impl<F, D: Databases> MemberStart<'_, F, D> {
         let conn = self.open_store()?;
         match record_in(rt.alloc(), conn, identity_of(self.m), self.found) {
             Ok(records) => Ok(records),
-            Err((fault, mut conn)) => Err(untaken(rt, store, self.m, fault, &mut conn)),
+            Err((fault, mut conn)) => {
+                log_judged(rt, store, self.m, fault, &mut conn);
+                Err(numbered(fault.code()))
+            }
         }
     }
 }

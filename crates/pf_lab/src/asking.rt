@@ -21,10 +21,11 @@ fn change_in(alloc: Global, matches: &ArgMatches<'_>, text: &[u8]) -> Read<Comma
     match from_matches(alloc, matches, text) {
         Ok(Action::Change(command)) => Ok(command),
         Ok(_) => Err(UNKNOWN),
-        Err(fault) => match fault.code() {
-            Some(code) => Err(LineFault::Refused(code)),
-            None => Err(LineFault::Memory),
-        },
+        Err(fault) => Err(
+            fault
+                .code()
+                .map_or(LineFault::Memory, |code| LineFault::Refused(code)),
+        ),
     }
 }
 

@@ -16,7 +16,7 @@ ghost use Rattle.pf_lab.specs.Labs.{IsHost, IsWorld, cluster_of, state_of, group
 ghost use Rattle.px_core.specs.declared.limits.TheConstants.{MEMBERS};
 
 use crate::coming::{named, what_comes};
-use crate::event::{LabAction, LabEvent, LabFault, Outcome};
+use crate::event::{LabAction, LabEvent, LabFault, Outcome, Stepped};
 use crate::host::Host;
 use crate::hosts::{empty_at, run_at, send_on, stop_after_at, stop_before_at};
 use crate::state::Lab;
@@ -29,7 +29,7 @@ const MESSAGES: usize = px_core::MEMBERS as usize;
 
 impl Lab {
     /// The action happens in the world.
-    fn run(&mut self, action: &LabAction, bytes: &[u8]) -> Result<Outcome, LabFault>
+    fn run(&mut self, action: &LabAction, bytes: &[u8]) -> Stepped
         requires { IsNamed action.now bytes.now }
         ensures happens { (g : Group) (w : World Bytes) → IsWorld self.old g w →
             OnOk result (IsWorld self.new g (happens same g.members w (Runs (action_of action.now)))) }
@@ -49,7 +49,7 @@ impl Lab {
     }
 
     /// A member stops before the action changes anything.
-    fn stop_before(&mut self, action: &LabAction, bytes: &[u8]) -> Result<Outcome, LabFault>
+    fn stop_before(&mut self, action: &LabAction, bytes: &[u8]) -> Stepped
         requires { IsNamed action.now bytes.now }
         ensures happens { (g : Group) (w : World Bytes) → IsWorld self.old g w →
             OnOk result (IsWorld self.new g (happens same g.members w (StopBefore (action_of action.now)))) }
@@ -58,14 +58,12 @@ impl Lab {
             (outcome_in g.members w (StopBefore (action_of action.now))) }
         ensures stays { (g : Group) (w : World Bytes) → IsWorld self.old g w → OnErr result (IsWorld self.new g w) }
     {
-        match what_comes(self.sent.as_slice(), action, bytes) {
-            None => Err(LabFault::BadEvent),
-            Some((m, _)) => stop_before_at(&mut self.hosts, m),
-        }
+        let (m, _) = what_comes(self.sent.as_slice(), action, bytes).ok_or(LabFault::BadEvent)?;
+        stop_before_at(&mut self.hosts, m)
     }
 
     /// A member stops after the action's change is recorded.
-    fn stop_after(&mut self, action: &LabAction, bytes: &[u8]) -> Result<Outcome, LabFault>
+    fn stop_after(&mut self, action: &LabAction, bytes: &[u8]) -> Stepped
         requires { IsNamed action.now bytes.now }
         ensures happens { (g : Group) (w : World Bytes) → IsWorld self.old g w →
             OnOk result (IsWorld self.new g (happens same g.members w (StopAfter (action_of action.now)))) }
@@ -74,14 +72,12 @@ impl Lab {
             (outcome_in g.members w (StopAfter (action_of action.now))) }
         ensures stays { (g : Group) (w : World Bytes) → IsWorld self.old g w → OnErr result (IsWorld self.new g w) }
     {
-        match what_comes(self.sent.as_slice(), action, bytes) {
-            None => Err(LabFault::BadEvent),
-            Some((m, what)) => stop_after_at(&mut self.hosts, m, what),
-        }
+        let (m, what) = what_comes(self.sent.as_slice(), action, bytes).ok_or(LabFault::BadEvent)?;
+        stop_after_at(&mut self.hosts, m, what)
     }
 
     /// A member starts anew, with its record alone.
-    fn restart(&mut self, m: u8) -> Result<Outcome, LabFault>
+    fn restart(&mut self, m: u8) -> Stepped
         ensures happens { (g : Group) (w : World Bytes) → IsWorld self.old g w →
             OnOk result (IsWorld self.new g (happens same g.members w (Restart m))) }
         ensures reported { (g : Group) (w : World Bytes) → IsWorld self.old g w →
@@ -97,7 +93,7 @@ impl Lab {
     }
 
     /// The action happens, or the member stops before or after it; a command that is too long is refused.
-    fn act(&mut self, event: &LabEvent, action: &LabAction) -> Result<Outcome, LabFault>
+    fn act(&mut self, event: &LabEvent, action: &LabAction) -> Stepped
         requires { IsOf event.now action.now }
         ensures happens { (g : Group) (w : World Bytes) → IsWorld self.old g w →
             OnOk result (IsWorld self.new g (run same g.members (model_events event.now) w)) }
@@ -105,10 +101,9 @@ impl Lab {
             Reports result (is_bad g.members w event.now) (becomes g.members w event.now) }
         ensures stays { (g : Group) (w : World Bytes) → IsWorld self.old g w → OnErr result (IsWorld self.new g w) }
     {
-        let bytes = match named(self.alloc, action) {
-            Ok(Some(bytes)) => bytes,
-            Ok(None) => return Ok(Outcome::Refused(41)),
-            Err(_) => return Err(LabFault::Memory),
+        let bytes = named(self.alloc, action).map_err(|_| LabFault::Memory)?;
+        let Some(bytes) = bytes else {
+            return Ok(Outcome::Refused(41));
         };
         match event {
             LabEvent::Runs(_) => self.run(action, bytes.as_slice()),
@@ -130,9 +125,8 @@ impl Lab {
         ensures stays { (g : Group) (w : World Bytes) → IsWorld self.old g w → OnErr result (IsWorld self.new g w) }
     {
         match event {
-            LabEvent::Runs(action) => self.act(event, action),
-            LabEvent::StopBefore(action) => self.act(event, action),
-            LabEvent::StopAfter(action) => self.act(event, action),
+            LabEvent::Runs(action) | LabEvent::StopBefore(action) | LabEvent::StopAfter(action) =>
+                self.act(event, action),
             LabEvent::Restart(m) => self.restart(*m),
         }
     }

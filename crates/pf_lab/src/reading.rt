@@ -2,7 +2,7 @@
 
 ghost use Rattle.std.specs.Prelude.{◌≡◌, map, option_map};
 ghost use Rattle.std.specs.Option.{option_copied};
-ghost use Rattle.pf_lab.specs.LabLines.{only, action_of, event_of, test_of, bare, line_asked};
+ghost use Rattle.pf_lab.specs.LabLines.{only, action_of, event_of, bare, line_asked};
 ghost use Rattle.pf_lab.specs.inner.Seen.{Reads, action_value, event_value, line_value};
 
 use crate::asking::command_in;
@@ -71,16 +71,6 @@ fn event_in(alloc: Global, words: &[&str], text: &[u8]) -> Result<LabEvent, Line
     }
 }
 
-/// `test NODE PACKET`
-fn test_in<'w, 'a>(words: &'w [&'a str]) -> Result<LabLine<'w, 'a>, LineFault>
-    ensures { Reads line_value result (test_of (map (λ w. w.now) words.now)) }
-{
-    match words {
-        [node, packet @ ..] => Ok(LabLine::Test(node_in(*node)?, packet)),
-        [] => Err(UNKNOWN),
-    }
-}
-
 /// What a line without arguments asks for, by its keyword; none where there is no such keyword.
 fn bare<'w, 'a>(word: &str) -> Option<LabLine<'w, 'a>>
     ensures { option_map line_value result ≡ bare word.now }
@@ -104,11 +94,11 @@ pub(crate) fn line_in<'w, 'a>(
     let [first, rest @ ..] = words else {
         return Err(UNKNOWN);
     };
-    if rest.is_empty() {
+    let [node, packet @ ..] = rest else {
         return bare(*first).ok_or(UNKNOWN);
-    }
+    };
     if *first == "test" {
-        return test_in(rest);
+        return Ok(LabLine::Test(node_in(*node)?, packet));
     }
     if *first == "log" {
         return Ok(LabLine::Log(node_in(only(rest)?)?));

@@ -26,14 +26,9 @@ fn members_in(words: &[&str]) -> Option<u8>
     let [first, number] = words else {
         return None;
     };
-    if *first != "members" {
-        return None;
-    }
     let members = number_in(*number)?;
-    if members < 1 || members > MEMBERS {
-        return None;
-    }
-    Some(members as u8)
+    let is_good = *first == "members" && 1 <= members && members <= MEMBERS;
+    is_good.then(|| members as u8)
 }
 
 /// How many members the first line that isn't blank names, and what follows it; none where it names none.

@@ -9,7 +9,7 @@ ghost use Rattle.px_model.specs.World.{NodeState};
 ghost use Rattle.pf_node.specs.Nodes.{learned_by};
 ghost use Rattle.pf_lab.specs.Labs.{IsShown};
 ghost use Rattle.pf_lab.specs.Shown.{entry_line, log_lines};
-ghost use Rattle.pf_lab.specs.Scripts.{LabValue, prints, progress, node_line, state_lines, config_at, of_running};
+ghost use Rattle.pf_lab.specs.Scripts.{LabValue, prints, progress, node_line, state_lines, config_at};
 ghost use Rattle.pf_lab.specs.Scripts.{of_node, learned_lines, verdict_line, sent_lines, all_shown};
 ghost use Rattle.pf_lab.specs.inner.Benches.{IsBench, Does, IsOfMember};
 
@@ -74,18 +74,6 @@ fn push_log(out: &mut String, node: &Node<MemoryRecords>) -> Pushed
     Ok(())
 }
 
-/// What a node has learned, and that it is stopped where it is.
-#[tactic(auto, using(crate::proofs::Lines::learned_shown, crate::proofs::Lines::stopped_shown))]
-fn push_learned_by(out: &mut String, node: Option<&Node<MemoryRecords>>) -> Pushed
-    ensures { (s : NodeState Bytes) → IsOfMember s (option_copied node.entry) →
-        OnOk result (string_bytes out.new ≡ string_bytes out.old ++ of_running s learned_lines) }
-{
-    match node {
-        Some(node) => push_log(out, node),
-        None => push_line(out, "stopped"),
-    }
-}
-
 /// The configuration of a node that has applied all below its front; out of memory where it hasn't.
 #[tactic(auto, using(crate::proofs::Lines::config_is))]
 fn configuration(node: &Node<MemoryRecords>) -> Result<&Config, AllocError>
@@ -95,19 +83,6 @@ fn configuration(node: &Node<MemoryRecords>) -> Result<&Config, AllocError>
         return Err(AllocError);
     }
     Ok(node.config())
-}
-
-/// The verdict of a node for a packet, and that it is stopped where it is.
-#[tactic(auto, using(crate::proofs::Lines::verdict_shown, crate::proofs::Lines::stopped_shown))]
-fn push_verdict(out: &mut String, node: Option<&Node<MemoryRecords>>, packet: &[&str]) -> Pushed
-    ensures { (s : NodeState Bytes) → IsOfMember s (option_copied node.entry) →
-        OnOk result (string_bytes out.new
-        ≡ string_bytes out.old ++ of_running s (verdict_line (map (λ w. w.now) packet.now))) }
-{
-    match node {
-        Some(node) => test_packet(*out.allocator(), configuration(node)?, packet)?.push_to(out),
-        None => push_line(out, "stopped"),
-    }
 }
 
 impl Bench {
@@ -122,7 +97,8 @@ impl Bench {
         Ok(())
     }
 
-    /// Prints what the node has learned.
+    /// Prints what the node has learned, or that it is stopped.
+    #[tactic(auto, using(crate::proofs::Lines::learned_shown, crate::proofs::Lines::stopped_shown))]
     pub(crate) fn show_log(&self, m: u8, out: &mut String) -> Pushed
         ensures { (v : LabValue) → IsBench self.now v → OnOk result
             (string_bytes out.new ≡ string_bytes out.old ++ of_node v m learned_lines) }
@@ -130,10 +106,14 @@ impl Bench {
         if m >= self.members {
             return push_refusal(out, NOT_THERE, 0);
         }
-        push_learned_by(out, self.lab.node(m))
+        match self.lab.node(m) {
+            Some(node) => push_log(out, node),
+            None => push_line(out, "stopped"),
+        }
     }
 
-    /// Prints the node's verdict for a packet.
+    /// Prints the node's verdict for a packet, or that it is stopped.
+    #[tactic(auto, using(crate::proofs::Lines::verdict_shown, crate::proofs::Lines::stopped_shown))]
     pub(crate) fn show_verdict(&self, m: u8, packet: &[&str], out: &mut String) -> Pushed
         ensures { (v : LabValue) → IsBench self.now v → OnOk result (string_bytes out.new
             ≡ string_bytes out.old ++ of_node v m (verdict_line (map (λ w. w.now) packet.now))) }
@@ -141,7 +121,10 @@ impl Bench {
         if m >= self.members {
             return push_refusal(out, NOT_THERE, 0);
         }
-        push_verdict(out, self.lab.node(m), packet)
+        match self.lab.node(m) {
+            Some(node) => test_packet(*out.allocator(), configuration(node)?, packet)?.push_to(out),
+            None => push_line(out, "stopped"),
+        }
     }
 
     /// Prints the messages that weren't shown yet.

@@ -7,6 +7,8 @@ use Rattle.clap.specs.Faults.{fault_of}
 use Rattle.clap.specs.Kinds.{Kinds}
 use Rattle.pf_grammar.specs.declared.place.Place.{Place}
 use Rattle.pf_grammar.specs.declared.place.Place.TheVariants.{Main, Anchor}
+-- whether an option without a value was given
+pub use Rattle.cli_io.specs.Given.{is_given}
 use Rattle.cli_io.specs.declared.paragraph.Explanation.{Explanation}
 use Rattle.cli_io.specs.Explained.{named}
 use Rattle.cli_io.specs.Options.{flag_rule, lettered, several_rule, single_rule, value_rule, with_rules}
@@ -75,11 +77,6 @@ pub data CallValue : Type 0 where
   Explain : (refusal : Option Explanation) → CallValue
   CheckFiles : (place : Place) → (quiet : Bool) → (files : List Text) → CallValue
   TestFiles : (file more : Option Text) → (quiet : Bool) → (packets : List Text) → CallValue
-
--- whether an option without a value was given
-abbrev pub is_given : Option Text → Bool
-is_given None = false
-is_given (Some text) = bytes_eq text (codes "true")
 
 -- --anchor checks a ruleset for an anchor
 abbrev pub place_for : Option Text → Place

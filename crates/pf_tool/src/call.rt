@@ -1,15 +1,16 @@
 //! What the arguments ask for.
 
-ghost use Rattle.std.specs.Prelude.{◌≡◌, map, option_map};
+ghost use Rattle.std.specs.Prelude.{◌≡◌, map, option_map, if◌then◌else◌};
+ghost use Rattle.pf_grammar.specs.declared.place.Place.TheVariants.{Main, Anchor};
 ghost use Rattle.std.specs.Option.{option_copied};
 ghost use Rattle.clap.specs.Words.{found_of, rows_of, subcommand_rows_of};
-ghost use Rattle.pf_tool.specs.Options.{place_for, is_given, check_call, test_call, explain_as};
+ghost use Rattle.pf_tool.specs.Options.{check_call, test_call, explain_as};
 ghost use Rattle.pf_tool.specs.Options.{called, is_other, names_other};
 ghost use Rattle.pf_tool.specs.Messages.{is_verbose};
 ghost use Rattle.pf_tool.specs.inner.Calls.{asked, reads_input};
 
 use clap::ArgMatches;
-use cli_io::{Explanation, named, value_in, values_in};
+use cli_io::{Explanation, has_flag, named, value_in, values_in};
 use pf_grammar::Place;
 use std::convert::AsStr;
 
@@ -62,20 +63,14 @@ impl Call<'_, '_> {
     }
 }
 
-/// Whether an option without a value was given.
-fn is_given(text: Option<&str>) -> bool
-    ensures { result ≡ is_given (option_copied text.entry) }
+/// The place of a ruleset: an anchor's with `--anchor`.
+fn place_for(is_anchor: bool) -> Place
+    ensures { result ≡ (if is_anchor then Anchor else Main) }
 {
-    matches!(text, Some("true"))
-}
-
-/// The place that the value of `--anchor` gives.
-fn place_for(anchor: Option<&str>) -> Place
-    ensures { result ≡ place_for (option_copied anchor.entry) }
-{
-    match anchor {
-        Some("true") => Place::Anchor,
-        _ => Place::Main,
+    if is_anchor {
+        Place::Anchor
+    } else {
+        Place::Main
     }
 }
 
@@ -84,8 +79,8 @@ fn check_call<'m, 'a>(inner: &'m ArgMatches<'a>) -> Call<'m, 'a>
     ensures { asked result ≡ check_call (rows_of (found_of inner.now)) }
 {
     Call::Check(Check {
-        place: place_for(value_in(inner, "anchor")),
-        quiet: is_given(value_in(inner, "quiet")),
+        place: place_for(has_flag(inner, "anchor")),
+        quiet: has_flag(inner, "quiet"),
         files: values_in(inner, "file"),
     })
 }
@@ -96,7 +91,7 @@ fn test_call<'m, 'a>(inner: &'m ArgMatches<'a>) -> Option<Call<'m, 'a>>
 {
     let file = value_in(inner, "file");
     let more = value_in(inner, "packets");
-    let quiet = is_given(value_in(inner, "quiet"));
+    let quiet = has_flag(inner, "quiet");
     let packets = values_in(inner, "packet");
     if file.is_none() && more.is_none() && packets.is_empty() {
         return None;
@@ -150,7 +145,7 @@ pub(crate) fn is_verbose(matches: &ArgMatches<'_>) -> bool
     ensures { result ≡ is_verbose (subcommand_rows_of matches.now) }
 {
     match matches.subcommand() {
-        Some((_, inner)) => is_given(value_in(inner, "verbose")),
+        Some((_, inner)) => has_flag(inner, "verbose"),
         None => false,
     }
 }

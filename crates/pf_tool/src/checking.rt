@@ -1,7 +1,7 @@
 //! The subcommand `check`: what a ruleset gives.
 
 ghost use Rattle.std.specs.Prelude.{◌≡◌, IfOk, map};
-ghost use Rattle.pf_tool.specs.Tool.{check_output, checked_source, checked_sources};
+ghost use Rattle.pf_tool.specs.Tool.{check_output, checked_sources};
 ghost use Rattle.pf_tool.specs.inner.Output.{written, rendered};
 ghost use Rattle.pf_tool.specs.inner.Sources.{source_in};
 
@@ -24,17 +24,7 @@ impl Reporter<'_> {
         }
     }
 
-    /// What `check` writes over a ruleset, which may be one that can't be read.
-    fn checked_source(&self, place: Place, source: &Source<'_>) -> Made<Output>
-        ensures { IfOk result (λ o. written o ≡ rendered self.now (checked_source place (source_in source.now))) }
-    {
-        match source.text.as_deref() {
-            Some(text) => self.check_output(source.name, place, text),
-            None => self.unread(source.name),
-        }
-    }
-
-    /// What `check` writes over these rulesets in turn.
+    /// What `check` writes over these rulesets in turn, of which some may not be readable.
     #[tactic(auto, unfolding(crate::specs::Tool::checked_sources))]
     pub(crate) fn checked_sources(&self, place: Place, sources: &[Source<'_>]) -> Made<Output>
         ensures { IfOk result (λ o. written o
@@ -42,7 +32,10 @@ impl Reporter<'_> {
     {
         let mut all = self.answered(String::new(self.alloc));
         for source in sources {
-            let one = self.checked_source(place, source)?;
+            let one = match source.text.as_deref() {
+                Some(text) => self.check_output(source.name, place, text)?,
+                None => self.unread(source.name)?,
+            };
             all.append(&one)?;
         }
         Ok(all)

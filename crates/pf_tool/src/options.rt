@@ -6,9 +6,10 @@ ghost use Rattle.clap.specs.declared.builder.command.Command.TheViews.{out-Comma
 ghost use Rattle.pf_tool.specs.Options.{check_app, test_app, ctl_app, lab_app, explain_app};
 ghost use Rattle.pf_tool.specs.Options.{texts_app, scripts_app, with_named, pfx_app};
 
+use crate::output::Made;
 use clap::Command;
 use cli_io::{Argument, with_options};
-use std::alloc::{AllocError, Global};
+use std::alloc::Global;
 
 /// What help shows below its options.
 const BELOW: &str = "pfx SUBCOMMAND --help describes a subcommand; pfx --version prints the version.
@@ -95,7 +96,7 @@ const PACKET: &str = "Packets, each as one argument";
 const CODE: &str = "The number of a refusal; without one all are explained";
 
 /// `test [-f FILE] [--packets FILE] [-q] [-v] PACKET..`
-fn test_command<'a>(alloc: Global) -> Result<Command<'a>, AllocError>
+fn test_command<'a>(alloc: Global) -> Made<Command<'a>>
     ensures app { IfOk result (λ c. app_of c ≡ test_app) }
     ensures local { IfOk result (λ c. (out-Command c).has_globals ≡ false) }
 {
@@ -113,7 +114,7 @@ fn test_command<'a>(alloc: Global) -> Result<Command<'a>, AllocError>
 }
 
 /// `check [--anchor] [-q] [-v] FILE..`
-fn check_command<'a>(alloc: Global) -> Result<Command<'a>, AllocError>
+fn check_command<'a>(alloc: Global) -> Made<Command<'a>>
     ensures app { IfOk result (λ c. app_of c ≡ check_app) }
     ensures local { IfOk result (λ c. (out-Command c).has_globals ≡ false) }
 {
@@ -130,7 +131,7 @@ fn check_command<'a>(alloc: Global) -> Result<Command<'a>, AllocError>
 }
 
 /// `ctl [-v]`
-fn ctl_command<'a>(alloc: Global) -> Result<Command<'a>, AllocError>
+fn ctl_command<'a>(alloc: Global) -> Made<Command<'a>>
     ensures app { IfOk result (λ c. app_of c ≡ ctl_app) }
     ensures local { IfOk result (λ c. (out-Command c).has_globals ≡ false) }
 {
@@ -151,7 +152,7 @@ fn lab_command<'a>(alloc: Global) -> Command<'a>
 }
 
 /// `explain [CODE]`
-fn explain_command<'a>(alloc: Global) -> Result<Command<'a>, AllocError>
+fn explain_command<'a>(alloc: Global) -> Made<Command<'a>>
     ensures app { IfOk result (λ c. app_of c ≡ explain_app) }
     ensures local { IfOk result (λ c. (out-Command c).has_globals ≡ false) }
 {
@@ -162,7 +163,7 @@ fn explain_command<'a>(alloc: Global) -> Result<Command<'a>, AllocError>
 }
 
 /// The program with the subcommands that read a ruleset's text.
-fn texts_command<'a>(alloc: Global) -> Result<Command<'a>, AllocError>
+fn texts_command<'a>(alloc: Global) -> Made<Command<'a>>
     ensures { IfOk result (λ c. app_of c ≡ texts_app) }
 {
     let check = check_command(alloc)?;
@@ -175,7 +176,7 @@ fn texts_command<'a>(alloc: Global) -> Result<Command<'a>, AllocError>
 }
 
 /// The same with the subcommands that read a script, and the one that reads nothing.
-fn scripts_command<'a>(alloc: Global) -> Result<Command<'a>, AllocError>
+fn scripts_command<'a>(alloc: Global) -> Made<Command<'a>>
     ensures { IfOk result (λ c. app_of c ≡ scripts_app) }
 {
     let ctl = ctl_command(alloc)?;
@@ -191,7 +192,7 @@ fn with_named<'a>(
     alloc: Global,
     mut command: Command<'a>,
     subcommands: &[(&'a str, &'a str)],
-) -> Result<Command<'a>, AllocError>
+) -> Made<Command<'a>>
     ensures { IfOk result (λ c. app_of c ≡ with_named (app_of command.entry) (map (λ s. s.0.now) subcommands.entry.now)) }
 {
     for subcommand in subcommands {
@@ -204,9 +205,8 @@ fn with_named<'a>(
 }
 
 /// The program with all its subcommands.
-pub(crate) fn command<'a>(alloc: Global) -> Result<Command<'a>, AllocError>
+pub(crate) fn command<'a>(alloc: Global) -> Made<Command<'a>>
     ensures { IfOk result (λ c. app_of c ≡ pfx_app) }
 {
-    let command = with_named(alloc, scripts_command(alloc)?, &NAMED)?;
-    Ok(command.subcommand_required(true))
+    Ok(with_named(alloc, scripts_command(alloc)?, &NAMED)?.subcommand_required(true))
 }

@@ -9,14 +9,14 @@ ghost use Rattle.pf_lab.specs.Scripts as lab;
 ghost use Rattle.pf_tool.specs.Tool.{answered, marks, refusals_in, scripted};
 ghost use Rattle.pf_tool.specs.inner.Output.{written, rendered, reported};
 
-use crate::output::{Ending, Output};
+use crate::output::{Ending, Made, Output};
 use crate::reporting::Reporter;
 use pf_lab::lab_script;
 use pf_scripts::{Printed, ctl, cut_line};
-use std::alloc::{AllocError, Global};
+use std::alloc::Global;
 
 /// The text of what a script prints.
-fn text_of(alloc: Global, printed: &[Printed]) -> Result<String, AllocError>
+fn text_of(alloc: Global, printed: &[Printed]) -> Made<String>
     ensures { IfOk result (λ text. string_bytes text ≡ flat_map text_of (printed_values printed.now)) }
 {
     let mut text = String::new(alloc);
@@ -27,7 +27,7 @@ fn text_of(alloc: Global, printed: &[Printed]) -> Result<String, AllocError>
 }
 
 /// Puts a mark for each of these lines behind the others: it is no refusal.
-fn push_unmarked(marks: &mut Vec<Option<u8>>, text: &str) -> Result<(), AllocError>
+fn push_unmarked(marks: &mut Vec<Option<u8>>, text: &str) -> Made<()>
     ensures { OnOk result (marks.new.items ≡ marks.old.items ++ map (λ (l : ScriptLine). None) (lines text.now)) }
 {
     let mut left = text.as_bytes();
@@ -39,7 +39,7 @@ fn push_unmarked(marks: &mut Vec<Option<u8>>, text: &str) -> Result<(), AllocErr
 }
 
 /// Puts the marks of the lines of a piece behind the others.
-fn push_marks(found: &mut Vec<Option<u8>>, piece: &Printed) -> Result<(), AllocError>
+fn push_marks(found: &mut Vec<Option<u8>>, piece: &Printed) -> Made<()>
     ensures { OnOk result (found.new.items ≡ found.old.items ++ marks (printed_value piece.now)) }
 {
     match piece {
@@ -49,7 +49,7 @@ fn push_marks(found: &mut Vec<Option<u8>>, piece: &Printed) -> Result<(), AllocE
 }
 
 /// For each printed line the number of the refusal that it is, if it is one.
-fn marks(alloc: Global, printed: &[Printed]) -> Result<Vec<Option<u8>>, AllocError>
+fn marks(alloc: Global, printed: &[Printed]) -> Made<Vec<Option<u8>>>
     ensures { IfOk result (λ v. v.items ≡ flat_map marks (printed_values printed.now)) }
 {
     let mut found = Vec::new(alloc);
@@ -61,7 +61,7 @@ fn marks(alloc: Global, printed: &[Printed]) -> Result<Vec<Option<u8>>, AllocErr
 
 impl Reporter<'_> {
     /// The messages of the refusals among printed lines, by their places from 1.
-    fn refusals_in(&self, marks: &[Option<u8>]) -> Result<String, AllocError>
+    fn refusals_in(&self, marks: &[Option<u8>]) -> Made<String>
         ensures { IfOk result (λ text. string_bytes text ≡ reported self.now (refusals_in 1 marks.now)) }
     {
         let mut messages = String::new(self.alloc);
@@ -75,7 +75,7 @@ impl Reporter<'_> {
     }
 
     /// The messages of the refusals that a script prints; none are looked for where refusals aren't reported.
-    fn script_messages(&self, printed: &[Printed]) -> Result<String, AllocError>
+    fn script_messages(&self, printed: &[Printed]) -> Made<String>
         ensures { IfOk result (λ text. string_bytes text ≡ reported self.now
             (refusals_in 1 (flat_map marks (printed_values printed.now)))) }
     {
@@ -88,7 +88,7 @@ impl Reporter<'_> {
 
     /// What `ctl` writes over this input: what the script's lines print over one configuration.
     #[tactic(auto, unfolding(crate::specs::Tool::scripted))]
-    pub(crate) fn script_output(&self, input: &[u8]) -> Result<Output, AllocError>
+    pub(crate) fn script_output(&self, input: &[u8]) -> Made<Output>
         ensures { IfOk result (λ o. written o ≡ rendered self.now (scripted (printed input.now))) }
     {
         let printed = ctl(self.alloc, input)?;
@@ -98,7 +98,7 @@ impl Reporter<'_> {
     }
 
     /// What `lab` writes over this input: what the script's lines print over one lab.
-    pub(crate) fn lab_output(&self, input: &[u8]) -> Result<Output, AllocError>
+    pub(crate) fn lab_output(&self, input: &[u8]) -> Made<Output>
         ensures { IfOk result (λ o. written o ≡ rendered self.now (answered (lab.printed input.now))) }
     {
         Ok(self.answered(lab_script(self.alloc, input)?))

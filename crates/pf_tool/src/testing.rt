@@ -4,7 +4,7 @@ ghost use Rattle.std.specs.Prelude.{◌≡◌, [], IfOk, map};
 ghost use Rattle.pf_rules.specs.Rulesets.{ruleset_of};
 ghost use Rattle.pf_config.specs.Changes.{load_ruleset};
 ghost use Rattle.pf_command.specs.Effect.{empty};
-ghost use Rattle.pf_tool.specs.Tool.{refused_packet, verdict_lines, tested_over};
+ghost use Rattle.pf_tool.specs.Tool.{verdict_lines, tested_over};
 ghost use Rattle.pf_tool.specs.Tool.{test_output, tested_sources};
 ghost use Rattle.pf_tool.specs.inner.Output.{written, rendered};
 ghost use Rattle.pf_tool.specs.inner.Sources.{source_in};
@@ -22,14 +22,6 @@ use pf_scripts::push_line;
 use std::alloc::AllocError;
 
 impl Reporter<'_> {
-    /// What is written of the packet with this number, which is none.
-    fn refused_packet(&self, n: usize) -> Made<Output>
-        ensures { IfOk result (λ o. written o ≡ rendered self.now (refused_packet n)) }
-    {
-        let source = format!(in self.alloc; "packet {n}")?;
-        self.refused(source.as_str(), None, NO_PACKET)
-    }
-
     /// A verdict line for each packet text in turn, up to the first that is no packet, and which rules decide.
     fn verdict_lines(&self, config: &Config, packets: &[&str]) -> Made<Output>
         ensures { IfOk result (λ o. written o ≡ rendered self.now
@@ -41,8 +33,8 @@ impl Reporter<'_> {
                 Ok(packet) => packet,
                 Err(PacketFault::Memory) => return Err(AllocError),
                 Err(PacketFault::BadPacket) => {
-                    let last = self.refused_packet(i + 1)?;
-                    all.append(&last)?;
+                    let source = format!(in self.alloc; "packet {}", i + 1)?;
+                    all.append(&self.refused(source.as_str(), None, NO_PACKET)?)?;
                     return Ok(all);
                 }
             };

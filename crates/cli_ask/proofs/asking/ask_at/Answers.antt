@@ -1,4 +1,4 @@
-use Rattle.std.proofs.Common.{◌≡◌, ◌∙◌, ◌==◌, ℕ, Bool, false, List, Some, None, Ok, option_map, ap, refl, subst, sym, rules}
+use Rattle.std.proofs.Common.{◌≡◌, ◌∙◌, ◌==◌, ℕ, Bool, false, List, Some, None, Ok, option_map, ap, refl, subst, sym, rules, tests}
 use Rattle.cli_ask.specs.Calls.{call_value}
 use Rattle.cli_ask.specs.Replies.{reply_value}
 use Rattle.cli_ask.specs.Asking.{AskedOn, answer_value, limit_of, number_after}
@@ -7,15 +7,21 @@ use Rattle.cli_ask.proofs.asking.ask_at.Goals as goal
 
 pub returns-in-Test : goal.returns-in-Test
 returns-in-Test g c =
-    let e : c.new-deadline.result.seconds ≡ limit_of c.args.seconds = c.new-deadline.ensures ∙ c.limit_of.ensures in
+    let e : c.new-deadline.result.seconds ≡ limit_of c.args.seconds = search (rules, tests) in
     subst (λ (n : ℕ). AskedAs (g.C.Control.exchanged c.args.control.now) (g.C.Control.exchanged c.verdicts.new.control) (call_value c.args.call.now) (c.args.seconds == 0) n (answer_value c.verdicts.result)) e
     (at_verdicts (g.C.Control.exchanged c.args.control.now) (g.C.Control.exchanged c.verdicts.new.control)
     (call_value c.args.call.now) (c.args.seconds == 0) c.new-deadline.result.seconds (answer_value c.verdicts.result) c.in-Test.is c.verdicts.ensures)
 
+pub returns-in_err-first : goal.returns-in_err-first
+returns-in_err-first g c =
+    let e : c.new-deadline.result.seconds ≡ limit_of c.args.seconds = search (rules, tests) in
+    subst (λ (n : ℕ). AskedAs (g.C.Control.exchanged c.args.control.now) (g.C.Control.exchanged c.ask_on.new.control) (call_value c.args.call.now) (c.args.seconds == 0) n
+    (answer_value c.from_residual.result)) e (search (rules, tests))
+
 -- no command was accepted
 pub returns-in_default-number_after : goal.returns-in_default-number_after
 returns-in_default-number_after g c =
-    let e : c.new-deadline.result.seconds ≡ limit_of c.args.seconds = c.new-deadline.ensures ∙ c.limit_of.ensures in
+    let e : c.new-deadline.result.seconds ≡ limit_of c.args.seconds = search (rules, tests) in
     let k = c.args.call.now.kind in
     let x = g.C.Control.exchanged c.args.control.now in
     let y = g.C.Control.exchanged c.ask_on.new.control in
@@ -28,7 +34,7 @@ returns-in_default-number_after g c =
 
 pub returns-in_err-outcome_call : goal.returns-in_err-outcome_call
 returns-in_err-outcome_call g c =
-    let e : c.new-deadline.result.seconds ≡ limit_of c.args.seconds = c.new-deadline.ensures ∙ c.limit_of.ensures in
+    let e : c.new-deadline.result.seconds ≡ limit_of c.args.seconds = search (rules, tests) in
     let k = c.args.call.now.kind in
     let x = g.C.Control.exchanged c.args.control.now in
     let y = g.C.Control.exchanged c.ask_on.new.control in
@@ -43,7 +49,7 @@ returns-in_err-outcome_call g c =
 -- it is asked what became of it
 pub returns : goal.returns
 returns g c =
-    let e : c.new-deadline.result.seconds ≡ limit_of c.args.seconds = c.new-deadline.ensures ∙ c.limit_of.ensures in
+    let e : c.new-deadline.result.seconds ≡ limit_of c.args.seconds = search (rules, tests) in
     let k = c.args.call.now.kind in
     let x = g.C.Control.exchanged c.args.control.now in
     let y = g.C.Control.exchanged c.ask_on.new.control in

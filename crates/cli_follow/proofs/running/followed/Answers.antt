@@ -2,15 +2,15 @@ use Rattle.clap.specs.Words.{found_of, rows_of}
 use Rattle.cli_follow.proofs.Endings.{to_places, refused_first, no_memory}
 use Rattle.cli_follow.proofs.running.followed.Goals as goal
 
-pub returns-in-Ok-Ok : goal.returns-in-Ok-Ok
-returns-in-Ok-Ok g c =
+pub returns : goal.returns
+returns g c =
     let wanted = rw c.in-Ok-Ok.field-0-is at c.in-Ok-Ok.ensures in (
       c.turns_in-turns.result,
       (
         c.turns_in-turns.ensures,
-        to_places (g.C.Control.exchanged c.args.control.now) (g.C.Control.exchanged c.follow_to.new.control) (g.F.Folders.done c.args.folders.now) (g.F.Folders.done c.follow_to.new.folders) (g.RT.Sources.has c.args.rt.now)
-            (rows_of (found_of c.args.matches.now)) c.in-Ok-Ok.places c.turns_in-turns.result c.follow_to.result (g.W.Write.contents c.args.writer.now) (g.W.Write.contents c.follow_to.new.writer)
-            wanted c.follow_to.ensures,
+        to_places (g.C.Control.exchanged c.args.control.now) (g.C.Control.exchanged c.follow-ended.new.control) (g.F.Folders.done c.args.folders.now) (g.F.Folders.done c.follow-ended.new.folders) (g.RT.Sources.has c.args.rt.now)
+            (rows_of (found_of c.args.matches.now)) c.in-Ok-Ok.places c.turns_in-turns.result c.status_of.result (g.W.Write.contents c.args.writer.now) (g.W.Write.contents c.follow-ended.new.writer)
+            wanted (c.follow-ended.result, (c.follow-ended.ensures, c.status_of.ensures)),
       ),
     )
 

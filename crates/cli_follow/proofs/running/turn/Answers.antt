@@ -14,7 +14,7 @@ returns-in_err-write_texts-in-Write-clause-stopped g c =
     let w = wanted_of c.args.follower.now in
     let s = AsksEntries (follower_of c.args.asks c.args.follower.now) in
     let a = g.W.Write.contents c.args.writer.now in
-    if_err c.from_residual.result (Stopped x y w s a a) (stopped_before x y w s (due_in w (follower_of (c.args.asks + 1) c.ask.new.follower) c.in-Ok.due) a c.in-Ok.ensures.due)
+    if_err c.from_residual-in_err-write_texts-in-Write.result (Stopped x y w s a a) (stopped_before x y w s (due_in w (follower_of (c.args.asks + 1) c.ask.new.follower) c.in_ok-due.due) a c.in_ok-due.ensures.due)
 
 pub returns-in_err-write_again-in-Rest-clause-stopped : goal.returns-in_err-write_again-in-Rest-clause-stopped
 returns-in_err-write_again-in-Rest-clause-stopped g c =
@@ -23,7 +23,7 @@ returns-in_err-write_again-in-Rest-clause-stopped g c =
     let w = wanted_of c.args.follower.now in
     let s = AsksEntries (follower_of c.args.asks c.args.follower.now) in
     let a = g.W.Write.contents c.args.writer.now in
-    if_err c.from_residual-in_err-write_again-in-Rest.result (Stopped x y w s a a) (stopped_before x y w s (due_in w (follower_of (c.args.asks + 1) c.ask.new.follower) c.in-Ok.due) a c.in-Ok.ensures.due)
+    if_err c.from_residual-in_err-write_again-in-Rest.result (Stopped x y w s a a) (stopped_before x y w s (due_in w (follower_of (c.args.asks + 1) c.ask.new.follower) c.in_ok-due.due) a c.in_ok-due.ensures.due)
 
 pub returns-in_err-write-in-Write-clause-stopped :
     goal.returns-in_err-write-in-Write-clause-stopped
@@ -35,7 +35,7 @@ returns-in_err-write-in-Write-clause-stopped g c =
     let f = follower_of (c.args.asks + 1) c.ask.new.follower in
     let a = g.W.Write.contents c.args.writer.now in
     let b = g.W.Write.contents c.write.new.writer in
-    let leads : Leads x y w s (due_in w f due.Write) = subst (λ d. Leads x y w s (due_in w f d)) c.in-Write.is c.in-Ok.ensures.due in
+    let leads : Leads x y w s (due_in w f due.Write) = subst (λ d. Leads x y w s (due_in w f d)) c.in-Write.is c.in_ok-due.ensures.due in
     let front : AppendsFront a b (written_to w.machine f).out =
     subst (λ (u : Wanted). AppendsFront a b (written_to u.machine f).out) c.ask.ensures.wanted (c.in_err-write-in-Write.ensures.front (c.args.asks + 1)) in
     if_err c.from_residual-in_err-write-in-Write.result (Stopped x y w s a b) (stopped_within x y w s (due_in w f due.Write) a b leads front)
@@ -48,10 +48,10 @@ returns-in_ok-write-in-Write-clause-filed g c =
     let e = follower_of c.args.asks c.args.follower.now in
     let f = follower_of (c.args.asks + 1) c.ask.new.follower in
     let f2 = follower_of (c.args.asks + 1) c.write.new.self in
-    let leads : Leads x y w (AsksEntries e) (due_in w f due.Write) = subst (λ d. Leads x y w (AsksEntries e) (due_in w f d)) c.in-Write.is c.in-Ok.ensures.due in
+    let leads : Leads x y w (AsksEntries e) (due_in w f due.Write) = subst (λ d. Leads x y w (AsksEntries e) (due_in w f d)) c.in-Write.is c.in_ok-due.ensures.due in
     let at : (written_to w.machine f).stage ≡ AsksEntries f2 =
     subst (λ (u : Wanted). (written_to u.machine f).stage ≡ AsksEntries f2) c.ask.ensures.wanted (c.in_ok-write-in-Write.ensures.whole (c.args.asks + 1)).0 in
-    filed_due x y (g.F.Folders.done c.args.folders.now) (g.F.Folders.done c.write_texts.new.folders) w e f (stage_in f2 c.in-Ok.due) c.args.files.now c.write_texts.new.files leads
+    filed_due x y (g.F.Folders.done c.args.folders.now) (g.F.Folders.done c.write_texts.new.folders) w e f (stage_in f2 c.in_ok-due.due) c.args.files.now c.write_texts.new.files leads
     (at ∙ ap (λ d. stage_in f2 d) (sym c.in-Write.is)) c.in_ok-write_texts-in-Write.ensures.written
 
 pub returns-in_ok-write_again-in-Rest-clause-filed : goal.returns-in_ok-write_again-in-Rest-clause-filed
@@ -63,16 +63,18 @@ returns-in_ok-write_again-in-Rest-clause-filed g c =
     let w = wanted_of c.args.follower.now in
     let e = follower_of c.args.asks c.args.follower.now in
     let f = follower_of (c.args.asks + 1) c.ask.new.follower in
-    let leads : Leads x y w (AsksEntries e) (due_in w f due.Rest) = subst (λ d. Leads x y w (AsksEntries e) (due_in w f d)) c.in-Rest.is c.in-Ok.ensures.due in
+    let leads : Leads x y w (AsksEntries e) (due_in w f due.Rest) = subst (λ d. Leads x y w (AsksEntries e) (due_in w f d)) c.in-Rest.is c.in_ok-due.ensures.due in
     subst (λ (t : Stage). TurnFiled x y p q w e t c.args.files.now c.write_again.new.files) (ap (λ d. stage_in f d) (sym c.in-Rest.is))
     (filed_late x y p q w e f (is_again c.args.asks) c.args.files.now c.write_again.new.files leads c.in_ok-write_again-in-Rest.ensures.written)
 
-pub returns-in_default-clause-left : goal.returns-in_default-clause-left
-returns-in_default-clause-left g c =
+pub returns-in_err-due-clause-left : goal.returns-in_err-due-clause-left
+returns-in_err-due-clause-left g c =
     let x = g.C.Control.exchanged c.args.control.now in
     let y = g.C.Control.exchanged c.ask.new.control in
-    left_still x y (g.F.Folders.done c.args.folders.now) (wanted_of c.args.follower.now) (follower_of c.args.asks c.args.follower.now) c.args.files.now
-    c.in_default.ensures.failed
+    let p = g.F.Folders.done c.args.folders.now in
+    let w = wanted_of c.args.follower.now in
+    let e = follower_of c.args.asks c.args.follower.now in
+    if_err c.from_residual.result (TurnLeft x y p p w e c.args.files.now) (left_still x y p w e c.args.files.now c.in_err-due.ensures.failed)
 
 pub returns-in_err-write_texts-in-Write-clause-left : goal.returns-in_err-write_texts-in-Write-clause-left
 returns-in_err-write_texts-in-Write-clause-left g c =
@@ -83,8 +85,8 @@ returns-in_err-write_texts-in-Write-clause-left g c =
     let w = wanted_of c.args.follower.now in
     let e = follower_of c.args.asks c.args.follower.now in
     let f = follower_of (c.args.asks + 1) c.ask.new.follower in
-    let leads : Leads x y w (AsksEntries e) (due_in w f due.Write) = subst (λ d. Leads x y w (AsksEntries e) (due_in w f d)) c.in-Write.is c.in-Ok.ensures.due in
-    if_err c.from_residual.result (TurnLeft x y p q w e c.args.files.now)
+    let leads : Leads x y w (AsksEntries e) (due_in w f due.Write) = subst (λ d. Leads x y w (AsksEntries e) (due_in w f d)) c.in-Write.is c.in_ok-due.ensures.due in
+    if_err c.from_residual-in_err-write_texts-in-Write.result (TurnLeft x y p q w e c.args.files.now)
     (left_due x y p q w e f c.args.files.now leads c.in_err-write_texts-in-Write.ensures.left)
 
 pub returns-in_err-write-in-Write-clause-left : goal.returns-in_err-write-in-Write-clause-left
@@ -96,7 +98,7 @@ returns-in_err-write-in-Write-clause-left g c =
     let w = wanted_of c.args.follower.now in
     let e = follower_of c.args.asks c.args.follower.now in
     let f = follower_of (c.args.asks + 1) c.ask.new.follower in
-    let leads : Leads x y w (AsksEntries e) (due_in w f due.Write) = subst (λ d. Leads x y w (AsksEntries e) (due_in w f d)) c.in-Write.is c.in-Ok.ensures.due in
+    let leads : Leads x y w (AsksEntries e) (due_in w f due.Write) = subst (λ d. Leads x y w (AsksEntries e) (due_in w f d)) c.in-Write.is c.in_ok-due.ensures.due in
     if_err c.from_residual-in_err-write-in-Write.result (TurnLeft x y p q w e c.args.files.now)
     (left_behind x y p q w e f c.args.files.now c.write_texts.new.files leads c.in_ok-write_texts-in-Write.ensures.written)
 
@@ -109,24 +111,24 @@ returns-in_err-write_again-in-Rest-clause-left g c =
     let w = wanted_of c.args.follower.now in
     let e = follower_of c.args.asks c.args.follower.now in
     let f = follower_of (c.args.asks + 1) c.ask.new.follower in
-    let leads : Leads x y w (AsksEntries e) (due_in w f due.Rest) = subst (λ d. Leads x y w (AsksEntries e) (due_in w f d)) c.in-Rest.is c.in-Ok.ensures.due in
+    let leads : Leads x y w (AsksEntries e) (due_in w f due.Rest) = subst (λ d. Leads x y w (AsksEntries e) (due_in w f d)) c.in-Rest.is c.in_ok-due.ensures.due in
     if_err c.from_residual-in_err-write_again-in-Rest.result (TurnLeft x y p q w e c.args.files.now)
     (left_late x y p q w e f (is_again c.args.asks) c.args.files.now leads c.in_err-write_again-in-Rest.ensures.left)
 
-pub returns-in_default-due : goal.returns-in_default-due
-returns-in_default-due g c =
+pub returns-in_default : goal.returns-in_default
+returns-in_default g c =
     let x = g.C.Control.exchanged c.args.control.now in
     let y = g.C.Control.exchanged c.ask.new.control in
     let w = wanted_of c.args.follower.now in
     let e = follower_of c.args.asks c.args.follower.now in
     let f = follower_of (c.args.asks + 1) c.ask.new.follower in
     record {
-      went = went_still x y w e f c.in-Ok.due (g.W.Write.contents c.args.writer.now) c.in_default-due.not-Write c.in-Ok.ensures.status c.in-Ok.ensures.due;
+      went = went_still x y w e f c.in_ok-due.due (g.W.Write.contents c.args.writer.now) c.in_default.not-Write c.in_ok-due.ensures.status c.in_ok-due.ensures.due;
       stopped = tt;
-      filed = filed_still x y (g.F.Folders.done c.args.folders.now) w e f c.in-Ok.due c.args.files.now c.in_default-due.not-Write c.in-Ok.ensures.status c.in-Ok.ensures.due;
+      filed = filed_still x y (g.F.Folders.done c.args.folders.now) w e f c.in_ok-due.due c.args.files.now c.in_default.not-Write c.in_ok-due.ensures.status c.in_ok-due.ensures.due;
       left = tt;
-      again = λ is. absurd (c.in_default-due.not-Rest is);
+      again = λ is. absurd (c.in_default.not-Rest is);
       fault = tt;
-      status = c.in-Ok.ensures.status;
+      status = c.in_ok-due.ensures.status;
       wanted = c.ask.ensures.wanted;
     }

@@ -9,37 +9,37 @@ use Rattle.cli_node.proofs.Endings.{checked_by, of_check, none_of, place_first, 
 use Rattle.cli_node.proofs.check.check_node.Goals as goal
 
 pub returns-clause-place : goal.returns-clause-place
-returns-clause-place g c = λ e. checked_by c.of_place-place.result c.of_key-key.result c.of_key-other.result c.of_store-store.result c.of_starts-starts.result c.of_addresses-addresses.result c.of_control-control.result _ _ _ _ _ _
-    c.first_of-sockets.ensures c.first_of.ensures c.first_of-beside.ensures c.first_of-2.ensures c.first_of-3.ensures c.first_of-4.ensures
-    ∙ place_first c.of_place-place.result (first_of c.of_key-key.result c.of_key-other.result) c.of_store-store.result c.of_starts-starts.result c.of_addresses-addresses.result c.of_control-control.result
+returns-clause-place g c = λ e. checked_by c.of_place-place.result c.of_key-key.result c.of_key.result c.of_store-store.result c.of_starts-starts.result c.of_addresses.result c.of_control.result _ _ _ _ _ _
+    c.first_of-sockets.ensures c.first_of.ensures c.first_of-beside.ensures c.first_of-keys.ensures c.first_of-2.ensures c.first_of-3.ensures
+    ∙ place_first c.of_place-place.result (first_of c.of_key-key.result c.of_key.result) c.of_store-store.result c.of_starts-starts.result c.of_addresses.result c.of_control.result
     (c.of_place-place.ensures.none (none_of _ _ c.membership-m.ensures.none e))
 
 pub returns-clause-store : goal.returns-clause-store
 returns-clause-store g c =
     subst (λ (o : Outcome). IsStoreless c.args.arguments.is_from_file c.args.arguments.is_new o)
-    (sym (checked_by c.of_place-place.result c.of_key-key.result c.of_key-other.result c.of_store-store.result c.of_starts-starts.result c.of_addresses-addresses.result c.of_control-control.result _ _ _ _ _ _
-    c.first_of-sockets.ensures c.first_of.ensures c.first_of-beside.ensures c.first_of-2.ensures c.first_of-3.ensures c.first_of-4.ensures))
-    (of_check c.args.arguments.is_from_file c.args.arguments.is_new c.of_place-place.result c.of_key-key.result c.of_key-other.result c.of_store-store.result c.of_starts-starts.result
-    c.of_addresses-addresses.result c.of_control-control.result c.of_place-place.ensures.some c.of_key-key.ensures.why c.of_key-other.ensures.why c.of_store-store.ensures.store c.of_starts-starts.ensures.why c.of_addresses-addresses.ensures c.of_control-control.ensures.why)
+    (sym (checked_by c.of_place-place.result c.of_key-key.result c.of_key.result c.of_store-store.result c.of_starts-starts.result c.of_addresses.result c.of_control.result _ _ _ _ _ _
+    c.first_of-sockets.ensures c.first_of.ensures c.first_of-beside.ensures c.first_of-keys.ensures c.first_of-2.ensures c.first_of-3.ensures))
+    (of_check c.args.arguments.is_from_file c.args.arguments.is_new c.of_place-place.result c.of_key-key.result c.of_key.result c.of_store-store.result c.of_starts-starts.result
+    c.of_addresses.result c.of_control.result c.of_place-place.ensures.some c.of_key-key.ensures.why c.of_key.ensures.why c.of_store-store.ensures.store c.of_starts-starts.ensures.why c.of_addresses.ensures c.of_control.ensures.why)
 
 pub returns-clause-key : goal.returns-clause-key
 returns-clause-key g c = λ e. c.of_key-key.ensures.sound
-    (keys_sound c.of_place-place.result c.of_key-key.result c.of_key-other.result c.of_store-store.result c.of_starts-starts.result c.of_addresses-addresses.result c.of_control-control.result (sym (checked_by c.of_place-place.result c.of_key-key.result c.of_key-other.result c.of_store-store.result c.of_starts-starts.result c.of_addresses-addresses.result c.of_control-control.result _ _ _ _ _ _
-    c.first_of-sockets.ensures c.first_of.ensures c.first_of-beside.ensures c.first_of-2.ensures c.first_of-3.ensures c.first_of-4.ensures) ∙ e)).0
+    (keys_sound c.of_place-place.result c.of_key-key.result c.of_key.result c.of_store-store.result c.of_starts-starts.result c.of_addresses.result c.of_control.result (sym (checked_by c.of_place-place.result c.of_key-key.result c.of_key.result c.of_store-store.result c.of_starts-starts.result c.of_addresses.result c.of_control.result _ _ _ _ _ _
+    c.first_of-sockets.ensures c.first_of.ensures c.first_of-beside.ensures c.first_of-keys.ensures c.first_of-2.ensures c.first_of-3.ensures) ∙ e)).0
 
 pub returns-clause-other : goal.returns-clause-other
-returns-clause-other g c = λ e. c.of_key-other.ensures.sound
-    (keys_sound c.of_place-place.result c.of_key-key.result c.of_key-other.result c.of_store-store.result c.of_starts-starts.result c.of_addresses-addresses.result c.of_control-control.result (sym (checked_by c.of_place-place.result c.of_key-key.result c.of_key-other.result c.of_store-store.result c.of_starts-starts.result c.of_addresses-addresses.result c.of_control-control.result _ _ _ _ _ _
-    c.first_of-sockets.ensures c.first_of.ensures c.first_of-beside.ensures c.first_of-2.ensures c.first_of-3.ensures c.first_of-4.ensures) ∙ e)).1
+returns-clause-other g c = λ e. c.of_key.ensures.sound
+    (keys_sound c.of_place-place.result c.of_key-key.result c.of_key.result c.of_store-store.result c.of_starts-starts.result c.of_addresses.result c.of_control.result (sym (checked_by c.of_place-place.result c.of_key-key.result c.of_key.result c.of_store-store.result c.of_starts-starts.result c.of_addresses.result c.of_control.result _ _ _ _ _ _
+    c.first_of-sockets.ensures c.first_of.ensures c.first_of-beside.ensures c.first_of-keys.ensures c.first_of-2.ensures c.first_of-3.ensures) ∙ e)).1
 
 -- the store is found at its path, and nothing keeps the member from it
 pub returns-clause-fit : goal.returns-clause-fit
 returns-clause-fit g c = λ e.
-    let all = sym (checked_by c.of_place-place.result c.of_key-key.result c.of_key-other.result c.of_store-store.result c.of_starts-starts.result c.of_addresses-addresses.result c.of_control-control.result _ _ _ _ _ _
-    c.first_of-sockets.ensures c.first_of.ensures c.first_of-beside.ensures c.first_of-2.ensures c.first_of-3.ensures c.first_of-4.ensures) ∙ e in
-    let keys = first_of c.of_key-key.result c.of_key-other.result in
-    let place = place_sound c.of_place-place.result keys c.of_store-store.result c.of_starts-starts.result c.of_addresses-addresses.result c.of_control-control.result all in
-    let store = store_sound c.of_place-place.result keys c.of_store-store.result c.of_starts-starts.result c.of_addresses-addresses.result c.of_control-control.result all in
+    let all = sym (checked_by c.of_place-place.result c.of_key-key.result c.of_key.result c.of_store-store.result c.of_starts-starts.result c.of_addresses.result c.of_control.result _ _ _ _ _ _
+    c.first_of-sockets.ensures c.first_of.ensures c.first_of-beside.ensures c.first_of-keys.ensures c.first_of-2.ensures c.first_of-3.ensures) ∙ e in
+    let keys = first_of c.of_key-key.result c.of_key.result in
+    let place = place_sound c.of_place-place.result keys c.of_store-store.result c.of_starts-starts.result c.of_addresses.result c.of_control.result all in
+    let store = store_sound c.of_place-place.result keys c.of_store-store.result c.of_starts-starts.result c.of_addresses.result c.of_control.result all in
     let m = member_sound c.membership-m.result c.of_place-place.result c.of_place-place.ensures.none place in
     let is = if_some c.membership-m.result _ m.0 m.1 c.membership-m.ensures.some in
     let fit = c.of_store-store.ensures.sound store m.0 m.1 in
@@ -48,7 +48,7 @@ returns-clause-fit g c = λ e.
 pub returns-clause-beyond : goal.returns-clause-beyond
 returns-clause-beyond g c =
     subst (λ (o : Outcome). is_beyond (is_some c.args.arguments.key || is_some c.args.arguments.other_key) (is_some c.args.arguments.control) o ≡ false)
-    (sym (checked_by c.of_place-place.result c.of_key-key.result c.of_key-other.result c.of_store-store.result c.of_starts-starts.result c.of_addresses-addresses.result c.of_control-control.result _ _ _ _ _ _
-    c.first_of-sockets.ensures c.first_of.ensures c.first_of-beside.ensures c.first_of-2.ensures c.first_of-3.ensures c.first_of-4.ensures))
-    (beyond.of_check _ _ _ c.of_place-place.result c.of_key-key.result c.of_key-other.result c.of_store-store.result c.of_starts-starts.result
-    c.of_addresses-addresses.result c.of_control-control.result c.of_place-place.ensures.some c.of_key-key.ensures.beyond c.of_key-other.ensures.beyond c.of_store-store.ensures.beyond c.of_starts-starts.ensures.beyond c.of_addresses-addresses.ensures c.of_control-control.ensures.beyond)
+    (sym (checked_by c.of_place-place.result c.of_key-key.result c.of_key.result c.of_store-store.result c.of_starts-starts.result c.of_addresses.result c.of_control.result _ _ _ _ _ _
+    c.first_of-sockets.ensures c.first_of.ensures c.first_of-beside.ensures c.first_of-keys.ensures c.first_of-2.ensures c.first_of-3.ensures))
+    (beyond.of_check _ _ _ c.of_place-place.result c.of_key-key.result c.of_key.result c.of_store-store.result c.of_starts-starts.result
+    c.of_addresses.result c.of_control.result c.of_place-place.ensures.some c.of_key-key.ensures.beyond c.of_key.ensures.beyond c.of_store-store.ensures.beyond c.of_starts-starts.ensures.beyond c.of_addresses.ensures c.of_control.ensures.beyond)

@@ -1,5 +1,6 @@
 -- the node that the settings describe was checked or run, or nothing was done
-use Rattle.std.proofs.Common.{◌∙◌, inl, inr, refl, sym}
+use Rattle.std.proofs.Common.{◌∙◌, ap, inl, inr, refl, sym}
+use Rattle.cli_node.specs.declared.outcome.Outcome.TheVariants.{Refused}
 use Rattle.cli_node.specs.Doing.{Adds}
 use Rattle.cli_node.proofs.Settled.{is_checked, is_halved, is_run, none_added}
 use Rattle.cli_node.proofs.settings.outcome_for.Goals as goal
@@ -16,13 +17,13 @@ returns-then-not-is_whole g c =
       w,
       (
         c.in-Some.ensures.some,
-        is_halved (Adds did did) _ _ _ w c.halved.result
-            (sym c.is_whole.ensures ∙ c.if-not-is_whole.true) (none_added did) c.halved.ensures,
+        is_halved (Adds did did) _ _ _ w _
+            (sym c.is_whole.ensures ∙ c.if-not-is_whole.true) (none_added did) (ap Refused c.settings_code-code.ensures),
       ),
     )
 
-pub returns-then-has_flag : goal.returns-then-has_flag
-returns-then-has_flag g c =
+pub returns-in-true : goal.returns-in-true
+returns-in-true g c =
     let w = c.in-Some.arguments in
     inr (
       w,
@@ -30,12 +31,12 @@ returns-then-has_flag g c =
         c.in-Some.ensures.some,
         is_checked (Adds (g.N.Nodes.did c.args.nodes.now) (g.N.Nodes.did c.check.new.self))
             _ _ _ w c.check.result (sym c.is_whole.ensures ∙ c.if-not-is_whole.false)
-            (sym c.has_flag.ensures ∙ c.if-has_flag.true) c.check.ensures,
+            (sym c.has_flag.ensures ∙ c.in-true.is) c.check.ensures,
       ),
     )
 
-pub returns-else-has_flag : goal.returns-else-has_flag
-returns-else-has_flag g c =
+pub returns-in-false : goal.returns-in-false
+returns-in-false g c =
     let w = c.in-Some.arguments in
     inr (
       w,
@@ -43,6 +44,6 @@ returns-else-has_flag g c =
         c.in-Some.ensures.some,
         is_run (Adds (g.N.Nodes.did c.args.nodes.now) (g.N.Nodes.did c.run.new.self))
             _ _ _ w c.run.result (sym c.is_whole.ensures ∙ c.if-not-is_whole.false)
-            (sym c.has_flag.ensures ∙ c.if-has_flag.false) c.run.ensures,
+            (sym c.has_flag.ensures ∙ c.in-false.is) c.run.ensures,
       ),
     )

@@ -1,7 +1,8 @@
-use Rattle.std.proofs.Common.{ℕ, None, codes, subst, sym}
+use Rattle.std.proofs.Common.{None, codes, subst, sym}
 use Rattle.cli_ask.specs.Scripts.{change_value, items_in, items_left}
 use Rattle.cli_ask.specs.Scripting.{Ended, end_text}
 use Rattle.cli_ask.proofs.Scripts.{all_begin, all_done, all_bad, all_out, all_ended, all_made, all_skip, is_before, isnt_before, AllSo}
+use Rattle.cli_ask.specs.declared.checking.Refused.{Refused}
 use Rattle.cli_io.proofs.Given.{ran_out}
 use Rattle.cli_ask.proofs.scripting.ScriptRequest.ask.Goals as goal
 use Rattle.cli_ask.proofs.scripting.ScriptRequest.ask.Goals.{then-change-self+in_default, else-change-self}
@@ -16,15 +17,15 @@ returns-in-Ok-None g c =
     (items_left c.loop-change.left None) (g.W.Write.contents c.args.writer.now) (g.W.Write.contents c.loop-change.writer) c.loop-change.invariant
     (rw c.in-Ok-None.field-0-is at c.in-Ok-None.ensures.found)
 
-pub returns-in-Err-Line : goal.returns-in-Err-Line
-returns-in-Err-Line g c =
-    all_bad (g.C.Control.exchanged c.args.control.now) (g.C.Control.exchanged c.loop-change.control) c.args.self.now.from c.args.self.now.seconds c.in-Err-Line.line (items_in c.args.self.now.script.now)
+pub returns-in-Err-Refused : goal.returns-in-Err-Refused
+returns-in-Err-Refused g c =
+    all_bad (g.C.Control.exchanged c.args.control.now) (g.C.Control.exchanged c.loop-change.control) c.args.self.now.from c.args.self.now.seconds c.in-Err-Refused.bad.line (items_in c.args.self.now.script.now)
     (items_left c.loop-change.left None) c.write_end.result (g.W.Write.contents c.args.writer.now) (g.W.Write.contents c.loop-change.writer) (g.W.Write.contents c.write_end.new.writer) c.loop-change.invariant
-    (rw c.in-Err-Line.field-0-is at c.in-Err-Line.ensures.bad)
-    (subst (λ (n : ℕ). Ended (end_text (codes "refused 40\n") n) c.write_end.result (g.W.Write.contents c.loop-change.writer) (g.W.Write.contents c.write_end.new.writer)) c.in-Err-Line.line-is c.write_end.ensures)
+    (rw c.in-Err-Refused.field-0-is at c.in-Err-Refused.ensures.bad).1
+    (subst (λ (r : Refused). Ended (end_text (codes "refused 40\n") r.line) c.write_end.result (g.W.Write.contents c.loop-change.writer) (g.W.Write.contents c.write_end.new.writer)) c.in-Err-Refused.bad-is c.write_end.ensures)
 
-pub returns-in-Err-Memory : goal.returns-in-Err-Memory
-returns-in-Err-Memory g c =
+pub returns-in-Err : goal.returns-in-Err
+returns-in-Err g c =
     all_out (g.C.Control.exchanged c.args.control.now) (g.C.Control.exchanged c.loop-change.control) c.args.self.now.from c.args.self.now.seconds (items_in c.args.self.now.script.now)
     (items_left c.loop-change.left None) c.out_of_memory.result (g.W.Write.contents c.args.writer.now) (g.W.Write.contents c.loop-change.writer) (g.W.Write.contents c.out_of_memory.new.writer) c.loop-change.invariant
     (ran_out c.out_of_memory.result _ _ c.out_of_memory.ensures.ends c.out_of_memory.ensures.failed)

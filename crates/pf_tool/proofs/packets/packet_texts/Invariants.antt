@@ -1,6 +1,6 @@
 use Rattle.std.proofs.Common.{◌≡◌, ◌++◌, map, length}
 use Rattle.pf_scripts.specs.Lines.{lines}
-use Rattle.pf_tool.proofs.packets.contents.Given as goal
+use Rattle.pf_tool.proofs.packets.packet_texts.Given as goal
 
 -- the lines so far, and those that are left
 abbrev pub invariant-loop-line : goal.invariant-loop-line

@@ -1,6 +1,6 @@
 use Rattle.std.proofs.Common.{◌≡◌, None, length}
 use Rattle.cli_ask.specs.Scripts.{items_left, items_in, script_refusal}
-use Rattle.cli_ask.proofs.script.refused_script.Given as goal
+use Rattle.cli_ask.proofs.script.check_script.Given as goal
 
 -- the changes so far aren't refused
 abbrev pub invariant-loop-change : goal.invariant-loop-change

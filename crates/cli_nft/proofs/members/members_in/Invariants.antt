@@ -1,7 +1,7 @@
 use Rattle.std.proofs.Common.{◌≡◌, ◌++◌, List, map, drop, option_map}
 use Rattle.nft_rules.specs.declared.guard.Member.{Member}
 use Rattle.cli_nft.specs.Options.{members_at}
-use Rattle.cli_nft.proofs.members.members_at.Given as goal
+use Rattle.cli_nft.proofs.members.members_in.Given as goal
 
 abbrev pub invariant-loop-text : goal.invariant-loop-text
 invariant-loop-text l =

@@ -1,2 +1,0 @@
--- What only code and proofs use: no contract of a public function needs it.
-pub mod Settings
