@@ -18,6 +18,7 @@ ghost use Rattle.pf_config.specs.inner.TableChanges.{Makes, TreeChangesIf, KidCh
 ghost use Rattle.pf_config.specs.inner.Referring.{Gains, KnowsAll, any_may_shed};
 ghost use Rattle.pf_config.specs.declared.config.TheConstants.{RULES_MAX};
 
+use crate::Made;
 use crate::below::{
     any_unnamed, count_before, is_at, kid_named, last_name, owned_or_empty, push_some, put_kid,
     shared_kids, take_named,
@@ -31,7 +32,7 @@ use crate::tables::{Tables, named};
 use crate::unused::{any_unused, items_refer, used_tables};
 use pf_rules::{Item, Name, TableName};
 use pf_tables::Table;
-use std::alloc::{AllocError, Global};
+use std::alloc::Global;
 use std::cmp::Ordering;
 use std::marker::Model;
 use std::rc::Rc;
@@ -190,7 +191,7 @@ impl Anchor {
     }
 
     /// Puts the paths of its entries behind those that are there.
-    pub(crate) fn push_paths<'c>(&'c self, paths: &mut Vec<&'c [Name]>) -> Result<(), AllocError>
+    pub(crate) fn push_paths<'c>(&'c self, paths: &mut Vec<&'c [Name]>) -> Made<()>
         ensures { OnOk result (map (λ p. p.now) paths.new.items
             ≡ map (λ p. p.now) paths.old.items ++ paths_in self.now.anchors) }
     {
@@ -232,7 +233,7 @@ impl Anchor {
 
     /// The same without the paths that begin with this one and an unnamed name. An anchor below in which nothing
     /// changes is shared.
-    pub(crate) fn without_unnamed(&self, alloc: Global, path: &[Name]) -> Result<Anchor, AllocError>
+    pub(crate) fn without_unnamed(&self, alloc: Global, path: &[Name]) -> Made<Anchor>
         ensures { IfOk result (λ a. a ≡ record {
           names = self.now.names;
           anchors = without_unnamed path.now self.now.anchors;
@@ -272,7 +273,7 @@ impl Anchor {
     }
 
     /// Puts the names of the tables that rules here or below refer to. After an error nothing is known of the names.
-    pub(crate) fn put_referred(&self, alloc: Global, names: &mut Referred) -> Result<(), AllocError>
+    pub(crate) fn put_referred(&self, alloc: Global, names: &mut Referred) -> Made<()>
         ensures { OnOk result (Gains names.old (λ n. list_any (refer n) self.now.anchors) names.new) }
     {
         names.put_items(alloc, &self.own.items)?;
@@ -322,7 +323,7 @@ impl Anchor {
         alloc: Global,
         main: &Anchor,
         known: &Option<Referred>,
-    ) -> Result<Anchor, AllocError>
+    ) -> Made<Anchor>
         requires { KnowsAll known.now main.now.anchors }
         ensures { IfOk result (λ a. a ≡ record {
           names = self.now.names;
@@ -345,7 +346,7 @@ impl Anchor {
     }
 
     /// An anchor with nothing in it.
-    pub(crate) fn empty(alloc: Global, names: Vec<Name>) -> Result<Anchor, AllocError>
+    pub(crate) fn empty(alloc: Global, names: Vec<Name>) -> Made<Anchor>
         ensures { IfOk result (λ a. a ≡ record { names = names.items; anchors = [] }) }
     {
         let own = Own::without_rules(Tables::new(alloc)?)?;
@@ -367,7 +368,7 @@ impl Anchor {
     }
 
     /// The same once more. The anchors below are shared.
-    pub(crate) fn copied(&self, alloc: Global) -> Result<Anchor, AllocError>
+    pub(crate) fn copied(&self, alloc: Global) -> Made<Anchor>
         ensures { IfOk result (λ a. a ≡ self.now) }
     {
         let names = copied_path(alloc, &self.names)?;
@@ -379,7 +380,7 @@ impl Anchor {
 
 /// The anchor with these rules and tables at a path below it. It is taken apart: what nobody else shares is changed in
 /// its place, and what is shared stays as it is.
-pub(crate) fn with_entry(anchor: Anchor, rest: &[Name], own: Own) -> Result<Anchor, AllocError>
+pub(crate) fn with_entry(anchor: Anchor, rest: &[Name], own: Own) -> Made<Anchor>
     ensures { IfOk result (λ a. a ≡ placed_in anchor rest.now (map rule_of own.items.value.items) own.tables) }
 {
     let Anchor {
@@ -412,7 +413,7 @@ pub(crate) fn change_below(
     anchor: &mut Anchor,
     rest: &[Name],
     change: &Change,
-) -> Result<bool, AllocError>
+) -> Made<bool>
     ensures { MatchResult result (λ done. TreeChangesIf done (Makes change.now) rest.now anchor.old anchor.new)
         (λ e. anchor.new ≡ anchor.old) }
 {
@@ -438,7 +439,7 @@ fn change_kid(
     first: &Name,
     more: &[Name],
     change: &Change,
-) -> Result<bool, AllocError>
+) -> Made<bool>
     requires kids { AreKids names.now (shared kids.old.items) }
     requires order { AreInOrder (shared kids.old.items) }
     ensures { MatchResult result (λ done. KidChangesIf done (Makes change.now) names.now first.now more.now
@@ -465,7 +466,7 @@ fn add_kid(
     first: &Name,
     more: &[Name],
     change: &Change,
-) -> Result<bool, AllocError>
+) -> Made<bool>
     requires kids { AreKids names.now (shared kids.old.items) }
     requires place { at ≡ length (kids_before first.now (shared kids.old.items)) }
     requires none { is_some (find (is_named first.now) (shared kids.old.items)) ≡ false }

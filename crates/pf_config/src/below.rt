@@ -9,10 +9,11 @@ ghost use Rattle.pf_config.specs.Trees.{shared, last_name};
 ghost use Rattle.pf_config.specs.inner.Trees.{is_named, kids_before, kids_behind, some_kid, anchors_of, passes};
 ghost use Rattle.pf_config.specs.inner.KidOrder.{AreInOrder};
 
+use crate::Made;
 use crate::anchor::Anchor;
 use crate::paths::followed_by;
 use pf_rules::Name;
-use std::alloc::{AllocError, Global};
+use std::alloc::Global;
 use std::cmp::Ordering;
 use std::rc::Rc;
 
@@ -39,7 +40,7 @@ pub(crate) fn last_name(names: &[Name]) -> &[u8]
 }
 
 /// The anchors once more, shared.
-pub(crate) fn shared_kids(alloc: Global, kids: &[Rc<Anchor>]) -> Result<Vec<Rc<Anchor>>, AllocError>
+pub(crate) fn shared_kids(alloc: Global, kids: &[Rc<Anchor>]) -> Made<Vec<Rc<Anchor>>>
     ensures { IfOk result (λ v. shared v.items ≡ shared kids.now) }
 {
     let mut next = Vec::new(alloc);
@@ -50,7 +51,7 @@ pub(crate) fn shared_kids(alloc: Global, kids: &[Rc<Anchor>]) -> Result<Vec<Rc<A
 }
 
 /// Appends the anchor, unless it holds nothing.
-pub(crate) fn push_some(next: &mut Vec<Rc<Anchor>>, kid: Rc<Anchor>) -> Result<(), AllocError>
+pub(crate) fn push_some(next: &mut Vec<Rc<Anchor>>, kid: Rc<Anchor>) -> Made<()>
     ensures { OnOk result (shared next.new.items ≡ shared next.old.items ++ some_kid kid.value) }
 {
     if !kid.is_nothing() {
@@ -94,11 +95,7 @@ pub(crate) fn take_named(kids: &mut Vec<Rc<Anchor>>, at: usize, name: &Name) -> 
 }
 
 /// Puts the anchor in its place among the others, unless it holds nothing.
-pub(crate) fn put_kid(
-    kids: &mut Vec<Rc<Anchor>>,
-    at: usize,
-    kid: Rc<Anchor>,
-) -> Result<(), AllocError>
+pub(crate) fn put_kid(kids: &mut Vec<Rc<Anchor>>, at: usize, kid: Rc<Anchor>) -> Made<()>
     requires { at ≤ length kids.old.items }
     ensures { OnOk result (shared kids.new.items ≡ take at (shared kids.old.items) ++
         (some_kid kid.value ++ drop at (shared kids.old.items))) }
@@ -110,7 +107,7 @@ pub(crate) fn put_kid(
 }
 
 /// The anchor itself where nobody shares it, else a copy.
-fn owned(alloc: Global, anchor: Rc<Anchor>) -> Result<Anchor, AllocError>
+fn owned(alloc: Global, anchor: Rc<Anchor>) -> Made<Anchor>
     ensures { IfOk result (λ a. a ≡ anchor.value) }
 {
     match Rc::try_unwrap(anchor) {
@@ -125,7 +122,7 @@ pub(crate) fn owned_or_empty(
     names: &[Name],
     name: &Name,
     kid: Option<Rc<Anchor>>,
-) -> Result<Anchor, AllocError>
+) -> Made<Anchor>
     requires { IfSome kid (λ k. k.value.names ≡ names.now ++ name.now ∷ []) }
     ensures { IfOk result (λ a. a ≡ record {
       names = names.now ++ name.now ∷ [];

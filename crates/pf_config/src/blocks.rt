@@ -7,18 +7,15 @@ ghost use Rattle.pf_rules.specs.inner.Items.{is_overfull};
 ghost use Rattle.pf_rules.specs.Seen.{item_of, items_of};
 ghost use Rattle.pf_config.specs.Changes.{blocks_of, blocks_in};
 
+use crate::Made;
 use crate::paths::joined;
 use crate::placing::Placing;
 use pf_rules::{Item, Name};
-use std::alloc::{AllocError, Global};
+use std::alloc::Global;
 use std::rc::Rc;
 
 /// The blocks of rules at a path: each is before those in it, and these before the blocks that follow.
-pub(crate) fn blocks_in(
-    alloc: Global,
-    path: &[Name],
-    items: &[Item],
-) -> Result<Vec<Placing>, AllocError>
+pub(crate) fn blocks_in(alloc: Global, path: &[Name], items: &[Item]) -> Made<Vec<Placing>>
     requires { list_any is_overfull (items_of items.now) ≡ false }
     ensures { IfOk result (λ v. v.items ≡ blocks_in path.now (values_of (items_of items.now))) }
 {
@@ -29,12 +26,7 @@ pub(crate) fn blocks_in(
 
 /// Puts the blocks of these rules behind those that were found.
 #[cycle(blocks)]
-fn put_blocks(
-    alloc: Global,
-    path: &[Name],
-    items: &[Item],
-    found: &mut Vec<Placing>,
-) -> Result<(), AllocError>
+fn put_blocks(alloc: Global, path: &[Name], items: &[Item], found: &mut Vec<Placing>) -> Made<()>
     requires { list_any is_overfull (items_of items.now) ≡ false }
     ensures { OnOk result (found.new.items ≡
         found.old.items ++ blocks_in path.now (values_of (items_of items.now))) }
@@ -47,12 +39,7 @@ fn put_blocks(
 
 /// Puts the block of a rule, if it carries one, and those in it, behind those that were found.
 #[cycle(blocks)]
-fn put_blocks_of(
-    alloc: Global,
-    path: &[Name],
-    item: &Item,
-    found: &mut Vec<Placing>,
-) -> Result<(), AllocError>
+fn put_blocks_of(alloc: Global, path: &[Name], item: &Item, found: &mut Vec<Placing>) -> Made<()>
     requires { is_overfull (item_of item.now) ≡ false }
     ensures { OnOk result (found.new.items ≡ found.old.items ++ blocks_of path.now (item_of item.now)) }
 {

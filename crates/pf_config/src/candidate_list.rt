@@ -3,9 +3,10 @@
 ghost use Rattle.std.specs.Prelude.{◌≡◌, IfOk, map};
 ghost use Rattle.pf_config.specs.Searches.{source_of, destination_of, port_of, AreCompiled};
 
+use crate::Made;
 use crate::candidate::Candidate;
 use pf_tables::{Classes, Interval, PLACES_MAX, Row};
-use std::alloc::{AllocError, Global};
+use std::alloc::Global;
 use std::marker::Model;
 
 /// From how many candidates on their intervals are compiled: a walk over fewer costs less than the look-up.
@@ -42,28 +43,28 @@ pub struct Search<'c> {
 }
 
 /// Where the candidates' sources are.
-fn sources(alloc: Global, list: &[Candidate]) -> Result<Vec<Interval>, AllocError>
+fn sources(alloc: Global, list: &[Candidate]) -> Made<Vec<Interval>>
     ensures { IfOk result (λ v. v.items ≡ map source_of list.now) }
 {
     list.iter().map(|c| c.sieve.source).collect(alloc)
 }
 
 /// Where the candidates' destinations are.
-fn destinations(alloc: Global, list: &[Candidate]) -> Result<Vec<Interval>, AllocError>
+fn destinations(alloc: Global, list: &[Candidate]) -> Made<Vec<Interval>>
     ensures { IfOk result (λ v. v.items ≡ map destination_of list.now) }
 {
     list.iter().map(|c| c.sieve.destination).collect(alloc)
 }
 
 /// Where the candidates' destination ports are.
-fn ports(alloc: Global, list: &[Candidate]) -> Result<Vec<Interval>, AllocError>
+fn ports(alloc: Global, list: &[Candidate]) -> Made<Vec<Interval>>
     ensures { IfOk result (λ v. v.items ≡ map port_of list.now) }
 {
     list.iter().map(|c| c.sieve.destination_port).collect(alloc)
 }
 
 /// The candidates' intervals, compiled where that pays.
-fn compiled(alloc: Global, list: &[Candidate]) -> Result<Option<Classes>, AllocError>
+fn compiled(alloc: Global, list: &[Candidate]) -> Made<Option<Classes>>
     ensures { IfOk result (λ c. AreCompiled list.now c) }
 {
     if list.len() < COMPILED_FROM || list.len() > PLACES_MAX {
@@ -81,7 +82,7 @@ impl CandidateList {
     ghost use Rattle.pf_config.specs.Searching.{IsSearchOf};
 
     /// These candidates.
-    pub(crate) fn of(alloc: Global, list: Vec<Candidate>) -> Result<CandidateList, AllocError>
+    pub(crate) fn of(alloc: Global, list: Vec<Candidate>) -> Made<CandidateList>
         ensures { IfOk result (λ c. c ≡ list.items) }
     {
         let classes = compiled(alloc, &list)?;

@@ -4,12 +4,13 @@ ghost use Rattle.std.specs.Prelude.{◌≡◌, IfOk, MatchResult, map, option_ma
 ghost use Rattle.pf_rules.specs.Seen.{rule_of};
 ghost use Rattle.pf_config.specs.inner.TableChanges.{AreNew, IsGiven, Makes, OwnChangesIf, makes_fleeting};
 
+use crate::Made;
 use crate::own::Own;
 use crate::referred::any_fleeting;
 use crate::tables::with_table;
 use pf_rules::{TableEntry, TableName};
 use pf_tables::{Edit, Table};
-use std::alloc::{AllocError, Global};
+use std::alloc::Global;
 
 /// A change of the rules and tables at one path.
 #[derive(Clone, Copy)]
@@ -23,7 +24,7 @@ pub(crate) enum Change<'c> {
 }
 
 /// Puts rules and tables in the place of others. False, and nothing is changed, where there are none.
-fn place(own: &mut Own, given: &Own) -> Result<bool, AllocError>
+fn place(own: &mut Own, given: &Own) -> Made<bool>
     ensures { MatchResult result (λ done. OwnChangesIf done (IsGiven (map rule_of given.now.items.value.items)
         given.now.tables) (map rule_of own.old.items.value.items) own.old.tables
         (map rule_of own.new.items.value.items) own.new.tables)
@@ -38,7 +39,7 @@ fn place(own: &mut Own, given: &Own) -> Result<bool, AllocError>
 }
 
 /// Changes rules and tables. False, and nothing is changed, where that can't be done.
-pub(crate) fn change_own(own: &mut Own, change: &Change) -> Result<bool, AllocError>
+pub(crate) fn change_own(own: &mut Own, change: &Change) -> Made<bool>
     ensures { MatchResult result (λ done. OwnChangesIf done (Makes change.now)
         (map rule_of own.old.items.value.items) own.old.tables (map rule_of own.new.items.value.items) own.new.tables)
         (λ e. (map rule_of own.new.items.value.items ≡ map rule_of own.old.items.value.items)
@@ -53,7 +54,7 @@ pub(crate) fn change_own(own: &mut Own, change: &Change) -> Result<bool, AllocEr
 
 impl Change<'_> {
     /// The rules and tables that it makes where there are none. None where it makes none.
-    pub(crate) fn made_of_none(&self, alloc: Global) -> Result<Option<Own>, AllocError>
+    pub(crate) fn made_of_none(&self, alloc: Global) -> Made<Option<Own>>
         ensures { IfOk result (λ o. AreNew (Makes self.now)
             (option_map (λ m. (map rule_of m.items.value.items, m.tables)) o)) }
     {

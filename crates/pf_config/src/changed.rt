@@ -8,18 +8,19 @@ ghost use Rattle.pf_config.specs.Changes.{with_tables, with_rules, placed, tidie
 ghost use Rattle.pf_config.specs.inner.Trees.{any_unnamed};
 ghost use Rattle.pf_config.specs.declared.config.TheConstants.{RULES_MAX};
 
+use crate::Made;
 use crate::anchor::{Anchor, with_entry};
 use crate::own::Own;
 use crate::referred::gathered;
 use crate::tables::Tables;
 use crate::walk::descend;
 use pf_rules::{Item, Name};
-use std::alloc::{AllocError, Global};
+use std::alloc::Global;
 use std::rc::Rc;
 
 /// The tables at a path, which share their entries.
 #[tactic(auto, using(crate::proofs::Descents::main_down, crate::proofs::Descents::found_tables, crate::proofs::Descents::no_tables_found))]
-pub(crate) fn tables_at(alloc: Global, main: &Anchor, path: &[Name]) -> Result<Tables, AllocError>
+pub(crate) fn tables_at(alloc: Global, main: &Anchor, path: &[Name]) -> Made<Tables>
     requires { main.now.names ≡ [] }
     ensures { IfOk result (λ t. t ≡ tables_in (anchor_at path.now main.now.anchors)) }
 {
@@ -42,7 +43,7 @@ pub(crate) fn has_unnamed(main: &Anchor, path: &[Name]) -> bool
 
 /// The rules at a path, shared, and these tables.
 #[tactic(auto, using(crate::proofs::Descents::main_down, crate::proofs::Descents::found_rules, crate::proofs::Descents::no_rules_found))]
-fn own_with(main: &Anchor, path: &[Name], tables: Tables) -> Result<Own, AllocError>
+fn own_with(main: &Anchor, path: &[Name], tables: Tables) -> Made<Own>
     requires { main.now.names ≡ [] }
     ensures rules { IfOk result (λ o. map rule_of o.items.value.items ≡
         rules_in (anchor_at path.now main.now.anchors)) }
@@ -60,7 +61,7 @@ pub(crate) fn with_tables(
     main: &Anchor,
     path: &[Name],
     tables: Tables,
-) -> Result<Anchor, AllocError>
+) -> Made<Anchor>
     requires { main.now.names ≡ [] }
     ensures names { IfOk result (λ a. a.names ≡ []) }
     ensures map { IfOk result (λ a. a.anchors ≡ with_tables path.now tables main.now.anchors) }
@@ -72,12 +73,7 @@ pub(crate) fn with_tables(
 }
 
 /// The map with these rules at a path.
-fn with_rules(
-    alloc: Global,
-    main: Anchor,
-    path: &[Name],
-    items: Rc<Vec<Item>>,
-) -> Result<Anchor, AllocError>
+fn with_rules(alloc: Global, main: Anchor, path: &[Name], items: Rc<Vec<Item>>) -> Made<Anchor>
     requires names { main.names ≡ [] }
     requires few { length items.value.items ≤ RULES_MAX }
     ensures names { IfOk result (λ a. a.names ≡ []) }
@@ -90,7 +86,7 @@ fn with_rules(
 
 /// The map with no unnamed blocks below a path.
 #[tactic(auto, using(crate::proofs::Cut::none_unnamed))]
-pub(crate) fn cut(alloc: Global, main: Anchor, path: &[Name]) -> Result<Anchor, AllocError>
+pub(crate) fn cut(alloc: Global, main: Anchor, path: &[Name]) -> Made<Anchor>
     requires { main.names ≡ [] }
     ensures names { IfOk result (λ a. a.names ≡ []) }
     ensures map { IfOk result (λ a. a.anchors ≡ without_unnamed path.now main.anchors) }
@@ -107,7 +103,7 @@ pub(crate) fn placed(
     main: Anchor,
     path: &[Name],
     items: Rc<Vec<Item>>,
-) -> Result<Anchor, AllocError>
+) -> Made<Anchor>
     requires names { main.names ≡ [] }
     requires few { length items.value.items ≤ RULES_MAX }
     ensures names { IfOk result (λ a. a.names ≡ []) }
@@ -121,7 +117,7 @@ pub(crate) fn placed(
 
 /// The map without the tables that no rule refers to.
 #[tactic(auto, using(crate::proofs::Cut::none_sheds), unfolding(crate::specs::Changes::tidied))]
-pub(crate) fn tidied(alloc: Global, all: Anchor) -> Result<Anchor, AllocError>
+pub(crate) fn tidied(alloc: Global, all: Anchor) -> Made<Anchor>
     ensures names { IfOk result (λ a. a.names ≡ all.names) }
     ensures map { IfOk result (λ a. a.anchors ≡ tidied all.anchors) }
 {

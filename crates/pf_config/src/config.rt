@@ -20,6 +20,7 @@ ghost use Rattle.pf_config.specs.SkippedNames.{is_listed};
 ghost use Rattle.pf_config.specs.Trees.{anchor_in};
 ghost use Rattle.pf_config.specs.declared.config.TheConstants.{RULES_MAX, ANCHORS_MAX};
 
+use crate::Made;
 use crate::anchor::{Anchor, change_below};
 use crate::blocks::blocks_in;
 use crate::change::Change;
@@ -251,7 +252,7 @@ impl Config {
         own: &Placing,
         definitions: &[TableDef],
         blocks: &[Placing],
-    ) -> Result<bool, AllocError>
+    ) -> Made<bool>
         ensures { MatchResult result (λ done. LoadsIf done own.now (map definition_of definitions.now) blocks.now
             self.old self.new) (λ e. self.new ≡ self.old) }
     {
@@ -275,7 +276,7 @@ impl Config {
 
     /// The map without the rules of a path, its unnamed blocks, and the tables that no rule refers to any more.
     #[tactic(auto, using(crate::proofs::Few::rules_few))]
-    fn without_rules(&self, path: &Path) -> Result<Anchor, AllocError>
+    fn without_rules(&self, path: &Path) -> Made<Anchor>
         ensures names { IfOk result (λ a. a.names ≡ []) }
         ensures few { IfOk result (λ a. length a.anchors ≤ ANCHORS_MAX) }
         ensures map { IfOk result (λ a. a.anchors ≡ tidied (placed self.now.anchors (record {
@@ -403,7 +404,7 @@ impl Config {
     }
 
     /// Makes a change at a path in place. False, and nothing is changed, where that can't be done.
-    fn change(&mut self, path: &[Name], change: &Change) -> Result<bool, AllocError>
+    fn change(&mut self, path: &[Name], change: &Change) -> Made<bool>
         ensures { MatchResult result (λ done. MapChangesIf done (Makes change.now) path.now self.old self.new)
             (λ e. self.new ≡ self.old) }
     {
@@ -423,7 +424,7 @@ impl Config {
         name: &TableName,
         list: &[TableEntry],
         edit: Edit,
-    ) -> Result<bool, AllocError>
+    ) -> Made<bool>
         ensures { MatchResult result (λ done. GivesIf done (commanded edit self.old path.now name.now list.now) self.old
             self.new) (λ e. self.new ≡ self.old) }
     {

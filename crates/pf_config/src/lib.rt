@@ -112,3 +112,7 @@ pub use paths::{copied_path, joined};
 pub use pf_rules::{Name, Path, TableEntry, TableName};
 pub use pf_tables::{Interval, Table, is_within};
 pub use sieve::front_bits;
+use std::alloc::AllocError;
+
+/// What is made, unless a growth is refused.
+pub(crate) type Made<T> = Result<T, AllocError>;

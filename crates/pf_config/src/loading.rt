@@ -8,6 +8,7 @@ ghost use Rattle.pf_config.specs.inner.Texts.{definition_of, of_name};
 ghost use Rattle.pf_rules.specs.Names.{Name};
 ghost use Rattle.pf_config.specs.inner.Trees.{with_text};
 
+use crate::Made;
 use crate::anchor::{Anchor, with_entry};
 use crate::changed::{cut, placed, tables_at, tidied};
 use crate::depths::DEEPEST;
@@ -17,7 +18,7 @@ use crate::table_change::put_among;
 use crate::tables::{Tables, copied_tables, named};
 use pf_rules::{TableDef, TableName};
 use pf_tables::Table;
-use std::alloc::{AllocError, Global};
+use std::alloc::Global;
 
 /// Whether one of the blocks is too deep.
 pub(crate) fn any_too_deep(blocks: &[Placing]) -> bool
@@ -34,7 +35,7 @@ pub(crate) fn is_too_deep(block: &Placing) -> bool
 }
 
 /// The map with each block in its place.
-fn with_blocks(alloc: Global, main: Anchor, blocks: &[Placing]) -> Result<Anchor, AllocError>
+fn with_blocks(alloc: Global, main: Anchor, blocks: &[Placing]) -> Made<Anchor>
     requires { main.names ≡ [] }
     ensures names { IfOk result (λ a. a.names ≡ []) }
     ensures map { IfOk result (λ a. a.anchors ≡ fold placed main.anchors blocks.now) }
@@ -47,11 +48,7 @@ fn with_blocks(alloc: Global, main: Anchor, blocks: &[Placing]) -> Result<Anchor
 }
 
 /// The table as it is defined, of which there may be one already.
-fn defined_table(
-    alloc: Global,
-    definition: &TableDef,
-    tables: &[(TableName, Table)],
-) -> Result<Table, AllocError>
+fn defined_table(alloc: Global, definition: &TableDef, tables: &[(TableName, Table)]) -> Made<Table>
     requires { AreOrdered tables.now }
     ensures { IfOk result (λ t. t ≡ defined_table tables.now (definition_of definition.now)) }
 {
@@ -65,7 +62,7 @@ fn defined_table(
 }
 
 /// The definitions, lent one by one.
-fn lent(alloc: Global, definitions: &[TableDef]) -> Result<Vec<&TableDef>, AllocError>
+fn lent(alloc: Global, definitions: &[TableDef]) -> Made<Vec<&TableDef>>
     ensures { IfOk result (λ v. map (λ d. d.now) v.items ≡ definitions.now) }
 {
     let mut list = Vec::with_capacity(alloc, definitions.len())?;
@@ -76,7 +73,7 @@ fn lent(alloc: Global, definitions: &[TableDef]) -> Result<Vec<&TableDef>, Alloc
 }
 
 /// The definitions in the order of their names, those of one name as they stand.
-fn rising(alloc: Global, definitions: &[TableDef]) -> Result<Vec<&TableDef>, AllocError>
+fn rising(alloc: Global, definitions: &[TableDef]) -> Made<Vec<&TableDef>>
     ensures { IfOk result (λ v. (n : Name) → of_name n (map (λ d. definition_of d.now) v.items) ≡
         of_name n (map definition_of definitions.now)) }
 {
@@ -90,7 +87,7 @@ fn with_each(
     alloc: Global,
     tables: &[(TableName, Table)],
     definitions: &[&TableDef],
-) -> Result<Vec<(TableName, Table)>, AllocError>
+) -> Made<Vec<(TableName, Table)>>
     requires { AreOrdered tables.now }
     ensures ordered { IfOk result (λ v. AreOrdered v.items) }
     ensures all { IfOk result (λ v. v.items ≡
@@ -110,7 +107,7 @@ pub(crate) fn with_definitions(
     alloc: Global,
     tables: Tables,
     definitions: &[TableDef],
-) -> Result<Tables, AllocError>
+) -> Made<Tables>
     ensures { IfOk result (λ t. t ≡ fold defined tables (map definition_of definitions.now)) }
 {
     if definitions.is_empty() {
@@ -121,12 +118,7 @@ pub(crate) fn with_definitions(
 }
 
 /// The map with a ruleset's rules and tables at its path, and no unnamed blocks below it.
-fn placed_text(
-    alloc: Global,
-    main: Anchor,
-    own: &Placing,
-    definitions: &[TableDef],
-) -> Result<Anchor, AllocError>
+fn placed_text(alloc: Global, main: Anchor, own: &Placing, definitions: &[TableDef]) -> Made<Anchor>
     requires { main.names ≡ [] }
     ensures names { IfOk result (λ a. a.names ≡ []) }
     ensures map { IfOk result (λ a. a.anchors ≡ with_text own.now (map definition_of definitions.now)
@@ -146,7 +138,7 @@ pub(crate) fn loaded(
     own: &Placing,
     definitions: &[TableDef],
     blocks: &[Placing],
-) -> Result<Anchor, AllocError>
+) -> Made<Anchor>
     requires { main.now.names ≡ [] }
     ensures names { IfOk result (λ a. a.names ≡ []) }
     ensures map { IfOk result (λ a. a.anchors ≡ loaded own.now (map definition_of definitions.now) blocks.now

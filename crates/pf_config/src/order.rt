@@ -5,12 +5,13 @@ ghost use Rattle.pf_rules.specs.Seen.{rule_of};
 ghost use Rattle.pf_config.specs.Orders.{may_stop, is_other, candidate_at, stops_of, others_of};
 ghost use Rattle.pf_config.specs.declared.config.TheConstants.{RULES_MAX};
 
+use crate::Made;
 use crate::candidate::Candidate;
 use crate::candidate_list::CandidateList;
 use crate::places::Places;
 use crate::sieve::sieve_of;
 use pf_rules::Item;
-use std::alloc::{AllocError, Global};
+use std::alloc::Global;
 
 /// The rules that may end the evaluation, the first one first, and those that aren't quick, the last one first. And
 /// where the anchors may be that they lead to.
@@ -55,7 +56,7 @@ fn candidate_at(index: u32, item: &Item) -> Candidate
 
 /// The rules that may end the evaluation, the first one first.
 #[tactic(auto, unfolding(crate::specs::Orders::stops_of))]
-fn stops_of(alloc: Global, items: &[Item]) -> Result<Vec<Candidate>, AllocError>
+fn stops_of(alloc: Global, items: &[Item]) -> Made<Vec<Candidate>>
     requires { length items.now ≤ RULES_MAX }
     ensures { IfOk result (λ v. v.items ≡ stops_of (map rule_of items.now)) }
 {
@@ -70,7 +71,7 @@ fn stops_of(alloc: Global, items: &[Item]) -> Result<Vec<Candidate>, AllocError>
 
 /// The rules that aren't quick, the last one first.
 #[tactic(auto, unfolding(crate::specs::Orders::others_of))]
-fn others_of(alloc: Global, items: &[Item]) -> Result<Vec<Candidate>, AllocError>
+fn others_of(alloc: Global, items: &[Item]) -> Made<Vec<Candidate>>
     requires { length items.now ≤ RULES_MAX }
     ensures { IfOk result (λ v. v.items ≡ others_of (map rule_of items.now)) }
 {
@@ -85,7 +86,7 @@ fn others_of(alloc: Global, items: &[Item]) -> Result<Vec<Candidate>, AllocError
 }
 
 /// The order of these rules.
-pub(crate) fn order_of(alloc: Global, items: &[Item]) -> Result<Order, AllocError>
+pub(crate) fn order_of(alloc: Global, items: &[Item]) -> Made<Order>
     requires { length items.now ≤ RULES_MAX }
     ensures stops { IfOk result (λ o. o.stops ≡ stops_of (map rule_of items.now)) }
     ensures others { IfOk result (λ o. o.others ≡ others_of (map rule_of items.now)) }

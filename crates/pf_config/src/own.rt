@@ -9,10 +9,11 @@ ghost use Rattle.pf_config.specs.Orders.{IsOrder};
 ghost use Rattle.pf_config.specs.inner.Trees.{any_unnamed, own_count, room_after, are_apart};
 ghost use Rattle.pf_config.specs.declared.config.TheConstants.{RULES_MAX};
 
+use crate::Made;
 use crate::order::{Order, order_of};
 use crate::tables::Tables;
 use pf_rules::{Item, Name};
-use std::alloc::{AllocError, Global};
+use std::alloc::Global;
 use std::rc::Rc;
 
 /// The rules and tables at a path, and the order in which a verdict walks over the rules. All are shared, so that a
@@ -28,7 +29,7 @@ pub(crate) struct Own {
 
 impl Own {
     /// These rules, with the order that is made of them, and tables.
-    pub(crate) fn of(items: Rc<Vec<Item>>, tables: Tables) -> Result<Own, AllocError>
+    pub(crate) fn of(items: Rc<Vec<Item>>, tables: Tables) -> Made<Own>
         requires { length items.value.items ≤ RULES_MAX }
         ensures rules { IfOk result (λ o. o.items ≡ items) }
         ensures tables { IfOk result (λ o. o.tables ≡ tables) }
@@ -43,7 +44,7 @@ impl Own {
     }
 
     /// These tables, and no rules.
-    pub(crate) fn without_rules(tables: Tables) -> Result<Own, AllocError>
+    pub(crate) fn without_rules(tables: Tables) -> Made<Own>
         ensures rules { IfOk result (λ o. o.items.value.items ≡ []) }
         ensures tables { IfOk result (λ o. o.tables ≡ tables) }
     {
@@ -52,7 +53,7 @@ impl Own {
     }
 
     /// The rules, shared, and these tables.
-    pub(crate) fn with_tables(&self, tables: Tables) -> Result<Own, AllocError>
+    pub(crate) fn with_tables(&self, tables: Tables) -> Made<Own>
         ensures rules { IfOk result (λ o. map rule_of o.items.value.items ≡ map rule_of self.now.items.value.items) }
         ensures tables { IfOk result (λ o. o.tables ≡ tables) }
     {
@@ -66,7 +67,7 @@ impl Own {
     }
 
     /// The same, shared.
-    pub(crate) fn copied(&self) -> Result<Own, AllocError>
+    pub(crate) fn copied(&self) -> Made<Own>
         ensures rules { IfOk result (λ o. map rule_of o.items.value.items ≡ map rule_of self.now.items.value.items) }
         ensures tables { IfOk result (λ o. o.tables ≡ self.now.tables) }
     {

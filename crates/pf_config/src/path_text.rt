@@ -4,12 +4,13 @@ ghost use Rattle.std.specs.Prelude.{◌≡◌, IfOk, map, option_map};
 ghost use Rattle.pf_config.specs.PathTexts.{pieces, path_of, PathAnswers};
 ghost use Rattle.pf_config.specs.inner.PathTexts.{names_if};
 
+use crate::Made;
 use crate::fault::ConfigFault;
 use pf_rules::{Name, Path};
-use std::alloc::{AllocError, Global};
+use std::alloc::Global;
 
 /// What is between the slashes.
-fn pieces(alloc: Global, text: &[u8]) -> Result<Vec<&[u8]>, AllocError>
+fn pieces(alloc: Global, text: &[u8]) -> Made<Vec<&[u8]>>
     ensures { IfOk result (λ found. map (λ w. w.now) found.items ≡ pieces text.now) }
 {
     let mut found = Vec::new(alloc);
@@ -26,7 +27,7 @@ fn pieces(alloc: Global, text: &[u8]) -> Result<Vec<&[u8]>, AllocError>
 }
 
 /// The pieces as names, none where one of them is no name.
-fn names_of(alloc: Global, pieces: &[&[u8]]) -> Result<Option<Vec<Name>>, AllocError>
+fn names_of(alloc: Global, pieces: &[&[u8]]) -> Made<Option<Vec<Name>>>
     ensures { IfOk result (λ found. option_map (λ v. v.items) found ≡ names_if (map (λ w. w.now) pieces.now)) }
 {
     let mut names = Vec::new(alloc);

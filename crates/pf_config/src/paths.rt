@@ -2,6 +2,7 @@
 
 ghost use Rattle.std.specs.Prelude.{◌≡◌, ◌++◌, ◌∷◌, [], IfOk};
 
+use crate::Made;
 use pf_rules::Name;
 use std::alloc::{AllocError, Global};
 
@@ -17,11 +18,7 @@ pub fn copied_path(alloc: Global, path: &[Name]) -> Result<Vec<Name>, AllocError
 }
 
 /// The names, and one name more.
-pub(crate) fn followed_by(
-    alloc: Global,
-    path: &[Name],
-    name: &Name,
-) -> Result<Vec<Name>, AllocError>
+pub(crate) fn followed_by(alloc: Global, path: &[Name], name: &Name) -> Made<Vec<Name>>
     ensures { IfOk result (λ v. v.items ≡ path.now ++ name.now ∷ []) }
 {
     let mut names = copied_path(alloc, path)?;

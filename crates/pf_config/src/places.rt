@@ -1,7 +1,8 @@
 //! Where the anchors may be that anchor rules lead to: guesses, on which nothing depends but time.
 
+use crate::Made;
 use pf_rules::Item;
-use std::alloc::{AllocError, Global};
+use std::alloc::Global;
 
 /// For each rule of a path, the place of its target's first name among those of all anchor rules there, in byte order.
 /// That is its place among the anchors below, if just these rules lead to them. With no anchor rule there is none.
@@ -25,7 +26,7 @@ fn front(item: &Item) -> Option<&[u8]> {
 
 impl Places {
     /// Those of these rules.
-    pub(crate) fn of(alloc: Global, items: &[Item]) -> Result<Places, AllocError> {
+    pub(crate) fn of(alloc: Global, items: &[Item]) -> Made<Places> {
         let mut fronts: Vec<&[u8]> = items.iter().filter_map(|item| front(item)).collect(alloc)?;
         fronts.sort_unstable_by(|a, b| a.cmp(b));
         fronts.dedup();

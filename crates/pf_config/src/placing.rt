@@ -4,8 +4,8 @@ ghost use Rattle.std.specs.Prelude.{◌≡◌, ◌≤◌, IfOk, map, length};
 ghost use Rattle.pf_rules.specs.Seen.{rule_of};
 ghost use Rattle.pf_config.specs.declared.config.TheConstants.{RULES_MAX};
 
+use crate::Made;
 use pf_rules::{Item, Name};
-use std::alloc::AllocError;
 use std::marker::Model;
 use std::rc::Rc;
 
@@ -43,7 +43,7 @@ impl Placing {
         &self.path
     }
 
-    pub(crate) fn items(&self) -> Result<Rc<Vec<Item>>, AllocError>
+    pub(crate) fn items(&self) -> Made<Rc<Vec<Item>>>
         ensures rules { IfOk result (λ rc. map rule_of rc.value.items ≡ self.now.rules) }
         ensures few { IfOk result (λ rc. length rc.value.items ≤ RULES_MAX) }
     {

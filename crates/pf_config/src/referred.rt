@@ -8,6 +8,7 @@ ghost use Rattle.pf_config.specs.Changes.{is_at_table, conditions_refer, refers}
 ghost use Rattle.pf_config.specs.SkippedNames.{is_listed};
 ghost use Rattle.pf_config.specs.inner.Referring.{Gains, AreJust, KnowsAll, is_fleeting};
 
+use crate::Made;
 use crate::anchor::Anchor;
 use pf_rules::{Addresses, Conditions, Host, Item, TableName};
 use pf_tables::Table;
@@ -46,7 +47,7 @@ impl Referred {
 
     /// Those that one of the rules refers to.
     #[tactic(auto, using(crate::proofs::Referrals::of_none))]
-    pub(crate) fn of(alloc: Global, items: &[Item]) -> Result<Referred, AllocError>
+    pub(crate) fn of(alloc: Global, items: &[Item]) -> Made<Referred>
         ensures { IfOk result (λ s. AreJust s (λ n. list_any (refers n) (map rule_of items.now))) }
     {
         let mut names = Referred::new(alloc);
@@ -62,7 +63,7 @@ impl Referred {
     }
 
     /// Puts a name among them. After an error nothing is known of them.
-    fn put(&mut self, alloc: Global, name: &TableName) -> Result<(), AllocError>
+    fn put(&mut self, alloc: Global, name: &TableName) -> Made<()>
         ensures { OnOk result (Gains self.old (λ n. bytes_eq name.now n) self.new) }
     {
         let key = name.as_bytes().to_vec(alloc)?;
@@ -74,7 +75,7 @@ impl Referred {
 
     /// Puts the name of the table that the host is, if it is one. After an error nothing is known of them.
     #[tactic(auto, using(crate::proofs::Referrals::gains_nothing))]
-    fn put_host(&mut self, alloc: Global, host: &Host) -> Result<(), AllocError>
+    fn put_host(&mut self, alloc: Global, host: &Host) -> Made<()>
         ensures { OnOk result (Gains self.old (λ n. is_at_table n host.now) self.new) }
     {
         match host {
@@ -86,7 +87,7 @@ impl Referred {
     }
 
     /// Puts the names of the tables that the conditions refer to. After an error nothing is known of them.
-    fn put_conditions(&mut self, alloc: Global, conditions: &Conditions) -> Result<(), AllocError>
+    fn put_conditions(&mut self, alloc: Global, conditions: &Conditions) -> Made<()>
         ensures { OnOk result (Gains self.old (λ n. conditions_refer n conditions.now) self.new) }
     {
         self.put_host(alloc, &conditions.source)?;
@@ -94,7 +95,7 @@ impl Referred {
     }
 
     /// Puts the names of the tables that the rules refer to. After an error nothing is known of them.
-    pub(crate) fn put_items(&mut self, alloc: Global, items: &[Item]) -> Result<(), AllocError>
+    pub(crate) fn put_items(&mut self, alloc: Global, items: &[Item]) -> Made<()>
         ensures { OnOk result (Gains self.old (λ n. list_any (refers n) (map rule_of items.now)) self.new) }
     {
         for item in items {
@@ -113,7 +114,7 @@ pub(crate) fn any_fleeting(tables: &[(TableName, Table)]) -> bool
 
 /// The names that the rules of the whole configuration refer to, if main has tables enough of which some may go.
 #[tactic(auto, using(crate::proofs::Referrals::of_none))]
-pub(crate) fn gathered(alloc: Global, main: &Anchor) -> Result<Option<Referred>, AllocError>
+pub(crate) fn gathered(alloc: Global, main: &Anchor) -> Made<Option<Referred>>
     ensures { IfOk result (λ known. KnowsAll known main.now.anchors) }
 {
     let tables = main.tables();

@@ -4,8 +4,9 @@ ghost use Rattle.std.specs.Prelude.{◌≡◌, [], IfOk};
 ghost use Rattle.pf_config.specs.SkippedNames.{is_listed};
 ghost use Rattle.pf_config.specs.inner.RisingNames.{AreRising};
 
+use crate::Made;
 use pf_rules::InterfaceName;
-use std::alloc::{AllocError, Global};
+use std::alloc::Global;
 use std::cmp::Ordering;
 use std::marker::Model;
 
@@ -42,7 +43,7 @@ impl Skipped {
     }
 
     /// These names.
-    pub(crate) fn of(alloc: Global, names: Vec<InterfaceName>) -> Result<Skipped, AllocError>
+    pub(crate) fn of(alloc: Global, names: Vec<InterfaceName>) -> Made<Skipped>
         ensures { IfOk result (λ s. s ≡ names.items) }
     {
         let mut rising = copied_names(alloc, &names)?;
@@ -66,7 +67,7 @@ impl Skipped {
 }
 
 /// The names once more, without room for others.
-fn copied_names(alloc: Global, names: &[InterfaceName]) -> Result<Vec<InterfaceName>, AllocError>
+fn copied_names(alloc: Global, names: &[InterfaceName]) -> Made<Vec<InterfaceName>>
     ensures { IfOk result (λ v. v.items ≡ names.now) }
 {
     let mut next = Vec::with_capacity(alloc, names.len())?;

@@ -7,10 +7,11 @@ ghost use Rattle.pf_config.specs.Ordered.{AreOrdered};
 ghost use Rattle.pf_config.specs.inner.TableChanges.{edited_table, edited_in, has_room, ChangesIf, IsTableIf};
 ghost use Rattle.pf_config.specs.inner.TableChanges.{IsStoredAt, BelongsAt};
 
+use crate::Made;
 use crate::config::ENTRIES_MAX;
 use pf_rules::{TableEntry, TableName};
 use pf_tables::{Edit, Table};
-use std::alloc::{AllocError, Global};
+use std::alloc::Global;
 
 /// Whether an edit leaves a table no fuller than it may be.
 fn has_room(table: &Table, edit: Edit) -> bool
@@ -21,7 +22,7 @@ fn has_room(table: &Table, edit: Edit) -> bool
 
 /// Edits an entry of a table in place. False, and nothing is changed, where that can't be done, or the table is const
 /// or may be full.
-fn edit_table(table: &mut Table, entry: &TableEntry, edit: Edit) -> Result<bool, AllocError>
+fn edit_table(table: &mut Table, entry: &TableEntry, edit: Edit) -> Made<bool>
     ensures { MatchResult result (λ done. IsTableIf done (edited_table edit entry.now table.old) table.old table.new)
         (λ e. table.new ≡ table.old) }
 {
@@ -45,7 +46,7 @@ pub(crate) fn edit_among(
     name: &TableName,
     entry: &TableEntry,
     edit: Edit,
-) -> Result<bool, AllocError>
+) -> Made<bool>
     requires { AreOrdered tables.old.items }
     ensures ordered { AreOrdered tables.new.items }
     ensures changed { MatchResult result (λ done. ChangesIf done (edited_in edit entry.now (named name.now
@@ -63,7 +64,7 @@ pub(crate) fn put_among(
     tables: &mut Vec<(TableName, Table)>,
     name: &TableName,
     table: Table,
-) -> Result<(), AllocError>
+) -> Made<()>
     requires { AreOrdered tables.old.items }
     ensures ordered { AreOrdered tables.new.items }
     ensures put { MatchResult result (λ o. tables.new.items ≡ with_table tables.old.items name.now table)

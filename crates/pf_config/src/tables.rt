@@ -7,10 +7,11 @@ ghost use Rattle.pf_config.specs.Changes.{with_table};
 ghost use Rattle.pf_config.specs.inner.TableChanges.{edited_in, ChangesIf};
 ghost use Rattle.pf_config.specs.Ordered.{AreOrdered};
 
+use crate::Made;
 use crate::table_change::{edit_among, place_of, put_among};
 use pf_rules::{TableEntry, TableName};
 use pf_tables::{Edit, Table};
-use std::alloc::{AllocError, Global};
+use std::alloc::Global;
 use std::marker::Model;
 use std::rc::Rc;
 
@@ -35,14 +36,14 @@ impl Model for Tables {
 
 impl Tables {
     /// None.
-    pub(crate) fn new(alloc: Global) -> Result<Tables, AllocError>
+    pub(crate) fn new(alloc: Global) -> Made<Tables>
         ensures { IfOk result (λ t. t ≡ []) }
     {
         Tables::of(alloc, Vec::new(alloc))
     }
 
     /// These tables.
-    pub(crate) fn of(alloc: Global, all: Vec<(TableName, Table)>) -> Result<Tables, AllocError>
+    pub(crate) fn of(alloc: Global, all: Vec<(TableName, Table)>) -> Made<Tables>
         requires { AreOrdered all.items }
         ensures { IfOk result (λ t. t ≡ all.items) }
     {
@@ -65,12 +66,7 @@ impl Tables {
 
     /// Edits an entry of the table of that name in place. False, and nothing is changed, where the tables are shared,
     /// or that can't be done.
-    pub(crate) fn edit(
-        &mut self,
-        name: &TableName,
-        entry: &TableEntry,
-        edit: Edit,
-    ) -> Result<bool, AllocError>
+    pub(crate) fn edit(&mut self, name: &TableName, entry: &TableEntry, edit: Edit) -> Made<bool>
         ensures { MatchResult result (λ done. ChangesIf done (edited_in edit entry.now (named name.now self.old))
             name.now self.old self.new) (λ e. self.new ≡ self.old) }
     {
@@ -81,7 +77,7 @@ impl Tables {
     }
 
     /// Puts a table under its name in place. False, and nothing is changed, where the tables are shared.
-    pub(crate) fn put(&mut self, name: &TableName, table: &Table) -> Result<bool, AllocError>
+    pub(crate) fn put(&mut self, name: &TableName, table: &Table) -> Made<bool>
         ensures { MatchResult result (λ done. ChangesIf done (Some table.now) name.now self.old self.new)
             (λ e. self.new ≡ self.old) }
     {
@@ -93,7 +89,7 @@ impl Tables {
     }
 
     /// The same once more.
-    pub(crate) fn copied(&self) -> Result<Tables, AllocError>
+    pub(crate) fn copied(&self) -> Made<Tables>
         ensures { IfOk result (λ t. t ≡ self.now) }
     {
         let all = self.all.clone()?;
@@ -113,10 +109,7 @@ pub(crate) fn named<'c>(tables: &'c [(TableName, Table)], name: &str) -> Option<
 }
 
 /// The names of the tables.
-pub(crate) fn names_of(
-    alloc: Global,
-    tables: &[(TableName, Table)],
-) -> Result<Vec<&str>, AllocError>
+pub(crate) fn names_of(alloc: Global, tables: &[(TableName, Table)]) -> Made<Vec<&str>>
     ensures { IfOk result (λ v. map (λ n. n.now) v.items ≡ map (λ t. t.0) tables.now) }
 {
     let mut names = Vec::new(alloc);
@@ -127,7 +120,7 @@ pub(crate) fn names_of(
 }
 
 /// The same table once more, which shares its entries.
-pub(crate) fn copied_table(table: &Table) -> Result<Table, AllocError>
+pub(crate) fn copied_table(table: &Table) -> Made<Table>
     ensures { IfOk result (λ t. t ≡ table.now) }
 {
     table.flagged(table.persist(), table.is_const())
@@ -137,7 +130,7 @@ pub(crate) fn copied_table(table: &Table) -> Result<Table, AllocError>
 pub(crate) fn copied_tables(
     alloc: Global,
     tables: &[(TableName, Table)],
-) -> Result<Vec<(TableName, Table)>, AllocError>
+) -> Made<Vec<(TableName, Table)>>
     ensures { IfOk result (λ v. v.items ≡ tables.now) }
 {
     let mut next = Vec::new(alloc);
@@ -153,7 +146,7 @@ pub(crate) fn with_table(
     tables: &[(TableName, Table)],
     name: &TableName,
     table: &Table,
-) -> Result<Tables, AllocError>
+) -> Made<Tables>
     requires { AreOrdered tables.now }
     ensures { IfOk result (λ t. t ≡ with_table tables.now name.now table.now) }
 {

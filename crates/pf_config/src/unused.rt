@@ -8,13 +8,14 @@ ghost use Rattle.pf_config.specs.inner.Trees.{is_idle};
 ghost use Rattle.pf_config.specs.Ordered.{AreOrdered};
 ghost use Rattle.pf_config.specs.inner.Referring.{KnowsAll, goes_by, stays_by};
 
+use crate::Made;
 use crate::anchor::Anchor;
 use crate::own::Own;
 use crate::referred::{FEW, Referred};
 use crate::tables::{Tables, copied_table};
 use pf_rules::{Addresses, Conditions, Host, Item, Name, TableName};
 use pf_tables::Table;
-use std::alloc::{AllocError, Global};
+use std::alloc::Global;
 
 /// Whether the host is the table of that name.
 fn is_at_table(name: &TableName, host: &Host) -> bool
@@ -103,7 +104,7 @@ pub(crate) fn any_unused(main: &Anchor, known: &Option<Referred>, path: &[Name],
 
 /// The tables at a path that persist or are used, where the rules are asked.
 #[tactic(auto, using(crate::proofs::Ordered::ordered_filter))]
-fn asked_tables(main: &Anchor, path: &[Name], own: &Own) -> Result<Tables, AllocError>
+fn asked_tables(main: &Anchor, path: &[Name], own: &Own) -> Made<Tables>
     ensures { IfOk result (λ t. t ≡ used_tables main.now.anchors (record {
       path = path.now;
       rules = map rule_of own.now.items.value.items;
@@ -123,7 +124,7 @@ fn asked_tables(main: &Anchor, path: &[Name], own: &Own) -> Result<Tables, Alloc
 
 /// The tables that persist or are among the names.
 #[tactic(auto, using(crate::proofs::Ordered::ordered_filter))]
-fn listed_tables(names: &Referred, tables: &Tables) -> Result<Tables, AllocError>
+fn listed_tables(names: &Referred, tables: &Tables) -> Made<Tables>
     ensures { IfOk result (λ t. t ≡ filter (stays_by names.now) tables.now) }
 {
     let alloc = tables.alloc();
@@ -143,7 +144,7 @@ pub(crate) fn used_tables(
     known: &Option<Referred>,
     path: &[Name],
     own: &Own,
-) -> Result<Tables, AllocError>
+) -> Made<Tables>
     requires { KnowsAll known.now main.now.anchors }
     ensures { IfOk result (λ t. t ≡ used_tables main.now.anchors (record {
       path = path.now;

@@ -11,6 +11,7 @@ ghost use Rattle.pf_scripts.specs.Ctl.{pfctl, Lines};
 ghost use Rattle.pf_scripts.specs.Seen.{printed_value};
 ghost use Rattle.pf_scripts.specs.inner.Seen.{Does, rows_matched};
 
+use crate::Made;
 use crate::pfctl::matches_in;
 use crate::printing::Printed;
 use crate::reading::read_matches;
@@ -49,11 +50,7 @@ pub fn push_counts(out: &mut String, counts: bool, applied: Applied) -> Result<(
 
 /// Applies a command as it is in an entry's bytes.
 #[tactic(auto, using(crate::proofs::Acted::applied_does, crate::proofs::Acted::refused_does))]
-fn run_view(
-    alloc: Global,
-    config: &mut Config,
-    command: &CommandView,
-) -> Result<Printed, AllocError>
+fn run_view(alloc: Global, config: &mut Config, command: &CommandView) -> Made<Printed>
     ensures { IfOk result (λ p. Does (prints (after_command config.old (command_of command.now))
         (change_printed (is_counted (command_of command.now)) (effect config.old (command_of command.now))))
         config.new (printed_value p)) }
@@ -70,7 +67,7 @@ fn run_view(
 }
 
 /// Applies a command by way of the bytes of an entry.
-fn run_change(alloc: Global, config: &mut Config, command: Command) -> Result<Printed, AllocError>
+fn run_change(alloc: Global, config: &mut Config, command: Command) -> Made<Printed>
     requires { is_too_long (command_value command) ≡ false }
     ensures { IfOk result (λ p. Does (prints (after_command config.old (command_value command))
         (change_printed (is_counted (command_value command)) (effect config.old (command_value command))))
@@ -93,7 +90,7 @@ pub(crate) fn run_matches(
     config: &mut Config,
     matches: Option<&ArgMatches<'_>>,
     text: &[u8],
-) -> Result<Printed, AllocError>
+) -> Made<Printed>
     ensures { IfOk result (λ p. Does (done_with config.old
         (looked config.old text.now (asked_at text.now (rows_matched (option_copied matches.entry)))))
         config.new (printed_value p)) }
@@ -110,7 +107,7 @@ pub(crate) fn run_words(
     config: &mut Config,
     words: &[&str],
     text: &[u8],
-) -> Result<Printed, AllocError>
+) -> Made<Printed>
     ensures { IfOk result (λ p. Does (pfctl config.old (map (λ w. w.now) words.now) text.now)
         config.new (printed_value p)) }
 {

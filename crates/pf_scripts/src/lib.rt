@@ -45,6 +45,10 @@ pub use pfctl::{file_in, is_standard, matches_in, takes_text};
 pub use printing::{Printed, push_line, push_refusal};
 pub use reading::{read_change, read_words};
 pub use running::ctl;
+use std::alloc::AllocError;
 pub use stepping::test_packet;
 pub use waiting::Waiting;
 pub use words_read::{ChangeFault, WordsRead};
+
+/// What is made, unless a growth is refused.
+pub(crate) type Made<T> = Result<T, AllocError>;

@@ -8,6 +8,7 @@ ghost use Rattle.pf_arguments.specs.Options.{pfctl_app};
 ghost use Rattle.pf_scripts.specs.Ctl.{rows_in, takes_text, takes_text_by, is_standard, is_input};
 ghost use Rattle.pf_scripts.specs.inner.Seen.{rows_matched};
 
+use crate::Made;
 use crate::lines::are_adjacent;
 use clap::error::ErrorKind;
 use clap::{ArgMatches, Command};
@@ -15,7 +16,7 @@ use pf_arguments::pfctl_args;
 use std::alloc::{AllocError, Global};
 
 /// pfctl by itself, as `clap` reads it.
-fn command<'a>(alloc: Global) -> Result<Command<'a>, AllocError>
+fn command<'a>(alloc: Global) -> Made<Command<'a>>
     ensures { IfOk result (λ c. app_of c ≡ pfctl_app) }
 {
     pfctl_args(alloc, Command::new(alloc, "pfctl"))

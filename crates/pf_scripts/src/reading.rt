@@ -13,6 +13,7 @@ ghost use Rattle.pf_scripts.specs.Ctl.{Prints, Refused};
 ghost use Rattle.pf_scripts.specs.WordsRead.{change_in, words_value, AsksShort, IsAskedAs};
 ghost use Rattle.pf_scripts.specs.inner.Seen.{rows_matched};
 
+use crate::Made;
 use crate::listing::list;
 use crate::pfctl::{file_in, is_standard, matches_in};
 use crate::printing::Printed;
@@ -61,7 +62,7 @@ fn refused(code: u8, at: u64) -> WordsRead
 }
 
 /// Reads a ruleset and loads nothing.
-fn check_text(alloc: Global, path: &[Name], text: &[u8]) -> Result<WordsRead, AllocError>
+fn check_text(alloc: Global, path: &[Name], text: &[u8]) -> Made<WordsRead>
     ensures value { IfOk result (λ r. words_value r ≡ checked (reading (place_at path.now) Two text.now)) }
     ensures short { IfOk result AsksShort }
 {
@@ -76,12 +77,7 @@ fn check_text(alloc: Global, path: &[Name], text: &[u8]) -> Result<WordsRead, Al
 }
 
 /// What an action gives.
-fn read_action(
-    alloc: Global,
-    config: &Config,
-    action: Action,
-    text: &[u8],
-) -> Result<WordsRead, AllocError>
+fn read_action(alloc: Global, config: &Config, action: Action, text: &[u8]) -> Made<WordsRead>
     requires { IsShort action }
     ensures value { IfOk result (λ r. words_value r ≡ looked config.now text.now (Ok (action_value action))) }
     ensures short { IfOk result AsksShort }
@@ -102,7 +98,7 @@ pub(crate) fn read_matches(
     config: &Config,
     matches: Option<&ArgMatches<'_>>,
     text: &[u8],
-) -> Result<WordsRead, AllocError>
+) -> Made<WordsRead>
     ensures value { IfOk result (λ r. words_value r
         ≡ looked config.now text.now (asked_at text.now (rows_matched (option_copied matches.entry)))) }
     ensures short { IfOk result AsksShort }

@@ -5,6 +5,7 @@ ghost use Rattle.pf_scripts.specs.Ctl.{at_end, printed};
 ghost use Rattle.pf_scripts.specs.Seen.{printed_values};
 ghost use Rattle.pf_scripts.specs.inner.Seen.{waiting_of};
 
+use crate::Made;
 use crate::acting::run_words;
 use crate::lines::cut_line;
 use crate::printing::Printed;
@@ -19,7 +20,7 @@ fn finish(
     config: &mut Config,
     waiting: Option<Waiting<'_>>,
     out: &mut Vec<Printed>,
-) -> Result<(), AllocError>
+) -> Made<()>
     ensures { OnOk result (printed_values out.new.items
         ≡ printed_values out.old.items ++ at_end config.old (option_map waiting_of waiting.entry)) }
 {

@@ -5,6 +5,7 @@ ghost use Rattle.pf_scripts.specs.Ctl.{tested, packet_printed, pfctl_line, at_wo
 ghost use Rattle.pf_scripts.specs.Seen.{line_of, printed_value, printed_values};
 ghost use Rattle.pf_scripts.specs.inner.Seen.{waiting_of, Steps};
 
+use crate::Made;
 use crate::acting::{run_matches, run_words};
 use crate::lines::{Line, push_bytes, spaced, words_in};
 use crate::pfctl::{matches_in, takes_text_by};
@@ -38,7 +39,7 @@ fn run_pfctl<'a>(
     config: &mut Config,
     words: Vec<&'a str>,
     out: &mut Vec<Printed>,
-) -> Result<Option<Waiting<'a>>, AllocError>
+) -> Made<Option<Waiting<'a>>>
     ensures { IfOk result (λ w. Steps (pfctl_line config.old (map (λ x. x.now) words.entry.items))
         config.new (option_map waiting_of w) (printed_values out.old.items) (printed_values out.new.items)) }
 {
@@ -61,7 +62,7 @@ fn run_line<'a>(
     config: &mut Config,
     words: Option<Vec<&'a str>>,
     out: &mut Vec<Printed>,
-) -> Result<Option<Waiting<'a>>, AllocError>
+) -> Made<Option<Waiting<'a>>>
     ensures { IfOk result (λ w. Steps
         (at_words config.old (option_map (λ v. map (λ x. x.now) v.items) words.entry))
         config.new (option_map waiting_of w) (printed_values out.old.items) (printed_values out.new.items)) }
@@ -91,7 +92,7 @@ pub(crate) fn step<'a>(
     waiting: Option<Waiting<'a>>,
     line: Line<'a>,
     out: &mut Vec<Printed>,
-) -> Result<Option<Waiting<'a>>, AllocError>
+) -> Made<Option<Waiting<'a>>>
     ensures { IfOk result (λ w. Steps
         (stepped config.old (option_map waiting_of waiting.entry) (line_of line.entry))
         config.new (option_map waiting_of w) (printed_values out.old.items) (printed_values out.new.items)) }

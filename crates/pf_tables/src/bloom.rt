@@ -4,7 +4,8 @@
 ghost use Rattle.std.specs.Prelude.{◌≡◌, ℕ};
 ghost use Rattle.pf_tables.specs.inner.Bloom.{bit_index};
 
-use std::alloc::{AllocError, Global};
+use crate::Made;
+use std::alloc::Global;
 
 /// How many bits a rebuilt filter has for each key. It is rebuilt when it has half as many for each insertion.
 const BITS_EACH: usize = 16;
@@ -41,7 +42,7 @@ impl BloomFilter {
 
     /// The filter of these keys.
     #[tactic(auto, using(crate::proofs::Filtering::without_bits))]
-    pub(crate) fn of(alloc: Global, keys: &[u128]) -> Result<BloomFilter, AllocError>
+    pub(crate) fn of(alloc: Global, keys: &[u128]) -> Made<BloomFilter>
         ensures { IfOk result (λ f. MayContainAll f keys.now) }
     {
         let mut filter = BloomFilter {
@@ -76,7 +77,7 @@ impl BloomFilter {
     }
 
     /// Makes room for one key more: where it has too few bits it is rebuilt for these keys, which were all inserted.
-    pub(crate) fn grow(&mut self, keys: &[u128]) -> Result<(), AllocError>
+    pub(crate) fn grow(&mut self, keys: &[u128]) -> Made<()>
         requires { MayContainAll self.old keys.now }
         ensures { MayContainAll self.new keys.now }
     {
@@ -88,7 +89,7 @@ impl BloomFilter {
 
     /// Rebuilds the filter for these keys, which were all inserted. An error changes nothing.
     #[tactic(auto, using(crate::proofs::Filtering::one_more))]
-    fn rebuild(&mut self, keys: &[u128]) -> Result<(), AllocError>
+    fn rebuild(&mut self, keys: &[u128]) -> Made<()>
         requires { MayContainAll self.old keys.now }
         ensures { MayContainAll self.new keys.now }
     {

@@ -8,9 +8,10 @@ ghost use Rattle.std.specs.Global.{Vec};
 ghost use Rattle.pf_tables.specs.declared.interval.Interval.{Interval};
 ghost use Rattle.pf_tables.specs.declared.classes.TheConstants.{PLACES_MAX};
 
+use crate::Made;
 use crate::classes::PLACES_MAX;
 use crate::interval::{Interval, meets};
-use std::alloc::{AllocError, Global};
+use std::alloc::Global;
 
 /// Of how many numbers at most the bounds of buckets are chosen.
 const SAMPLE_MAX: usize = 128;
@@ -45,12 +46,7 @@ fn word_of(intervals: &[Interval], first: u32, last: u32) -> u64
 }
 
 /// The row of bits for intervals: set where one meets the numbers from first to last.
-fn row_of(
-    alloc: Global,
-    intervals: &[Interval],
-    first: u32,
-    last: u32,
-) -> Result<Vec<u64>, AllocError>
+fn row_of(alloc: Global, intervals: &[Interval], first: u32, last: u32) -> Made<Vec<u64>>
     requires { length intervals.now ≤ PLACES_MAX }
     ensures few { IfOk result (λ r. length r.items ≤ 1024) }
     ensures marked { IfOk result (λ r. MarksBetween intervals.now first last r.items) }
@@ -66,7 +62,7 @@ fn row_of(
 }
 
 /// Some of the numbers, in their order: few more than that many, spread evenly.
-fn sampled(alloc: Global, numbers: &[u32], most: usize) -> Result<Vec<u32>, AllocError>
+fn sampled(alloc: Global, numbers: &[u32], most: usize) -> Made<Vec<u32>>
     requires { 0 < most }
 {
     let step = numbers.len() / most + 1;
@@ -80,7 +76,7 @@ fn sampled(alloc: Global, numbers: &[u32], most: usize) -> Result<Vec<u32>, Allo
 }
 
 /// The first numbers of some of the intervals, in order; not 0, where a bucket begins anyway.
-fn firsts(alloc: Global, intervals: &[Interval]) -> Result<Vec<u32>, AllocError> {
+fn firsts(alloc: Global, intervals: &[Interval]) -> Made<Vec<u32>> {
     let mut found = Vec::new(alloc);
     for interval in intervals {
         if interval.first > 0 {
@@ -93,7 +89,7 @@ fn firsts(alloc: Global, intervals: &[Interval]) -> Result<Vec<u32>, AllocError>
 }
 
 /// Where buckets begin, chosen so that intervals are spread over them: first at 0.
-fn bounds_of(alloc: Global, intervals: &[Interval]) -> Result<Vec<u32>, AllocError>
+fn bounds_of(alloc: Global, intervals: &[Interval]) -> Made<Vec<u32>>
     ensures { IfOk result (λ b. get_or b.items 0 4294967296 ≡ 0) }
 {
     let starts = sampled(alloc, &firsts(alloc, intervals)?, BOUNDS_MAX)?;
@@ -128,7 +124,7 @@ impl Column {
     ghost use Rattle.pf_tables.specs.declared.classes.TheConstants.{PLACES_MAX};
 
     /// The buckets for these intervals.
-    pub(crate) fn of(alloc: Global, intervals: &[Interval]) -> Result<Column, AllocError>
+    pub(crate) fn of(alloc: Global, intervals: &[Interval]) -> Made<Column>
         requires { length intervals.now ≤ PLACES_MAX }
         ensures { IfOk result (λ c. IsColumnOf intervals.now c) }
     {

@@ -8,11 +8,11 @@ ghost use Rattle.pf_tables.specs.Contents.{edited};
 ghost use Rattle.pf_tables.specs.Parts.{joined, AreParts};
 ghost use Rattle.pf_tables.specs.inner.Parts.{IsPart, IsPlace, HasMoved, edited_if};
 
+use crate::Made;
 use crate::keys::{bits_of, insert_at, remove_at};
 use crate::part::Part;
 use crate::parted::{is_key, is_v6};
 use pf_rules::TableEntry;
-use std::alloc::AllocError;
 use std::rc::Rc;
 
 /// A change of one entry of a table.
@@ -25,7 +25,7 @@ pub enum Edit {
 }
 
 /// Adds an entry to the part of its family and length, unless its prefix is there.
-fn put(part: &mut Part, entry: &TableEntry) -> Result<(), AllocError>
+fn put(part: &mut Part, entry: &TableEntry) -> Made<()>
     requires part { IsPart part.old }
     requires own { is_of part.old.v6 part.old.len entry.now ≡ true }
     ensures family { part.new.v6 ≡ part.old.v6 }
@@ -74,7 +74,7 @@ fn take(part: &mut Part, entry: &TableEntry)
 }
 
 /// Edits the part of the entry's family and length.
-fn edit_part(part: &mut Part, entry: &TableEntry, edit: Edit) -> Result<(), AllocError>
+fn edit_part(part: &mut Part, entry: &TableEntry, edit: Edit) -> Made<()>
     requires part { IsPart part.old }
     requires own { is_of part.old.v6 part.old.len entry.now ≡ true }
     ensures family { part.new.v6 ≡ part.old.v6 }
@@ -107,12 +107,7 @@ fn place_of(parts: &[Part], v6: bool, len: u8) -> Option<usize>
 }
 
 /// Edits the part with that index, and returns how many entries it had and has.
-fn edit_at(
-    parts: &mut Vec<Part>,
-    at: usize,
-    entry: &TableEntry,
-    edit: Edit,
-) -> Result<(usize, usize), AllocError>
+fn edit_at(parts: &mut Vec<Part>, at: usize, entry: &TableEntry, edit: Edit) -> Made<(usize, usize)>
     requires parts { AreParts parts.old.items }
     requires place { IsPlace parts.old.items at (is_v6 entry.now.prefix.base) entry.now.prefix.len }
     requires block { IsBlock entry.now.prefix.base entry.now.prefix.len }
@@ -134,7 +129,7 @@ pub(crate) fn edit_in_place(
     parts: &mut Rc<Vec<Part>>,
     entry: &TableEntry,
     edit: Edit,
-) -> Result<Option<(usize, usize)>, AllocError>
+) -> Made<Option<(usize, usize)>>
     requires { AreParts parts.old.value.items }
     ensures parts { AreParts parts.new.value.items }
     ensures entries { joined parts.new.value.items ≡ edited_if result edit entry.now (joined parts.old.value.items) }

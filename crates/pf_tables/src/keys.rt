@@ -7,6 +7,7 @@ ghost use Rattle.pf_tables.specs.inner.Keys.{key_of};
 ghost use Rattle.pf_tables.specs.inner.Bloom.{MayContainAll};
 ghost use Rattle.pf_tables.specs.declared.bloom.BloomFilter.{BloomFilter};
 
+use crate::Made;
 use crate::bloom::BloomFilter;
 use pf_addr::Addr;
 use pf_rules::TableEntry;
@@ -24,7 +25,7 @@ pub(crate) fn bits_of(addr: Addr) -> u128
 }
 
 /// The number of each entry's first address.
-pub(crate) fn keys_of(alloc: Global, entries: &[TableEntry]) -> Result<Vec<u128>, AllocError>
+pub(crate) fn keys_of(alloc: Global, entries: &[TableEntry]) -> Made<Vec<u128>>
     ensures { IfOk result (λ v. v.items ≡ map key_of entries.now) }
 {
     let mut keys = Vec::new(alloc);
@@ -43,7 +44,7 @@ pub(crate) fn insert_at(
     filter: &mut BloomFilter,
     at: usize,
     entry: &TableEntry,
-) -> Result<(), AllocError>
+) -> Made<()>
     requires place { at ≤ length entries.old.items }
     requires keyed { keys.old.items ≡ map key_of entries.old.items }
     requires filtered { MayContainAll filter.old keys.old.items }

@@ -41,4 +41,8 @@ pub use classes::{Classes, PLACES_MAX};
 pub use edits::Edit;
 pub use interval::{Interval, is_within};
 pub use row::Row;
+use std::alloc::AllocError;
 pub use table::Table;
+
+/// What is made, unless a growth is refused.
+pub(crate) type Made<T> = Result<T, AllocError>;

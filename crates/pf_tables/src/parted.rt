@@ -6,12 +6,13 @@ ghost use Rattle.pf_addr.specs.Blocks.{IsBlock};
 ghost use Rattle.pf_tables.specs.Tables.{is_of, is_v6, bool_eq};
 ghost use Rattle.pf_tables.specs.Parts.{joined, IsOrdered, AreBlocks, AreParts};
 
+use crate::Made;
 use crate::bloom::BloomFilter;
 use crate::keys::keys_of;
 use crate::part::Part;
 use pf_addr::Addr;
 use pf_rules::TableEntry;
-use std::alloc::{AllocError, Global};
+use std::alloc::Global;
 
 /// Whether the address is of the second family.
 pub(crate) fn is_v6(addr: Addr) -> bool
@@ -55,7 +56,7 @@ fn front_len(entries: &[TableEntry], v6: bool, len: u8) -> usize
 }
 
 /// The part with these entries.
-fn part_with(alloc: Global, v6: bool, len: u8, entries: &[TableEntry]) -> Result<Part, AllocError>
+fn part_with(alloc: Global, v6: bool, len: u8, entries: &[TableEntry]) -> Made<Part>
     ensures family { IfOk result (λ p. p.v6 ≡ v6) }
     ensures len { IfOk result (λ p. p.len ≡ len) }
     ensures entries { IfOk result (λ p. p.entries.items ≡ entries.now) }
@@ -73,7 +74,7 @@ fn part_with(alloc: Global, v6: bool, len: u8, entries: &[TableEntry]) -> Result
 }
 
 /// The entries, which are in order, apart by family and length.
-pub(crate) fn parted(alloc: Global, entries: &[TableEntry]) -> Result<Vec<Part>, AllocError>
+pub(crate) fn parted(alloc: Global, entries: &[TableEntry]) -> Made<Vec<Part>>
     requires { IsOrdered entries.now }
     ensures value { IfOk result (λ ps. joined ps.items ≡ entries.now) }
     ensures parts { IfOk result (λ ps. AreParts ps.items) }
@@ -91,7 +92,7 @@ pub(crate) fn parted(alloc: Global, entries: &[TableEntry]) -> Result<Vec<Part>,
 }
 
 /// The entries of all parts.
-pub(crate) fn gathered(alloc: Global, parts: &[Part]) -> Result<Vec<TableEntry>, AllocError>
+pub(crate) fn gathered(alloc: Global, parts: &[Part]) -> Made<Vec<TableEntry>>
     ensures { IfOk result (λ v. v.items ≡ joined parts.now) }
 {
     let mut entries = Vec::new(alloc);

@@ -6,6 +6,7 @@ ghost use Rattle.pf_tables.specs.Tables.{in_table, is_of};
 ghost use Rattle.pf_tables.specs.Contents.{with_entries, contents_of, without_entries, count_without, edited};
 ghost use Rattle.pf_tables.specs.Parts.{joined, IsOrdered, AreParts};
 
+use crate::Made;
 use crate::contents::{contents_of, count_without, with_entries, without_entries};
 use crate::decided::decides;
 use crate::edits::{Edit, edit_in_place};
@@ -75,12 +76,7 @@ impl Table {
     }
 
     /// A table of these entries, which are in order.
-    fn made(
-        alloc: Global,
-        persist: bool,
-        is_const: bool,
-        entries: &[TableEntry],
-    ) -> Result<Table, AllocError>
+    fn made(alloc: Global, persist: bool, is_const: bool, entries: &[TableEntry]) -> Made<Table>
         requires { IsOrdered entries.now }
         ensures { IfOk result (λ t. t ≡ record { persist = persist; is_const = is_const; entries = entries.now }) }
     {
