@@ -94,7 +94,7 @@ fn flag_alternatives<'c>(alloc: Global, test: FlagTest) -> Alternatives<'c>
         FlagTest::Any => always(alloc),
         FlagTest::Just { set, of } => {
             let value = masked_by(of, set);
-            let mut all = of_protocol(alloc, 6, Match::WithFlags { mask: of, value })?;
+            let mut all = of_protocol(alloc, 6, Match::WithFlags(of, value))?;
             all.push(Alternative::of(None, Protocol::NotTcp, Vec::new(alloc)))?;
             Ok(all)
         }
@@ -107,7 +107,7 @@ pub(crate) fn on_names<'c>(names: Vec<InterfaceName>, negated: bool) -> Made<Vec
 {
     let alloc = *names.allocator();
     let names = Rc::new(alloc, names)?;
-    Ok(vec![in alloc; Match::OnInterface { names, negated }]?)
+    Ok(vec![in alloc; Match::OnInterface(names, negated)]?)
 }
 
 /// A packet on one of these interfaces, of which there may be none.
@@ -138,12 +138,7 @@ fn interface_alternatives<'c>(place: Place<'c>, wanted: &Option<Interface>) -> A
 fn ports<'c>(side: Side, low: u16, high: u16, negated: bool) -> Match<'c>
     ensures { match_of result ≡ AtPort side low high negated }
 {
-    Match::AtPort {
-        side,
-        low,
-        high,
-        negated,
-    }
+    Match::AtPort(side, low, high, negated)
 }
 
 /// What is asked of a packet's port at this end, none if no port passes.

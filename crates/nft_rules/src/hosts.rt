@@ -82,17 +82,14 @@ fn place_of<'c>(place: Place<'c>, family: Family, set: &'c Addresses) -> Option<
     ensures { option_map where_of result ≡ place_of place.entry.config.now place.entry.path.now family set.now }
 {
     match set {
-        Addresses::Prefix(prefix) => is_same(prefix.base().family(), family).then(|| Where::From {
-            low: first_of(prefix),
-            high: last_of(prefix),
-        }),
+        Addresses::Prefix(prefix) => is_same(prefix.base().family(), family).then(|| Where::From(
+            first_of(prefix),
+            last_of(prefix),
+        )),
         Addresses::Range(range) => {
             let both = is_same(range.first().family(), family)
                 && is_same(range.last().family(), family);
-            both.then(|| Where::From {
-                low: bits_of(range.first()),
-                high: bits_of(range.last()),
-            })
+            both.then(|| Where::From(bits_of(range.first()), bits_of(range.last())))
         }
         Addresses::Table(name) => {
             let table = name.as_str();
@@ -120,12 +117,7 @@ fn push_place<'c>(
 {
     let mut tests = Vec::new(place.alloc);
     match place_of(place, family, set) {
-        Some(place) => tests.push(Match::AtAddress {
-            side,
-            family,
-            place,
-            negated,
-        })?,
+        Some(place) => tests.push(Match::AtAddress(side, family, place, negated))?,
         None if negated => {}
         None => return Ok(()),
     }

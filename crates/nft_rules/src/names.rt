@@ -20,14 +20,9 @@ pub fn same_chain<'c>(one: ChainName<'c>, other: ChainName<'c>) -> bool
 {
     match (one, other) {
         (ChainName::Base, ChainName::Base) => true,
-        (ChainName::Base, ChainName::At { .. }) | (ChainName::At { .. }, ChainName::Base) => false,
-        (
-            ChainName::At { pass, path },
-            ChainName::At {
-                pass: wanted,
-                path: place,
-            },
-        ) => same_pass(pass, wanted) && path == place,
+        (ChainName::Base, ChainName::At(_, _)) | (ChainName::At(_, _), ChainName::Base) => false,
+        (ChainName::At(pass, path), ChainName::At(wanted, place)) => same_pass(pass, wanted)
+            && path == place,
     }
 }
 

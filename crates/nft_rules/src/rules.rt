@@ -25,14 +25,8 @@ fn push_rule<'c>(
     }
     match alternative.protocol {
         Protocol::AnyProtocol => {}
-        Protocol::Only(number) => matches.push(Match::OfProtocol {
-            number,
-            negated: false,
-        })?,
-        Protocol::NotTcp => matches.push(Match::OfProtocol {
-            number: 6,
-            negated: true,
-        })?,
+        Protocol::Only(number) => matches.push(Match::OfProtocol(number, false))?,
+        Protocol::NotTcp => matches.push(Match::OfProtocol(6, true))?,
     }
     push_matches(&mut matches, &alternative.tests)?;
     Ok(rules.push(NftRule { matches, statement })?)

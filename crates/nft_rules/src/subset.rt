@@ -69,46 +69,27 @@ pub struct NamedSet<'c> {
 /// A place among addresses.
 #[derive(Clone, Copy)]
 pub enum Where<'c> {
-    /// `low-high`.
-    From { low: u128, high: u128 },
+    /// `low-high`, both included.
+    From(u128, u128),
     /// `@name`.
     InSet(SetName<'c>),
 }
 
-/// An expression that matches (nft(8), PAYLOAD EXPRESSIONS, META EXPRESSIONS).
+/// An expression that matches (nft(8), PAYLOAD EXPRESSIONS, META EXPRESSIONS). A `bool` is whether it is negated.
 #[derive(Clone, Drop)]
 pub enum Match<'c> {
-    /// `iifname { .. }` of packets in, `oifname { .. }` of packets out.
-    OnInterface {
-        names: Rc<Vec<InterfaceName>>,
-        negated: bool,
-    },
+    /// `iifname { .. }` of packets in, `oifname { .. }` of packets out: the names of interfaces.
+    OnInterface(Rc<Vec<InterfaceName>>, bool),
     /// `meta nfproto`.
     OfFamily(Family),
-    /// `meta l4proto`.
-    OfProtocol {
-        number: u8,
-        negated: bool,
-    },
-    /// `ip saddr`, `ip6 saddr`, `ip daddr`, `ip6 daddr`.
-    AtAddress {
-        side: Side,
-        family: Family,
-        place: Where<'c>,
-        negated: bool,
-    },
-    /// `th sport`, `th dport`.
-    AtPort {
-        side: Side,
-        low: u16,
-        high: u16,
-        negated: bool,
-    },
-    /// `tcp flags & mask == value`.
-    WithFlags {
-        mask: TcpFlags,
-        value: TcpFlags,
-    },
+    /// `meta l4proto`: the protocol's number.
+    OfProtocol(u8, bool),
+    /// `ip saddr`, `ip6 saddr`, `ip daddr`, `ip6 daddr`: whose address, of which family, and where it is.
+    AtAddress(Side, Family, Where<'c>, bool),
+    /// `th sport`, `th dport`: whose port, from the first number to the second, both included.
+    AtPort(Side, u16, u16, bool),
+    /// `tcp flags & mask == value`: mask and value.
+    WithFlags(TcpFlags, TcpFlags),
     /// The first byte of an ICMP header: `@th,0,8`.
     OfType(u8),
 }
@@ -119,7 +100,7 @@ pub enum ChainName<'c> {
     /// The chain at the hook.
     Base,
     /// One of the two of a path.
-    At { pass: Pass, path: &'c [Name] },
+    At(Pass, &'c [Name]),
 }
 
 impl<'c> ChainName<'c> {
@@ -127,7 +108,7 @@ impl<'c> ChainName<'c> {
     pub(crate) fn at(pass: Pass, path: &'c [Name]) -> ChainName<'c>
         ensures { chain_name_of result ≡ subset.At pass path.now }
     {
-        ChainName::At { pass, path }
+        ChainName::At(pass, path)
     }
 }
 

@@ -78,7 +78,7 @@ impl<'c> Whole<'_, 'c> {
             ++ place_text self.entry.position (ruleset_of self.entry.parts.now) family (where_of place.entry)) }
     {
         match place {
-            Where::From { low, high } => push_interval(out, family, low, high),
+            Where::From(low, high) => push_interval(out, family, low, high),
             Where::InSet(name) => write!(out, "@{}", SetLabel(self, name)),
         }
     }
@@ -91,7 +91,7 @@ impl<'c> Whole<'_, 'c> {
             (match_of test.now)) }
     {
         match test {
-            Match::OnInterface { names, negated } => {
+            Match::OnInterface(names, negated) => {
                 let what = interface_text(self.direction);
                 write!(out, "{what}{}{{ ", not_text(*negated))?;
                 push_quoted(out, names)?;
@@ -99,30 +99,20 @@ impl<'c> Whole<'_, 'c> {
             }
             Match::OfFamily(Family::Inet) => out.push_str("meta nfproto ipv4 "),
             Match::OfFamily(Family::Inet6) => out.push_str("meta nfproto ipv6 "),
-            Match::OfProtocol { number, negated } => {
+            Match::OfProtocol(number, negated) => {
                 write!(out, "meta l4proto {}{number} ", not_text(*negated))
             }
-            Match::AtAddress {
-                side,
-                family,
-                place,
-                negated,
-            } => {
+            Match::AtAddress(side, family, place, negated) => {
                 let (what, end) = (family_text(*family), address_text(*side));
                 write!(out, "{what}{end}{}", not_text(*negated))?;
                 self.push_place(out, *family, *place)?;
                 out.push_str(" ")
             }
-            Match::AtPort {
-                side,
-                low,
-                high,
-                negated,
-            } => {
+            Match::AtPort(side, low, high, negated) => {
                 let (what, not) = (port_text(*side), not_text(*negated));
                 write!(out, "{what}{not}{low}-{high} ")
             }
-            Match::WithFlags { mask, value } => {
+            Match::WithFlags(mask, value) => {
                 write!(
                     out,
                     "tcp flags & {} == {} ",

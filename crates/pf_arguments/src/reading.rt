@@ -22,8 +22,11 @@ use pf_entry::{Command, EncodeFault, Path, Profile, SomeAddresses, TableName, en
 use pf_rules::is_table_name;
 use std::alloc::{AllocError, Global};
 
+/// What is asked for, or why it is not understood.
+type Answer = Result<Action, CommandFault>;
+
 /// The command, unless no entry of it has a spelling.
-fn change(alloc: Global, command: Command) -> Result<Action, CommandFault>
+fn change(alloc: Global, command: Command) -> Answer
     ensures answer { Answers result (change (command_value command)) }
     ensures short { IfOk result IsShort }
 {
@@ -73,31 +76,19 @@ fn table_given(alloc: Global, given: Given<'_, '_>) -> Result<Option<TableName>,
 }
 
 /// What is done with an anchor as a whole.
-fn whole_action(
-    alloc: Global,
-    operation: AnchorOperation,
-    path: Path,
-    text: &[u8],
-) -> Result<Action, CommandFault>
+fn whole_action(alloc: Global, operation: AnchorOperation, path: Path, text: &[u8]) -> Answer
     ensures answer { Answers result (whole_action operation path text.now) }
     ensures short { IfOk result IsShort }
 {
     match operation {
         AnchorOperation::Load => {
             let text = Vec::from_slice(alloc, text)?;
-            change(
-                alloc,
-                Command::Load {
-                    path,
-                    profile: Profile::Two,
-                    text,
-                },
-            )
+            change(alloc, Command::Load(path, Profile::Two, text))
         }
         AnchorOperation::Check => Ok(Action::CheckOnly(path)),
-        AnchorOperation::FlushRules => change(alloc, Command::FlushRules { path }),
-        AnchorOperation::FlushTables => change(alloc, Command::FlushTables { path }),
-        AnchorOperation::FlushAll => change(alloc, Command::FlushAll { path }),
+        AnchorOperation::FlushRules => change(alloc, Command::FlushRules(path)),
+        AnchorOperation::FlushTables => change(alloc, Command::FlushTables(path)),
+        AnchorOperation::FlushAll => change(alloc, Command::FlushAll(path)),
         AnchorOperation::ShowRules => Ok(Action::ShowRules(path)),
         AnchorOperation::ShowTables => Ok(Action::ShowTables(path)),
         AnchorOperation::ShowAnchors => Ok(Action::ShowAnchors),
@@ -111,7 +102,7 @@ fn table_action(
     path: Path,
     table: TableName,
     addresses: &[&str],
-) -> Result<Action, CommandFault>
+) -> Answer
     requires { may_have operation (length addresses.now) ≡ true }
     ensures answer { Answers result (table_action operation path table (map (λ w. w.now) addresses.now)) }
     ensures short { IfOk result IsShort }
@@ -120,39 +111,18 @@ fn table_action(
         TableOperation::Add => {
             let items = entries(alloc, addresses)?;
             let addresses = SomeAddresses { items };
-            change(
-                alloc,
-                Command::Add {
-                    path,
-                    table,
-                    addresses,
-                },
-            )
+            change(alloc, Command::Add(path, table, addresses))
         }
         TableOperation::Delete => {
             let items = entries(alloc, addresses)?;
             let addresses = SomeAddresses { items };
-            change(
-                alloc,
-                Command::Delete {
-                    path,
-                    table,
-                    addresses,
-                },
-            )
+            change(alloc, Command::Delete(path, table, addresses))
         }
         TableOperation::Replace => {
             let addresses = entries(alloc, addresses)?;
-            change(
-                alloc,
-                Command::Replace {
-                    path,
-                    table,
-                    addresses,
-                },
-            )
+            change(alloc, Command::Replace(path, table, addresses))
         }
-        TableOperation::Flush => change(alloc, Command::FlushTable { path, table }),
+        TableOperation::Flush => change(alloc, Command::FlushTable(path, table)),
         TableOperation::Show => Ok(Action::TableShow(path, table)),
         TableOperation::Test => {
             let list = read_addresses(alloc, addresses)?;
@@ -168,7 +138,7 @@ fn whole_asked(
     operation: AnchorOperation,
     given: Given<'_, '_>,
     text: &[u8],
-) -> Result<Action, CommandFault>
+) -> Answer
     ensures answer { Answers result (whole_asked operation (given_of given.entry) text.now) }
     ensures first { whole_asked operation (given_of given.entry) text.now ≡ Err Usage → result ≡ Err Usage }
     ensures short { IfOk result IsShort }
@@ -183,11 +153,7 @@ fn whole_asked(
 /// The action of an operation on a table: `-t` names the table, and there are as many addresses as the operation may
 /// have.
 #[tactic(auto, using(crate::proofs::NeverUsage::never_table))]
-fn table_asked(
-    alloc: Global,
-    operation: TableOperation,
-    given: Given<'_, '_>,
-) -> Result<Action, CommandFault>
+fn table_asked(alloc: Global, operation: TableOperation, given: Given<'_, '_>) -> Answer
     ensures answer { Answers result (table_asked operation (table_given (given_of given.entry)) (given_of given.entry)) }
     ensures first { table_asked operation (table_given (given_of given.entry)) (given_of given.entry) ≡ Err Usage →
         result ≡ Err Usage }

@@ -65,37 +65,25 @@ impl fmt::Display for CommandArguments<'_> {
     #[tactic(auto, using(crate::proofs::EntryTexts::addresses_are))]
     fn fmt<W: fmt::Write>(&self, f: &mut fmt::Formatter<W>) -> fmt::Result {
         match self.0 {
-            Command::Load { path, text, .. } => {
+            Command::Load(path, _, text) => {
                 write!(f, "{}-f - ({})", PathArguments(path.names()), text.len())
             }
-            Command::FlushRules { path } => write!(f, "{}-F rules", PathArguments(path.names())),
-            Command::FlushTables { path } => write!(f, "{}-F Tables", PathArguments(path.names())),
-            Command::FlushAll { path } => write!(f, "{}-F all", PathArguments(path.names())),
-            Command::Add {
-                path,
-                table,
-                addresses,
-            } => {
+            Command::FlushRules(path) => write!(f, "{}-F rules", PathArguments(path.names())),
+            Command::FlushTables(path) => write!(f, "{}-F Tables", PathArguments(path.names())),
+            Command::FlushAll(path) => write!(f, "{}-F all", PathArguments(path.names())),
+            Command::Add(path, table, addresses) => {
                 let words = table_arguments(path, table, "add");
                 write!(f, "{words}{}", Entries(&addresses.items))
             }
-            Command::Delete {
-                path,
-                table,
-                addresses,
-            } => {
+            Command::Delete(path, table, addresses) => {
                 let words = table_arguments(path, table, "delete");
                 write!(f, "{words}{}", Entries(&addresses.items))
             }
-            Command::Replace {
-                path,
-                table,
-                addresses,
-            } => {
+            Command::Replace(path, table, addresses) => {
                 let words = table_arguments(path, table, "replace");
                 write!(f, "{words}{}", Entries(addresses))
             }
-            Command::FlushTable { path, table } => {
+            Command::FlushTable(path, table) => {
                 write!(f, "{}", table_arguments(path, table, "flush"))
             }
         }

@@ -16,6 +16,9 @@ use pf_grammar::{ParseFault, Place, parse};
 use pf_rules::{Name, Path, Profile, TableEntry, TableName};
 use std::alloc::{AllocError, Global};
 
+/// What a command did, or why it did nothing.
+type Done = Result<Applied, ApplyFault>;
+
 /// How many entries, with their signs, were added to a command's table and removed from it; 0 and 0 for loads and for
 /// flushes of rules or of all tables.
 #[derive(Clone, Copy, PartialEq, Eq)]
@@ -33,7 +36,7 @@ const NOTHING: Applied = Applied {
 };
 
 /// The answer of a command whose change is made, or refused.
-fn answered(changed: Result<(), ConfigFault>, counts: Applied) -> Result<Applied, ApplyFault>
+fn answered(changed: Result<(), ConfigFault>, counts: Applied) -> Done
     ensures { result ≡ answer_of changed counts }
 {
     changed.map_err(|fault| ApplyFault::of_change(fault))?;
@@ -53,13 +56,7 @@ pub fn place_at(path: &[Name]) -> Place
 
 /// Loads a ruleset.
 #[tactic(auto, using(crate::proofs::Applying::uncounted_applies))]
-fn load_text(
-    alloc: Global,
-    config: &mut Config,
-    path: &Path,
-    profile: Profile,
-    text: &[u8],
-) -> Result<Applied, ApplyFault>
+fn load_text(alloc: Global, config: &mut Config, path: &Path, profile: Profile, text: &[u8]) -> Done
     ensures { Applies result config.old config.new
         (loaded config.old path.now (reading (place_at path.now) profile text.now)) }
 {
@@ -72,12 +69,7 @@ fn load_text(
 
 /// Puts entries into a table.
 #[tactic(auto, using(crate::proofs::Applying::add_applies))]
-fn add(
-    config: &mut Config,
-    path: &Path,
-    name: &TableName,
-    list: &[TableEntry],
-) -> Result<Applied, ApplyFault>
+fn add(config: &mut Config, path: &Path, name: &TableName, list: &[TableEntry]) -> Done
     ensures { Applies result config.old config.new
         (counted config.old path.now name.now (change.add config.old path.now name.now list.now)) }
 {
@@ -89,12 +81,7 @@ fn add(
 
 /// Takes entries out of a table.
 #[tactic(auto, using(crate::proofs::Applying::delete_applies))]
-fn delete(
-    config: &mut Config,
-    path: &Path,
-    name: &TableName,
-    list: &[TableEntry],
-) -> Result<Applied, ApplyFault>
+fn delete(config: &mut Config, path: &Path, name: &TableName, list: &[TableEntry]) -> Done
     ensures { Applies result config.old config.new
         (counted config.old path.now name.now (change.delete config.old path.now name.now list.now)) }
 {
@@ -112,7 +99,7 @@ fn replace(
     path: &Path,
     name: &TableName,
     list: &[TableEntry],
-) -> Result<Applied, ApplyFault>
+) -> Done
     ensures { Applies result config.old config.new
         (counted config.old path.now name.now (change.replace config.old path.now name.now list.now)) }
 {
@@ -122,7 +109,7 @@ fn replace(
 
 /// Empties a table.
 #[tactic(auto, using(crate::proofs::Applying::flush_applies))]
-fn flush_table(config: &mut Config, path: &Path, name: &TableName) -> Result<Applied, ApplyFault>
+fn flush_table(config: &mut Config, path: &Path, name: &TableName) -> Done
     ensures { Applies result config.old config.new
         (counted config.old path.now name.now (change.flush_table config.old path.now name.now)) }
 {
@@ -150,57 +137,41 @@ pub fn apply(
         (after_command config.old (command_of command.now)) }
 {
     match command {
-        CommandView::Load {
-            path,
-            profile,
-            text,
-        } => {
+        CommandView::Load(path, profile, text) => {
             let path = path_owned(alloc, path)?;
             load_text(alloc, config, &path, *profile, text)
         }
-        CommandView::FlushRules { path } => {
+        CommandView::FlushRules(path) => {
             let path = path_owned(alloc, path)?;
             answered(config.flush_rules(&path), NOTHING)
         }
-        CommandView::FlushTables { path } => {
+        CommandView::FlushTables(path) => {
             let path = path_owned(alloc, path)?;
             answered(config.flush_tables(&path), NOTHING)
         }
-        CommandView::FlushAll { path } => {
+        CommandView::FlushAll(path) => {
             let path = path_owned(alloc, path)?;
             answered(config.flush_all(&path), NOTHING)
         }
-        CommandView::Add {
-            path,
-            table,
-            addresses,
-        } => {
+        CommandView::Add(path, table, addresses) => {
             let path = path_owned(alloc, path)?;
             let table = table_owned(alloc, table)?;
             let list = addresses_owned(alloc, &addresses.items)?;
             add(config, &path, &table, &list)
         }
-        CommandView::Delete {
-            path,
-            table,
-            addresses,
-        } => {
+        CommandView::Delete(path, table, addresses) => {
             let path = path_owned(alloc, path)?;
             let table = table_owned(alloc, table)?;
             let list = addresses_owned(alloc, &addresses.items)?;
             delete(config, &path, &table, &list)
         }
-        CommandView::Replace {
-            path,
-            table,
-            addresses,
-        } => {
+        CommandView::Replace(path, table, addresses) => {
             let path = path_owned(alloc, path)?;
             let table = table_owned(alloc, table)?;
             let list = addresses_owned(alloc, addresses)?;
             replace(alloc, config, &path, &table, &list)
         }
-        CommandView::FlushTable { path, table } => {
+        CommandView::FlushTable(path, table) => {
             let path = path_owned(alloc, path)?;
             let table = table_owned(alloc, table)?;
             flush_table(config, &path, &table)

@@ -52,7 +52,7 @@ pub fn push_change(script: &mut Vec<u8>, command: &Command) -> Result<(), AllocE
     ensures { OnOk result (script.new.items ≡ script.old.items ++ change_lines (command_value command.now)) }
 {
     match command {
-        Command::Load { path, text, .. } => push_load(script, path.names(), text),
+        Command::Load(path, _, text) => push_load(script, path.names(), text),
         _ => {
             let line = format!(in *script.allocator(); "pfctl {}\n", CommandArguments(command))?;
             script.extend_from_slice(line.as_bytes())

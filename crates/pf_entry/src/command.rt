@@ -18,95 +18,37 @@ impl Drop for SomeAddresses {
     }
 }
 
-/// A change of the configuration, with the path of the anchor that it changes.
+/// A change of the configuration; the first of each is the path of the anchor that it changes.
 pub enum Command {
-    /// Reads a ruleset by a profile, and makes it the anchor's rules and tables.
-    Load {
-        /// The anchor.
-        path: Path,
-        /// How the text is read.
-        profile: Profile,
-        /// The text, any bytes.
-        text: Vec<u8>,
-    },
+    /// Reads a ruleset by a profile, and makes it the anchor's rules and tables. The text may be any bytes.
+    Load(Path, Profile, Vec<u8>),
     /// Takes the anchor's rules away.
-    FlushRules {
-        /// The anchor.
-        path: Path,
-    },
+    FlushRules(Path),
     /// Takes the anchor's tables away.
-    FlushTables {
-        /// The anchor.
-        path: Path,
-    },
+    FlushTables(Path),
     /// Takes both away.
-    FlushAll {
-        /// The anchor.
-        path: Path,
-    },
+    FlushAll(Path),
     /// Adds addresses to a table.
-    Add {
-        /// The anchor.
-        path: Path,
-        /// The table.
-        table: TableName,
-        /// What is added.
-        addresses: SomeAddresses,
-    },
+    Add(Path, TableName, SomeAddresses),
     /// Takes addresses from a table.
-    Delete {
-        /// The anchor.
-        path: Path,
-        /// The table.
-        table: TableName,
-        /// What is taken.
-        addresses: SomeAddresses,
-    },
+    Delete(Path, TableName, SomeAddresses),
     /// Makes a table of these addresses alone.
-    Replace {
-        /// The anchor.
-        path: Path,
-        /// The table.
-        table: TableName,
-        /// What the table has then.
-        addresses: Vec<TableEntry>,
-    },
+    Replace(Path, TableName, Vec<TableEntry>),
     /// Empties a table.
-    FlushTable {
-        /// The anchor.
-        path: Path,
-        /// The table.
-        table: TableName,
-    },
+    FlushTable(Path, TableName),
 }
 
 impl Drop for Command {
     fn drop(self) {
         match self {
-            Command::Load {
-                path: _,
-                profile: _,
-                text: _,
-            } => {}
-            Command::FlushRules { path: _ } => {}
-            Command::FlushTables { path: _ } => {}
-            Command::FlushAll { path: _ } => {}
-            Command::Add {
-                path: _,
-                table: _,
-                addresses: _,
-            } => {}
-            Command::Delete {
-                path: _,
-                table: _,
-                addresses: _,
-            } => {}
-            Command::Replace {
-                path: _,
-                table: _,
-                addresses: _,
-            } => {}
-            Command::FlushTable { path: _, table: _ } => {}
+            Command::Load(_, _, _) => {}
+            Command::FlushRules(_) => {}
+            Command::FlushTables(_) => {}
+            Command::FlushAll(_) => {}
+            Command::Add(_, _, _) => {}
+            Command::Delete(_, _, _) => {}
+            Command::Replace(_, _, _) => {}
+            Command::FlushTable(_, _) => {}
         }
     }
 }

@@ -75,77 +75,31 @@ fn some_owned(alloc: Global, list: &SomeAddressesView) -> Result<SomeAddresses, 
 fn command_owned(alloc: Global, command: &CommandView) -> Result<Command, AllocError>
     ensures { IfOk result (λ c. command_value c ≡ command_of command.now) }
 {
-    match command {
-        CommandView::Load {
-            path,
-            profile,
-            text,
-        } => {
+    Ok(match command {
+        CommandView::Load(path, profile, text) => {
             let path = path_owned(alloc, path)?;
-            let text = Vec::from_slice(alloc, text)?;
-            Ok(Command::Load {
-                path,
-                profile: *profile,
-                text,
-            })
+            Command::Load(path, *profile, Vec::from_slice(alloc, text)?)
         }
-        CommandView::FlushRules { path } => Ok(Command::FlushRules {
-            path: path_owned(alloc, path)?,
-        }),
-        CommandView::FlushTables { path } => Ok(Command::FlushTables {
-            path: path_owned(alloc, path)?,
-        }),
-        CommandView::FlushAll { path } => Ok(Command::FlushAll {
-            path: path_owned(alloc, path)?,
-        }),
-        CommandView::Add {
-            path,
-            table,
-            addresses,
-        } => {
-            let path = path_owned(alloc, path)?;
-            let table = table_owned(alloc, table)?;
-            let addresses = some_owned(alloc, addresses)?;
-            Ok(Command::Add {
-                path,
-                table,
-                addresses,
-            })
+        CommandView::FlushRules(path) => Command::FlushRules(path_owned(alloc, path)?),
+        CommandView::FlushTables(path) => Command::FlushTables(path_owned(alloc, path)?),
+        CommandView::FlushAll(path) => Command::FlushAll(path_owned(alloc, path)?),
+        CommandView::Add(path, table, addresses) => {
+            let (path, table) = (path_owned(alloc, path)?, table_owned(alloc, table)?);
+            Command::Add(path, table, some_owned(alloc, addresses)?)
         }
-        CommandView::Delete {
-            path,
-            table,
-            addresses,
-        } => {
-            let path = path_owned(alloc, path)?;
-            let table = table_owned(alloc, table)?;
-            let addresses = some_owned(alloc, addresses)?;
-            Ok(Command::Delete {
-                path,
-                table,
-                addresses,
-            })
+        CommandView::Delete(path, table, addresses) => {
+            let (path, table) = (path_owned(alloc, path)?, table_owned(alloc, table)?);
+            Command::Delete(path, table, some_owned(alloc, addresses)?)
         }
-        CommandView::Replace {
-            path,
-            table,
-            addresses,
-        } => {
-            let path = path_owned(alloc, path)?;
-            let table = table_owned(alloc, table)?;
-            let addresses = addresses_owned(alloc, addresses)?;
-            Ok(Command::Replace {
-                path,
-                table,
-                addresses,
-            })
+        CommandView::Replace(path, table, addresses) => {
+            let (path, table) = (path_owned(alloc, path)?, table_owned(alloc, table)?);
+            Command::Replace(path, table, addresses_owned(alloc, addresses)?)
         }
-        CommandView::FlushTable { path, table } => {
-            let path = path_owned(alloc, path)?;
-            let table = table_owned(alloc, table)?;
-            Ok(Command::FlushTable { path, table })
-        }
-    }
+        CommandView::FlushTable(path, table) => Command::FlushTable(
+            path_owned(alloc, path)?,
+            table_owned(alloc, table)?,
+        ),
+    })
 }
 
 impl EntryView<'_> {

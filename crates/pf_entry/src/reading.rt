@@ -221,14 +221,7 @@ fn load_at<'a>(
 {
     let (count, rest) = u32_at(bytes)?;
     let (text, rest) = text_at(count as usize, rest)?;
-    Some((
-        CommandView::Load {
-            path,
-            profile,
-            text,
-        },
-        rest,
-    ))
+    Some((CommandView::Load(path, profile, text), rest))
 }
 
 /// A table and its addresses.
@@ -248,11 +241,7 @@ fn add_at<'a>(path: Names<'a>, bytes: &'a [u8]) -> Option<(CommandView<'a>, &'a 
 {
     let (table, addresses, rest) = change_at(1, bytes)?;
     Some((
-        CommandView::Add {
-            path,
-            table,
-            addresses: SomeAddressesView { items: addresses },
-        },
+        CommandView::Add(path, table, SomeAddressesView { items: addresses }),
         rest,
     ))
 }
@@ -263,11 +252,7 @@ fn delete_at<'a>(path: Names<'a>, bytes: &'a [u8]) -> Option<(CommandView<'a>, &
 {
     let (table, addresses, rest) = change_at(1, bytes)?;
     Some((
-        CommandView::Delete {
-            path,
-            table,
-            addresses: SomeAddressesView { items: addresses },
-        },
+        CommandView::Delete(path, table, SomeAddressesView { items: addresses }),
         rest,
     ))
 }
@@ -277,14 +262,7 @@ fn replace_at<'a>(path: Names<'a>, bytes: &'a [u8]) -> Option<(CommandView<'a>, 
     ensures { option_map (λ x. (command_of x.0, x.1.now)) result ≡ replace_at (names_of path.entry) bytes.now }
 {
     let (table, addresses, rest) = change_at(0, bytes)?;
-    Some((
-        CommandView::Replace {
-            path,
-            table,
-            addresses,
-        },
-        rest,
-    ))
+    Some((CommandView::Replace(path, table, addresses), rest))
 }
 
 #[tactic(auto, unfolding(crate::specs::Reading::flush_table_at))]
@@ -292,7 +270,7 @@ fn flush_table_at<'a>(path: Names<'a>, bytes: &'a [u8]) -> Option<(CommandView<'
     ensures { option_map (λ x. (command_of x.0, x.1.now)) result ≡ flush_table_at (names_of path.entry) bytes.now }
 {
     let (table, rest) = table_at(bytes)?;
-    Some((CommandView::FlushTable { path, table }, rest))
+    Some((CommandView::FlushTable(path, table), rest))
 }
 
 /// What follows the path, by format and kind.
@@ -309,9 +287,9 @@ fn rest_at<'a>(
     match (format, kind) {
         (1, 1) => load_at(Profile::One, path, bytes),
         (2, 1) => load_at(Profile::Two, path, bytes),
-        (1, 2) => Some((CommandView::FlushRules { path }, bytes)),
-        (1, 3) => Some((CommandView::FlushTables { path }, bytes)),
-        (1, 4) => Some((CommandView::FlushAll { path }, bytes)),
+        (1, 2) => Some((CommandView::FlushRules(path), bytes)),
+        (1, 3) => Some((CommandView::FlushTables(path), bytes)),
+        (1, 4) => Some((CommandView::FlushAll(path), bytes)),
         (1, 5) => add_at(path, bytes),
         (1, 6) => delete_at(path, bytes),
         (1, 7) => replace_at(path, bytes),

@@ -42,67 +42,26 @@ pub struct SomeAddressesView<'a> {
     ghost some: { 0 < items.count },
 }
 
-/// A command with its path. Names, addresses and text are in the bytes that were read.
+/// A command; the first of each is its anchor's path. Names, addresses and text are in the bytes that were read, the
+/// addresses in their order.
 #[derive(Clone, Copy)]
 pub enum CommandView<'a> {
-    /// A ruleset becomes the anchor's rules and tables.
-    Load {
-        /// The anchor's path.
-        path: Names<'a>,
-        /// How the text is read.
-        profile: Profile,
-        /// The text.
-        text: &'a [u8],
-    },
+    /// A ruleset, read by a profile, becomes the anchor's rules and tables.
+    Load(Names<'a>, Profile, &'a [u8]),
     /// The anchor's rules go.
-    FlushRules {
-        /// The anchor's path.
-        path: Names<'a>,
-    },
+    FlushRules(Names<'a>),
     /// The anchor's tables go.
-    FlushTables {
-        /// The anchor's path.
-        path: Names<'a>,
-    },
+    FlushTables(Names<'a>),
     /// Both go.
-    FlushAll {
-        /// The anchor's path.
-        path: Names<'a>,
-    },
+    FlushAll(Names<'a>),
     /// Addresses are added to a table.
-    Add {
-        /// The anchor's path.
-        path: Names<'a>,
-        /// The table's name.
-        table: TableNameView<'a>,
-        /// The addresses, in their order.
-        addresses: SomeAddressesView<'a>,
-    },
+    Add(Names<'a>, TableNameView<'a>, SomeAddressesView<'a>),
     /// Addresses go from a table.
-    Delete {
-        /// The anchor's path.
-        path: Names<'a>,
-        /// The table's name.
-        table: TableNameView<'a>,
-        /// The addresses, in their order.
-        addresses: SomeAddressesView<'a>,
-    },
+    Delete(Names<'a>, TableNameView<'a>, SomeAddressesView<'a>),
     /// A table has these addresses alone.
-    Replace {
-        /// The anchor's path.
-        path: Names<'a>,
-        /// The table's name.
-        table: TableNameView<'a>,
-        /// The addresses, in their order.
-        addresses: Addresses<'a>,
-    },
+    Replace(Names<'a>, TableNameView<'a>, Addresses<'a>),
     /// A table is emptied.
-    FlushTable {
-        /// The anchor's path.
-        path: Names<'a>,
-        /// The table's name.
-        table: TableNameView<'a>,
-    },
+    FlushTable(Names<'a>, TableNameView<'a>),
 }
 
 /// A command, who asked for it (a member, or 255), and its number there, below 2^48.

@@ -102,10 +102,7 @@ fn format_of(command: &Command) -> u8
     ensures { result ≡ format (command_value command.now) }
 {
     match command {
-        Command::Load {
-            profile: Profile::Two,
-            ..
-        } => 2,
+        Command::Load(_, Profile::Two, _) => 2,
         _ => 1,
     }
 }
@@ -114,14 +111,14 @@ fn kind_of(command: &Command) -> u8
     ensures { result ≡ kind (command_value command.now) }
 {
     match command {
-        Command::Load { .. } => 1,
-        Command::FlushRules { .. } => 2,
-        Command::FlushTables { .. } => 3,
-        Command::FlushAll { .. } => 4,
-        Command::Add { .. } => 5,
-        Command::Delete { .. } => 6,
-        Command::Replace { .. } => 7,
-        Command::FlushTable { .. } => 8,
+        Command::Load(_, _, _) => 1,
+        Command::FlushRules(_) => 2,
+        Command::FlushTables(_) => 3,
+        Command::FlushAll(_) => 4,
+        Command::Add(_, _, _) => 5,
+        Command::Delete(_, _, _) => 6,
+        Command::Replace(_, _, _) => 7,
+        Command::FlushTable(_, _) => 8,
     }
 }
 
@@ -130,11 +127,11 @@ pub(crate) fn is_long(command: &Command) -> bool
     ensures { result ≡ is_long (command_value command.now) }
 {
     match command {
-        Command::Load { text, .. } => text.len() > ENTRY_BYTES,
-        Command::Add { addresses, .. } | Command::Delete { addresses, .. } => {
+        Command::Load(_, _, text) => text.len() > ENTRY_BYTES,
+        Command::Add(_, _, addresses) | Command::Delete(_, _, addresses) => {
             addresses.items.len() > ADDRESSES
         }
-        Command::Replace { addresses, .. } => addresses.len() > ADDRESSES,
+        Command::Replace(_, _, addresses) => addresses.len() > ADDRESSES,
         _ => false,
     }
 }
@@ -143,14 +140,14 @@ fn path_of(command: &Command) -> &Path
     ensures { result.now ≡ path_of (command_value command.now) }
 {
     match command {
-        Command::Load { path, .. }
-        | Command::FlushRules { path }
-        | Command::FlushTables { path }
-        | Command::FlushAll { path }
-        | Command::Add { path, .. }
-        | Command::Delete { path, .. }
-        | Command::Replace { path, .. }
-        | Command::FlushTable { path, .. } => path,
+        Command::Load(path, _, _)
+        | Command::FlushRules(path)
+        | Command::FlushTables(path)
+        | Command::FlushAll(path)
+        | Command::Add(path, _, _)
+        | Command::Delete(path, _, _)
+        | Command::Replace(path, _, _)
+        | Command::FlushTable(path, _) => path,
     }
 }
 
@@ -181,26 +178,15 @@ fn put_rest(out: &mut Vec<u8>, command: &Command) -> Result<(), AllocError>
     ensures bytes { OnOk result (out.new.items ≡ out.old.items ++ rest (command_value command.now)) }
 {
     match command {
-        Command::Load { text, .. } => put_text(out, text),
-        Command::FlushRules { .. } | Command::FlushTables { .. } | Command::FlushAll { .. } => {
-            Ok(())
-        }
-        Command::Add {
+        Command::Load(_, _, text) => put_text(out, text),
+        Command::FlushRules(_) | Command::FlushTables(_) | Command::FlushAll(_) => { Ok(()) }
+        Command::Add(_, table, addresses) | Command::Delete(_, table, addresses) => put_change(
+            out,
             table,
-            addresses,
-            ..
-        }
-        | Command::Delete {
-            table,
-            addresses,
-            ..
-        } => put_change(out, table, &addresses.items),
-        Command::Replace {
-            table,
-            addresses,
-            ..
-        } => put_change(out, table, addresses),
-        Command::FlushTable { table, .. } => put_table(out, table),
+            &addresses.items,
+        ),
+        Command::Replace(_, table, addresses) => put_change(out, table, addresses),
+        Command::FlushTable(_, table) => put_table(out, table),
     }
 }
 

@@ -28,10 +28,10 @@ pub fn is_counted(command: &CommandView) -> bool
     ensures { result ≡ is_counted (command_of command.now) }
 {
     match command {
-        CommandView::Load { .. }
-        | CommandView::FlushRules { .. }
-        | CommandView::FlushTables { .. }
-        | CommandView::FlushAll { .. } => false,
+        CommandView::Load(_, _, _)
+        | CommandView::FlushRules(_)
+        | CommandView::FlushTables(_)
+        | CommandView::FlushAll(_) => false,
         _ => true,
     }
 }

@@ -40,12 +40,8 @@ fn refusal(to: u8, ballot: u64, position: u32, promised: u64) -> Plan
       next = Next.Same;
     } }
 {
-    let message = Message::Nack {
-        ballot,
-        position,
-        promised,
-    };
-    Plan::new(None, Sends::One { to, message }, Next::Same)
+    let message = Message::Nack(ballot, position, promised);
+    Plan::new(None, Sends::One(to, message), Next::Same)
 }
 
 impl Acceptor<'_> {
@@ -69,13 +65,9 @@ impl Acceptor<'_> {
             return Ok(refusal(to, ballot, position, promised));
         }
         let accepted = share_proposal(&self.slot.accepted)?;
-        let message = Message::Promise {
-            ballot,
-            position,
-            accepted,
-        };
-        let change = Some(Change::Promised { position, ballot });
-        Ok(Plan::new(change, Sends::One { to, message }, Next::Same))
+        let message = Message::Promise(ballot, position, accepted);
+        let change = Some(Change::Promised(position, ballot));
+        Ok(Plan::new(change, Sends::One(to, message), Next::Same))
     }
 
     /// A prepare request for all positions. From the top on nothing is accepted.
@@ -92,14 +84,9 @@ impl Acceptor<'_> {
             return Ok(refusal(to, ballot, position, promised));
         }
         let accepted = share_proposal(&self.slot.accepted)?;
-        let message = Message::PromiseAll {
-            ballot,
-            position,
-            top: self.top,
-            accepted,
-        };
-        let change = Some(Change::Floor { ballot });
-        Ok(Plan::new(change, Sends::One { to, message }, Next::Same))
+        let message = Message::PromiseAll(ballot, position, self.top, accepted);
+        let change = Some(Change::Floor(ballot));
+        Ok(Plan::new(change, Sends::One(to, message), Next::Same))
     }
 
     /// An accept request.
@@ -123,16 +110,8 @@ impl Acceptor<'_> {
             return Ok(refusal(to, ballot, position, promised));
         }
         let accepted = Entry::from_view(alloc, entry)?;
-        let message = Message::Vote {
-            ballot,
-            position,
-            entry: accepted.share()?,
-        };
-        let change = Some(Change::Accepted {
-            position,
-            ballot,
-            entry: accepted,
-        });
-        Ok(Plan::new(change, Sends::All { message }, Next::Same))
+        let message = Message::Vote(ballot, position, accepted.share()?);
+        let change = Some(Change::Accepted(position, ballot, accepted));
+        Ok(Plan::new(change, Sends::All(message), Next::Same))
     }
 }

@@ -40,16 +40,12 @@ impl Core {
         let attempt = Attempt {
             position,
             ballot,
-            phase: Phase::Preparing {
-                counted: [false; 15],
-                top: 0,
-                best: None,
-            },
+            phase: Phase::Preparing([false; 15], 0, None),
         };
-        let message = Message::PrepareAll { ballot, position };
+        let message = Message::PrepareAll(ballot, position);
         let next = Next::Leads(Some(attempt), None);
-        let change = Some(Change::Round { round });
-        Ok(Plan::new(change, Sends::All { message }, next))
+        let change = Some(Change::Round(round));
+        Ok(Plan::new(change, Sends::All(message), next))
     }
 
     /// The entry is proposed by the lead, which needs no phase 1, if it has reached the front, else a round begins.
@@ -88,8 +84,8 @@ impl Core {
             return Ok(Plan::idle());
         }
         let [first, ..] = self.proposer.waiting.as_slice() else {
-            let message = Message::Need { position };
-            return Ok(Plan::new(None, Sends::All { message }, Next::Same));
+            let message = Message::Need(position);
+            return Ok(Plan::new(None, Sends::All(message), Next::Same));
         };
         self.propose(meta, first)
     }
@@ -110,7 +106,7 @@ impl Core {
         }
         let entry = Entry::named(self.alloc, entry, self.me, meta.number)?;
         let number = meta.number + 1;
-        let change = Some(Change::Number { number });
+        let change = Some(Change::Number(number));
         Ok(Plan::new(change, Sends::Nothing, Next::Waits(entry)))
     }
 
@@ -127,8 +123,8 @@ impl Core {
         let number = meta.number;
         let code = match self.ask(meta, entry) {
             Ok(plan) => {
-                let message = Message::Asked { token, number };
-                let sends = Sends::One { to: 255, message };
+                let message = Message::Asked(token, number);
+                let sends = Sends::One(255, message);
                 return Ok(Plan { sends, ..plan });
             }
             Err(CoreFault::Memory) => return Err(AllocError),
@@ -136,7 +132,7 @@ impl Core {
             Err(CoreFault::BallotsSpent) => 61,
             Err(CoreFault::PositionsSpent) => 62,
         };
-        let message = Message::AskRefused { token, code };
-        Ok(Plan::new(None, Sends::One { to: 255, message }, Next::Same))
+        let message = Message::AskRefused(token, code);
+        Ok(Plan::new(None, Sends::One(255, message), Next::Same))
     }
 }

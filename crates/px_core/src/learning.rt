@@ -93,7 +93,7 @@ impl Core {
         }
         let learned = Entry::from_view(self.alloc, entry)?;
         let entry = learned.share()?;
-        let change = Some(Change::Learned { position, entry });
+        let change = Some(Change::Learned(position, entry));
         let next = Next::KeepsLearns(position, from, ballot, learned);
         Ok(Plan::new(change, Sends::Nothing, next))
     }
@@ -112,7 +112,7 @@ impl Core {
         }
         let learned = Entry::from_view(self.alloc, entry)?;
         let entry = learned.share()?;
-        let change = Some(Change::Learned { position, entry });
+        let change = Some(Change::Learned(position, entry));
         let next = Next::Learns(position, learned);
         Ok(Plan::new(change, Sends::Nothing, next))
     }
@@ -129,7 +129,7 @@ impl Core {
             return Ok(Plan::idle());
         };
         let entry = entry.share()?;
-        let message = Message::Learned { position, entry };
-        Ok(Plan::new(None, Sends::One { to, message }, Next::Same))
+        let message = Message::Learned(position, entry);
+        Ok(Plan::new(None, Sends::One(to, message), Next::Same))
     }
 }

@@ -165,14 +165,14 @@ impl Core {
     pub fn takes(&self, event: &Event) -> bool
         ensures { IsTrue result ↔ MayCome (state_of self.now).members event.now }
     {
-        let Event::Comes { sender, message } = event else {
+        let Event::Comes(sender, message) = event else {
             return true;
         };
         match message {
-            Message::PromiseAll { position, .. } => {
+            Message::PromiseAll(_, position, _, _) => {
                 *sender < self.members && *position < POSITIONS
             }
-            Message::Vote { .. } => *sender < self.members,
+            Message::Vote(_, _, _) => *sender < self.members,
             _ => true,
         }
     }

@@ -17,11 +17,7 @@ pub(crate) type PlanResult = Result<Plan, AllocError>;
 /// Source: Paxos Made Simple, 2.2.
 #[derive(Drop)]
 pub enum Phase {
-    Preparing {
-        counted: [bool; 15],
-        top: u32,
-        best: Option<Proposal<Entry>>,
-    },
+    Preparing([bool; 15], u32, Option<Proposal<Entry>>),
     Accepting(Entry),
 }
 
@@ -51,11 +47,7 @@ pub enum Next {
     /// Attempt and lead are these.
     Leads(Option<Attempt>, Option<Lead>),
     /// Attempt and lead are dropped where these are true, and this is the highest round heard of.
-    Drops {
-        attempt: bool,
-        lead: bool,
-        seen: u64,
-    },
+    Drops(bool, bool, u64),
     /// At a position a member's vote is kept, which is for this ballot.
     Keeps(u32, u8, u64),
     /// At a position an entry is learned.
@@ -69,18 +61,10 @@ pub enum Next {
 pub enum Sends {
     /// Nothing.
     Nothing,
-    /// A message to one.
-    One {
-        /// The member, or 255 for a client.
-        to: u8,
-        /// The message.
-        message: Message<Entry>,
-    },
+    /// A message to one: the member, or 255 for a client.
+    One(u8, Message<Entry>),
     /// One message to every member, in the order of their numbers, the sender among them.
-    All {
-        /// The message.
-        message: Message<Entry>,
-    },
+    All(Message<Entry>),
 }
 
 /// What a member does: it commits the change, if there is one, settles, and only then sends.

@@ -26,7 +26,7 @@ impl Core {
         ensures members { (self.new.members ≡ self.old.members) × (self.new.me ≡ self.old.me) }
     {
         match message {
-            Message::Vote { position, .. } | Message::Learned { position, .. } => {
+            Message::Vote(_, position, _) | Message::Learned(position, _) => {
                 if !self.learner.is_in_window(*position) {
                     return Ok(());
                 }
@@ -48,35 +48,24 @@ impl Core {
             (come_of message.now)) }
     {
         match message {
-            Message::Prepare { ballot, position } => acceptor.prepare(from, *ballot, *position),
-            Message::PrepareAll { ballot, position } => {
+            Message::Prepare(ballot, position) => acceptor.prepare(from, *ballot, *position),
+            Message::PrepareAll(ballot, position) => {
                 acceptor.prepare_all(from, *ballot, *position)
             }
-            Message::Accept {
-                ballot,
-                position,
-                entry,
-            } => acceptor.accept(self.alloc, from, *ballot, *position, entry),
-            Message::PromiseAll {
-                ballot,
-                position,
-                top,
-                accepted,
-            } => self.promise_all(from, *ballot, *position, *top, accepted),
-            Message::Nack {
-                ballot,
-                position,
-                promised,
-            } => Ok(self.proposer.nack(*ballot, *position, *promised)),
-            Message::Vote {
-                ballot,
-                position,
-                entry,
-            } => self.vote(from, *ballot, *position, entry),
-            Message::Learned { position, entry } => self.learned_from(*position, entry),
-            Message::Need { position } => self.need(from, *position),
-            Message::Ask { entry } => self.ask_from(acceptor.meta, entry),
-            Message::Promise { .. } | Message::Asked { .. } | Message::AskRefused { .. } => {
+            Message::Accept(ballot, position, entry) => acceptor.accept(
+                self.alloc, from, *ballot, *position, entry,
+            ),
+            Message::PromiseAll(ballot, position, top, accepted) => self.promise_all(
+                from, *ballot, *position, *top, accepted,
+            ),
+            Message::Nack(ballot, position, promised) => Ok(
+                self.proposer.nack(*ballot, *position, *promised),
+            ),
+            Message::Vote(ballot, position, entry) => self.vote(from, *ballot, *position, entry),
+            Message::Learned(position, entry) => self.learned_from(*position, entry),
+            Message::Need(position) => self.need(from, *position),
+            Message::Ask(entry) => self.ask_from(acceptor.meta, entry),
+            Message::Promise(_, _, _) | Message::Asked(_, _) | Message::AskRefused(_, _) => {
                 Ok(Plan::idle())
             }
         }
@@ -97,9 +86,9 @@ impl Core {
         ensures enough { event.now ≡ Event.Ticks → has_lead self.old ≡ false → result ≢ Err CoreFault.Memory }
     {
         match event {
-            Event::Asks { entry } => self.ask(acceptor.meta, entry),
+            Event::Asks(entry) => self.ask(acceptor.meta, entry),
             Event::Ticks => self.tick(acceptor.meta),
-            Event::Comes { sender, message } => {
+            Event::Comes(sender, message) => {
                 self.make_room(message)?;
                 Ok(self.plan_message(acceptor, *sender, message)?)
             }

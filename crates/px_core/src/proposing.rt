@@ -99,11 +99,7 @@ pub(crate) fn phase_two_plan(position: u32, lead: Lead, entry: Entry) -> PlanRes
         phase_two n me v lead.ballot position lead.from (Some (entry_of entry))) }
 {
     let ballot = lead.ballot;
-    let message = Message::Accept {
-        ballot,
-        position,
-        entry: entry.share()?,
-    };
+    let message = Message::Accept(ballot, position, entry.share()?);
     let phase = Phase::Accepting(entry);
     let attempt = Attempt {
         position,
@@ -111,7 +107,7 @@ pub(crate) fn phase_two_plan(position: u32, lead: Lead, entry: Entry) -> PlanRes
         phase,
     };
     let next = Next::Leads(Some(attempt), Some(lead));
-    Ok(Plan::new(None, Sends::All { message }, next))
+    Ok(Plan::new(None, Sends::All(message), next))
 }
 
 impl Core {
@@ -136,7 +132,7 @@ impl Core {
             let next = Next::Counts(Attempt {
                 position,
                 ballot,
-                phase: Phase::Preparing { counted, top, best },
+                phase: Phase::Preparing(counted, top, best),
             });
             return Ok(Plan::new(None, Sends::Nothing, next));
         }
@@ -175,11 +171,7 @@ impl Core {
         }
         match &attempt.phase {
             Phase::Accepting(_) => Ok(Plan::idle()),
-            Phase::Preparing {
-                counted,
-                top: highest,
-                best,
-            } => {
+            Phase::Preparing(counted, highest, best) => {
                 let top = greatest_top(counted, from, *highest, top);
                 let best = better_of(self.alloc, best, report)?;
                 self.gather(ballot, position, marked(counted, from), top, best)
@@ -214,11 +206,11 @@ impl Proposer {
             v.attempt ≡ option_map attempt_of self.now.attempt → v.lead ≡ option_map lead_of self.now.lead →
             v.seen ≡ self.now.seen → plan_of n me log v result ≡ on_nack v ballot position promised }
     {
-        let next = Next::Drops {
-            attempt: self.is_refused(ballot, position),
-            lead: self.leads_by(ballot),
-            seen: self.seen.max(promised / 256),
-        };
+        let next = Next::Drops(
+            self.is_refused(ballot, position),
+            self.leads_by(ballot),
+            self.seen.max(promised / 256),
+        );
         Plan::new(None, Sends::Nothing, next)
     }
 }

@@ -131,11 +131,7 @@ impl Core {
                 self.proposer.attempt = attempt;
                 self.proposer.lead = lead;
             }
-            Next::Drops {
-                attempt,
-                lead,
-                seen,
-            } => self.proposer.drop_refused(attempt, lead, seen),
+            Next::Drops(attempt, lead, seen) => self.proposer.drop_refused(attempt, lead, seen),
             Next::Keeps(position, member, ballot) => {
                 self.learner.votes.keep(position, member, ballot)
             }

@@ -25,104 +25,37 @@ impl Message<Entry> {
         ensures { come_of result ≡ message_of self.now }
     {
         match self {
-            Message::Prepare { ballot, position } => Message::Prepare {
-                ballot: *ballot,
-                position: *position,
-            },
-            Message::Promise {
-                ballot,
-                position,
-                accepted,
-            } => Message::Promise {
-                ballot: *ballot,
-                position: *position,
-                accepted: lent(accepted),
-            },
-            Message::PrepareAll { ballot, position } => Message::PrepareAll {
-                ballot: *ballot,
-                position: *position,
-            },
-            Message::PromiseAll {
-                ballot,
-                position,
-                top,
-                accepted,
-            } => Message::PromiseAll {
-                ballot: *ballot,
-                position: *position,
-                top: *top,
-                accepted: lent(accepted),
-            },
-            Message::Accept {
-                ballot,
-                position,
-                entry,
-            } => Message::Accept {
-                ballot: *ballot,
-                position: *position,
-                entry: entry.view(),
-            },
-            Message::Vote {
-                ballot,
-                position,
-                entry,
-            } => Message::Vote {
-                ballot: *ballot,
-                position: *position,
-                entry: entry.view(),
-            },
-            Message::Nack {
-                ballot,
-                position,
-                promised,
-            } => Message::Nack {
-                ballot: *ballot,
-                position: *position,
-                promised: *promised,
-            },
-            Message::Need { position } => Message::Need {
-                position: *position,
-            },
-            Message::Learned { position, entry } => Message::Learned {
-                position: *position,
-                entry: entry.view(),
-            },
-            Message::Ask { entry } => Message::Ask {
-                entry: entry.view(),
-            },
-            Message::Asked { token, number } => Message::Asked {
-                token: *token,
-                number: *number,
-            },
-            Message::AskRefused { token, code } => Message::AskRefused {
-                token: *token,
-                code: *code,
-            },
-        }
-    }
-}
-
-impl Message<EntryView<'_>> {
-    /// What a step on this message reads.
-    fn reads(&self) -> Reads
-        ensures { result ≡ message_reads (come_of self.now) }
-    {
-        match self {
-            Message::Prepare { position, .. } | Message::Accept { position, .. } => Reads::Slot {
-                position: *position,
-            },
-            Message::PrepareAll { position, .. } => Reads::SlotAndTop {
-                position: *position,
-            },
-            Message::Promise { .. } => Reads::Nothing,
-            Message::PromiseAll { .. } => Reads::Nothing,
-            Message::Vote { .. } => Reads::Nothing,
-            Message::Nack { .. } => Reads::Nothing,
-            Message::Need { .. } => Reads::Nothing,
-            Message::Learned { .. } => Reads::Nothing,
-            Message::Ask { .. } => Reads::Nothing,
-            Message::Asked { .. } => Reads::Nothing,
-            Message::AskRefused { .. } => Reads::Nothing,
+            Message::Prepare(ballot, position) => Message::Prepare(*ballot, *position),
+            Message::Promise(ballot, position, accepted) => Message::Promise(
+                *ballot,
+                *position,
+                lent(accepted),
+            ),
+            Message::PrepareAll(ballot, position) => Message::PrepareAll(*ballot, *position),
+            Message::PromiseAll(ballot, position, top, accepted) => Message::PromiseAll(
+                *ballot,
+                *position,
+                *top,
+                lent(accepted),
+            ),
+            Message::Accept(ballot, position, entry) => Message::Accept(
+                *ballot,
+                *position,
+                entry.view(),
+            ),
+            Message::Vote(ballot, position, entry) => Message::Vote(
+                *ballot,
+                *position,
+                entry.view(),
+            ),
+            Message::Nack(ballot, position, promised) => Message::Nack(
+                *ballot, *position, *promised,
+            ),
+            Message::Need(position) => Message::Need(*position),
+            Message::Learned(position, entry) => Message::Learned(*position, entry.view()),
+            Message::Ask(entry) => Message::Ask(entry.view()),
+            Message::Asked(token, number) => Message::Asked(*token, *number),
+            Message::AskRefused(token, code) => Message::AskRefused(*token, *code),
         }
     }
 }
@@ -134,9 +67,10 @@ impl Event<'_> {
         ensures { result ≡ reads_of (input_of self.now) }
     {
         match self {
-            Event::Asks { .. } => Reads::Nothing,
-            Event::Ticks => Reads::Nothing,
-            Event::Comes { message, .. } => message.reads(),
+            Event::Comes(_, Message::Prepare(_, position) | Message::Accept(_, position, _)) =>
+                Reads::Slot(*position),
+            Event::Comes(_, Message::PrepareAll(_, position)) => Reads::SlotAndTop(*position),
+            _ => Reads::Nothing,
         }
     }
 }

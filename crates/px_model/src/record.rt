@@ -50,45 +50,20 @@ impl Drop for Slot {
     }
 }
 
-/// One change of the record. It is committed before anything that rests on it is sent.
+/// One change of the record. It is committed before anything that rests on it is sent. Positions are below 1,000,000.
 #[derive(Drop)]
 pub enum Change {
-    /// The round is used.
-    Round {
-        /// The highest round used from now on.
-        round: u64,
-    },
-    /// A number is used.
-    Number {
-        /// The number of the next request.
-        number: u64,
-    },
+    /// The highest round used from now on.
+    Round(u64),
+    /// The number of the next request.
+    Number(u64),
     /// A ballot is promised at all positions.
-    Floor {
-        /// The ballot.
-        ballot: u64,
-    },
-    /// A ballot is promised at one position.
-    Promised {
-        /// The position, below 1,000,000.
-        position: u32,
-        /// The ballot.
-        ballot: u64,
-    },
-    /// A ballot is promised and its proposal accepted at one position.
-    Accepted {
-        /// The position, below 1,000,000.
-        position: u32,
-        /// The ballot.
-        ballot: u64,
-        /// The entry that it carries.
-        entry: Entry,
-    },
-    /// An entry is learned.
-    Learned {
-        /// The position, below 1,000,000.
-        position: u32,
-        /// The entry chosen there.
-        entry: Entry,
-    },
+    Floor(u64),
+    /// A ballot is promised at one position: the position, the ballot.
+    Promised(u32, u64),
+    /// A ballot is promised and its proposal accepted at one position: the position, the ballot, the entry that it
+    /// carries.
+    Accepted(u32, u64, Entry),
+    /// An entry is learned: the position, the entry chosen there.
+    Learned(u32, Entry),
 }

@@ -196,32 +196,28 @@ impl Records for MemoryRecords {
 
     fn commit(&mut self, change: &Change) -> Result<(), StoreFault> {
         match change {
-            Change::Round { round } => {
+            Change::Round(round) => {
                 self.meta.round = *round;
                 Ok(())
             }
-            Change::Number { number } => {
+            Change::Number(number) => {
                 self.meta.number = *number;
                 Ok(())
             }
-            Change::Floor { ballot } => {
+            Change::Floor(ballot) => {
                 self.meta.floor = *ballot;
                 Ok(())
             }
-            Change::Promised { position, ballot } => {
+            Change::Promised(position, ballot) => {
                 promise(&mut self.slots, *position, *ballot)?;
                 Ok(())
             }
-            Change::Accepted {
-                position,
-                ballot,
-                entry,
-            } => {
+            Change::Accepted(position, ballot, entry) => {
                 accept(&mut self.slots, *position, *ballot, entry)?;
                 self.top = self.top.max(*position + 1);
                 Ok(())
             }
-            Change::Learned { position, entry } => {
+            Change::Learned(position, entry) => {
                 learn(&mut self.learned, *position, entry)?;
                 self.end = self.end.max(*position + 1);
                 Ok(())

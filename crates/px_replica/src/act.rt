@@ -68,7 +68,7 @@ fn round_after(round: u64, change: &Option<Change>) -> u64
         result ≡ (commit (option_map change_of change.now) d).meta.round }
 {
     match change {
-        Some(Change::Round { round: next }) => *next,
+        Some(Change::Round(next)) => *next,
         _ => round,
     }
 }

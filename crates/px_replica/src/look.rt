@@ -126,11 +126,11 @@ fn look_beside<R: Records>(records: &mut R, members: u8, reads: Reads) -> Looked
             };
             Ok((slot, 0))
         }
-        Reads::Slot { position } => {
+        Reads::Slot(position) => {
             let slot = slot_at(records, members, position)?;
             Ok((slot, 0))
         }
-        Reads::SlotAndTop { position } => {
+        Reads::SlotAndTop(position) => {
             let slot = slot_at(records, members, position)?;
             Ok((slot, top_of(records)?))
         }

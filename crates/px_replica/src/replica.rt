@@ -65,7 +65,7 @@ impl<R: Records> Replica<R> {
             return Err(NodeFault::Failed);
         }
         let mut nothing = Vec::new(self.alloc);
-        self.step(&Event::Asks { entry: *entry }, &mut nothing)
+        self.step(&Event::Asks(*entry), &mut nothing)
     }
 
     /// The clock ticks. What is sent is appended after the commit. Refused with `BallotsSpent` where a round is needed
@@ -95,7 +95,7 @@ impl<R: Records> Replica<R> {
         }
         match decode(&self.member.group(), bytes) {
             Err(fault) => Ok(Received::Ignored(fault)),
-            Ok((sender, message)) => match self.step(&Event::Comes { sender, message }, out) {
+            Ok((sender, message)) => match self.step(&Event::Comes(sender, message), out) {
                 Ok(_) => Ok(Received::Done),
                 Err(fault) => Err(fault),
             },

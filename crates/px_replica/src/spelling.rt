@@ -82,8 +82,8 @@ pub(crate) fn spelled(alloc: Global, m: &Membership, sends: &Sends) -> Datagrams
 {
     match sends {
         Sends::Nothing => Ok(Vec::new(alloc)),
-        Sends::One { to, message } => for_one(alloc, m, *to, message),
-        Sends::All { message } => for_all(alloc, m, message),
+        Sends::One(to, message) => for_one(alloc, m, *to, message),
+        Sends::All(message) => for_all(alloc, m, message),
     }
 }
 

@@ -225,16 +225,16 @@ impl<S: Alter> SqlRecords<S> {
         ensures same_identity { self.new.identity ≡ self.old.identity }
     {
         match change {
-            Change::Round { round } => self.keep_meta(*round, self.meta.number),
-            Change::Number { number } => self.keep_meta(self.meta.round, *number),
-            Change::Floor { ballot } => self.keep_floor(*ballot),
-            Change::Promised { position, ballot } => self.promise(*position, *ballot),
-            Change::Accepted {
-                position,
-                ballot,
-                entry,
-            } => self.accept(*position, *ballot, entry.bytes()),
-            Change::Learned { position, entry } => self.learn(*position, entry.bytes()),
+            Change::Round(round) => self.keep_meta(*round, self.meta.number),
+            Change::Number(number) => self.keep_meta(self.meta.round, *number),
+            Change::Floor(ballot) => self.keep_floor(*ballot),
+            Change::Promised(position, ballot) => self.promise(*position, *ballot),
+            Change::Accepted(position, ballot, entry) => self.accept(
+                *position,
+                *ballot,
+                entry.bytes(),
+            ),
+            Change::Learned(position, entry) => self.learn(*position, entry.bytes()),
         }
     }
 }

@@ -136,40 +136,23 @@ fn put_body(out: &mut Vec<u8>, m: &Membership, to: u8, message: &Message<EntryVi
     ensures { OnOk result (out.new.items ≡ out.old.items ++ body (message_of message.now)) }
 {
     match message {
-        Message::Prepare { ballot, position } | Message::PrepareAll { ballot, position } => {
+        Message::Prepare(ballot, position) | Message::PrepareAll(ballot, position) => {
             put_slot(out, *ballot, *position)
         }
-        Message::Promise {
-            ballot,
-            position,
-            accepted,
-        } => put_promise(out, *ballot, *position, accepted),
-        Message::Accept {
-            ballot,
-            position,
-            entry,
-        }
-        | Message::Vote {
-            ballot,
-            position,
-            entry,
-        } => put_proposal(out, *ballot, *position, entry),
-        Message::Nack {
-            ballot,
-            position,
-            promised,
-        } => put_nack(out, *ballot, *position, *promised),
-        Message::Need { position } => put_u32(out, *position),
-        Message::Learned { position, entry } => put_learned(out, *position, entry),
-        Message::Ask { entry } => put_sized(out, entry),
-        Message::Asked { token, number } => put_answer(out, *token, *number),
-        Message::AskRefused { token, code } => put_refusal(out, *token, *code),
-        Message::PromiseAll {
-            ballot,
-            position,
-            top,
-            accepted,
-        } => put_promise_all(out, *ballot, *position, *top, accepted),
+        Message::Promise(ballot, position, accepted) => put_promise(
+            out, *ballot, *position, accepted,
+        ),
+        Message::Accept(ballot, position, entry) | Message::Vote(ballot, position, entry) =>
+            put_proposal(out, *ballot, *position, entry),
+        Message::Nack(ballot, position, promised) => put_nack(out, *ballot, *position, *promised),
+        Message::Need(position) => put_u32(out, *position),
+        Message::Learned(position, entry) => put_learned(out, *position, entry),
+        Message::Ask(entry) => put_sized(out, entry),
+        Message::Asked(token, number) => put_answer(out, *token, *number),
+        Message::AskRefused(token, code) => put_refusal(out, *token, *code),
+        Message::PromiseAll(ballot, position, top, accepted) => put_promise_all(
+            out, *ballot, *position, *top, accepted,
+        ),
     }
 }
 
@@ -177,18 +160,18 @@ fn kind_of(message: &Message<EntryView>) -> Kind
     ensures { number_of result ≡ kind (message_of message.now) }
 {
     match message {
-        Message::Prepare { .. } => Kind::Prepare,
-        Message::Promise { .. } => Kind::Promise,
-        Message::Accept { .. } => Kind::Accept,
-        Message::Vote { .. } => Kind::Vote,
-        Message::Nack { .. } => Kind::Nack,
-        Message::Need { .. } => Kind::Need,
-        Message::Learned { .. } => Kind::Learned,
-        Message::Ask { .. } => Kind::Ask,
-        Message::Asked { .. } => Kind::Asked,
-        Message::AskRefused { .. } => Kind::AskRefused,
-        Message::PrepareAll { .. } => Kind::PrepareAll,
-        Message::PromiseAll { .. } => Kind::PromiseAll,
+        Message::Prepare(_, _) => Kind::Prepare,
+        Message::Promise(_, _, _) => Kind::Promise,
+        Message::Accept(_, _, _) => Kind::Accept,
+        Message::Vote(_, _, _) => Kind::Vote,
+        Message::Nack(_, _, _) => Kind::Nack,
+        Message::Need(_) => Kind::Need,
+        Message::Learned(_, _) => Kind::Learned,
+        Message::Ask(_) => Kind::Ask,
+        Message::Asked(_, _) => Kind::Asked,
+        Message::AskRefused(_, _) => Kind::AskRefused,
+        Message::PrepareAll(_, _) => Kind::PrepareAll,
+        Message::PromiseAll(_, _, _, _) => Kind::PromiseAll,
     }
 }
 

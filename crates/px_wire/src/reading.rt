@@ -294,38 +294,38 @@ fn prepare_at<'a>(m: &Membership, from: u8, bytes: &'a [u8]) -> Read<MessageView
     let ballot = ballot_at(m, from, bytes, BODY_AT)?;
     let position = position_at(bytes, POSITION_AT)?;
     end_at(bytes, 25)?;
-    Ok(Message::Prepare { ballot, position })
+    Ok(Message::Prepare(ballot, position))
 }
 
 fn promise_at<'a>(m: &Membership, bytes: &'a [u8]) -> Read<MessageView<'a>>
     ensures { ReadsBody bytes.now result (promise_fields m.now bytes.now) (promise_value bytes.now) }
 {
     let ballot = ballot_at(m, m.me(), bytes, BODY_AT)?;
-    Ok(Message::Promise {
+    Ok(Message::Promise(
         ballot,
-        position: position_at(bytes, POSITION_AT)?,
-        accepted: accepted_at(m, ballot, bytes, 25)?,
-    })
+        position_at(bytes, POSITION_AT)?,
+        accepted_at(m, ballot, bytes, 25)?,
+    ))
 }
 
 fn accept_at<'a>(m: &Membership, from: u8, bytes: &'a [u8]) -> Read<MessageView<'a>>
     ensures { ReadsBody bytes.now result (accept_fields m.now from bytes.now) (accept_value bytes.now) }
 {
-    Ok(Message::Accept {
-        ballot: ballot_at(m, from, bytes, BODY_AT)?,
-        position: position_at(bytes, POSITION_AT)?,
-        entry: members_entry_at(m, bytes, 25)?,
-    })
+    Ok(Message::Accept(
+        ballot_at(m, from, bytes, BODY_AT)?,
+        position_at(bytes, POSITION_AT)?,
+        members_entry_at(m, bytes, 25)?,
+    ))
 }
 
 fn vote_at<'a>(m: &Membership, bytes: &'a [u8]) -> Read<MessageView<'a>>
     ensures { ReadsBody bytes.now result (vote_fields m.now bytes.now) (vote_value bytes.now) }
 {
-    Ok(Message::Vote {
-        ballot: any_ballot_at(m, bytes, BODY_AT)?,
-        position: position_at(bytes, POSITION_AT)?,
-        entry: members_entry_at(m, bytes, 25)?,
-    })
+    Ok(Message::Vote(
+        any_ballot_at(m, bytes, BODY_AT)?,
+        position_at(bytes, POSITION_AT)?,
+        members_entry_at(m, bytes, 25)?,
+    ))
 }
 
 fn nack_at<'a>(m: &Membership, bytes: &'a [u8]) -> Read<MessageView<'a>>
@@ -335,11 +335,7 @@ fn nack_at<'a>(m: &Membership, bytes: &'a [u8]) -> Read<MessageView<'a>>
     let position = position_at(bytes, POSITION_AT)?;
     let promised = promised_at(m, ballot, bytes, 25)?;
     end_at(bytes, 33)?;
-    Ok(Message::Nack {
-        ballot,
-        position,
-        promised,
-    })
+    Ok(Message::Nack(ballot, position, promised))
 }
 
 fn need_at(bytes: &[u8]) -> Read<MessageView<'_>>
@@ -347,7 +343,7 @@ fn need_at(bytes: &[u8]) -> Read<MessageView<'_>>
 {
     let position = position_at(bytes, BODY_AT)?;
     end_at(bytes, 17)?;
-    Ok(Message::Need { position })
+    Ok(Message::Need(position))
 }
 
 fn learned_at<'a>(m: &Membership, bytes: &'a [u8]) -> Read<MessageView<'a>>
@@ -355,14 +351,14 @@ fn learned_at<'a>(m: &Membership, bytes: &'a [u8]) -> Read<MessageView<'a>>
 {
     let position = position_at(bytes, BODY_AT)?;
     let entry = members_entry_at(m, bytes, 17)?;
-    Ok(Message::Learned { position, entry })
+    Ok(Message::Learned(position, entry))
 }
 
 fn ask_at(bytes: &[u8]) -> Read<MessageView<'_>>
     ensures { ReadsBody bytes.now result (ask_fields bytes.now) (ask_value bytes.now) }
 {
     let entry = clients_entry_at(bytes, BODY_AT)?;
-    Ok(Message::Ask { entry })
+    Ok(Message::Ask(entry))
 }
 
 fn asked_at(bytes: &[u8]) -> Read<MessageView<'_>>
@@ -371,7 +367,7 @@ fn asked_at(bytes: &[u8]) -> Read<MessageView<'_>>
     let token = token_at(bytes, BODY_AT)?;
     let number = token_at(bytes, ANSWER_AT)?;
     end_at(bytes, 29)?;
-    Ok(Message::Asked { token, number })
+    Ok(Message::Asked(token, number))
 }
 
 fn ask_refused_at(bytes: &[u8]) -> Read<MessageView<'_>>
@@ -380,7 +376,7 @@ fn ask_refused_at(bytes: &[u8]) -> Read<MessageView<'_>>
     let token = token_at(bytes, BODY_AT)?;
     let code = refusal_at(bytes, ANSWER_AT)?;
     end_at(bytes, 22)?;
-    Ok(Message::AskRefused { token, code })
+    Ok(Message::AskRefused(token, code))
 }
 
 fn prepare_all_at<'a>(m: &Membership, from: u8, bytes: &'a [u8]) -> Read<MessageView<'a>>
@@ -389,19 +385,19 @@ fn prepare_all_at<'a>(m: &Membership, from: u8, bytes: &'a [u8]) -> Read<Message
     let ballot = ballot_at(m, from, bytes, BODY_AT)?;
     let position = position_at(bytes, POSITION_AT)?;
     end_at(bytes, 25)?;
-    Ok(Message::PrepareAll { ballot, position })
+    Ok(Message::PrepareAll(ballot, position))
 }
 
 fn promise_all_at<'a>(m: &Membership, bytes: &'a [u8]) -> Read<MessageView<'a>>
     ensures { ReadsBody bytes.now result (promise_all_fields m.now bytes.now) (promise_all_value bytes.now) }
 {
     let ballot = ballot_at(m, m.me(), bytes, BODY_AT)?;
-    Ok(Message::PromiseAll {
+    Ok(Message::PromiseAll(
         ballot,
-        position: position_at(bytes, POSITION_AT)?,
-        top: top_at(bytes, 25)?,
-        accepted: accepted_at(m, ballot, bytes, 29)?,
-    })
+        position_at(bytes, POSITION_AT)?,
+        top_at(bytes, 25)?,
+        accepted_at(m, ballot, bytes, 29)?,
+    ))
 }
 
 /// The body of a datagram of that kind.

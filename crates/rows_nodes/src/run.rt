@@ -60,9 +60,7 @@ fn first(sent: &[Datagram]) -> &[u8] {
 /// Whether an asking, a tick and these bytes are refused so.
 fn refuses_all<R: Records>(alloc: Global, node: &mut Node<R>, bytes: &[u8]) -> bool {
     let mut out = Vec::new(alloc);
-    let command = Command::FlushRules {
-        path: Path::main(alloc),
-    };
+    let command = Command::FlushRules(Path::main(alloc));
     let is_asked = is_failed(node, Event::Asks(&command), &mut out);
     drop(command);
     is_asked

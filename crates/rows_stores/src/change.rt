@@ -67,34 +67,26 @@ fn change(alloc: Global, made: Made) -> Result<Change, Refused>
     let (position, ballot) = (made.at, made.ballot as u64);
     match made.word {
         "round" => {
-            return Ok(Change::Round {
-                round: made.at as u64,
-            });
+            return Ok(Change::Round(made.at as u64));
         }
         "number" => {
-            return Ok(Change::Number {
-                number: made.at as u64,
-            });
+            return Ok(Change::Number(made.at as u64));
         }
         _ => {}
     }
     if made.word == "learn" && position < 1_000_000 {
         let entry = entry(alloc, made.length as usize)?;
-        return Ok(Change::Learned { position, entry });
+        return Ok(Change::Learned(position, entry));
     }
     if !is_ballot(ballot) {
         return Err(Refused::Line);
     }
     if made.word == "floor" {
-        return Ok(Change::Floor { ballot });
+        return Ok(Change::Floor(ballot));
     }
     if made.word == "accept" && position < 1_000_000 {
         let entry = entry(alloc, made.length as usize)?;
-        return Ok(Change::Accepted {
-            position,
-            ballot,
-            entry,
-        });
+        return Ok(Change::Accepted(position, ballot, entry));
     }
     Err(Refused::Line)
 }
@@ -134,7 +126,7 @@ fn promise<R: Records>(records: &mut R, position: u32, ballot: u64) -> Result<()
     if before > ballot || position >= 1_000_000 || !is_ballot(ballot) {
         return Err(Refused::Line);
     }
-    commit(records, Change::Promised { position, ballot })?;
+    commit(records, Change::Promised(position, ballot))?;
     if promised(records, position)? == ballot {
         Ok(())
     } else {

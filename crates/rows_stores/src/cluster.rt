@@ -24,11 +24,7 @@ const MESSAGES: usize = 18;
 /// A load of `block from 10/8` at main.
 fn block(alloc: Global) -> Result<Command, NodeFault> {
     match Vec::from_slice(alloc, b"block from 10/8\n") {
-        Ok(text) => Ok(Command::Load {
-            path: Path::main(alloc),
-            profile: pf_entry::Profile::Two,
-            text,
-        }),
+        Ok(text) => Ok(Command::Load(Path::main(alloc), pf_entry::Profile::Two, text)),
         Err(_) => Err(NodeFault::Memory),
     }
 }

@@ -31,7 +31,7 @@ fn decoded(reader: &Membership, bytes: &mut [u8], times: u32) -> u64 {
         if bytes.len() > 24 {
             bytes[24] = (number % 256) as u8;
         }
-        if let Ok((_, Message::Vote { position, .. })) = decode(reader, bytes) {
+        if let Ok((_, Message::Vote(_, position, ..))) = decode(reader, bytes) {
             sum = sum.wrapping_add(u64::from(position));
         }
     }

@@ -16,26 +16,9 @@ fn spelling(position: u32) -> [u8; 100] {
 fn event_of(kind: u32, position: u32, entry: EntryView<'_>) -> Event<'_> {
     let ballot = 256;
     match kind {
-        0 => Event::Comes {
-            sender: 0,
-            message: Message::Accept {
-                ballot,
-                position,
-                entry,
-            },
-        },
-        1 => Event::Comes {
-            sender: 1,
-            message: Message::Vote {
-                ballot,
-                position,
-                entry,
-            },
-        },
-        _ => Event::Comes {
-            sender: 2,
-            message: Message::Learned { position, entry },
-        },
+        0 => Event::Comes(0, Message::Accept(ballot, position, entry)),
+        1 => Event::Comes(1, Message::Vote(ballot, position, entry)),
+        _ => Event::Comes(2, Message::Learned(position, entry)),
     }
 }
 

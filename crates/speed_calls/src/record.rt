@@ -24,8 +24,8 @@ fn empty_slot() -> Slot {
 fn slot_at<'a>(slots: &'a [Slot], empty: &'a Slot, first: u32, reads: Reads) -> &'a Slot {
     let position = match reads {
         Reads::Nothing => return empty,
-        Reads::Slot { position } => position,
-        Reads::SlotAndTop { position } => position,
+        Reads::Slot(position) => position,
+        Reads::SlotAndTop(position) => position,
     };
     match slots.get(position.saturating_sub(first) as usize) {
         Some(slot) => slot,
@@ -50,14 +50,7 @@ impl Record {
 
     /// Commits a change that an accept request makes. The others aren't tried here.
     fn commit(&mut self, change: &Option<Change>) -> Result<(), AllocError> {
-        let Some(
-            Change::Accepted {
-                position,
-                ballot,
-                entry,
-            },
-        ) = change
-        else {
+        let Some(Change::Accepted(position, ballot, entry)) = change else {
             return Ok(());
         };
         let place = position.saturating_sub(self.first) as usize;

@@ -25,10 +25,7 @@ fn delivered(
 ) -> Option<Sends> {
     let message = messages.get(place)?;
     let member = members.get_mut(to as usize)?;
-    let event = Event::Comes {
-        sender,
-        message: message.view(),
-    };
+    let event = Event::Comes(sender, message.view());
     member.take(&event).ok()
 }
 
@@ -80,10 +77,10 @@ impl Bus {
         let place = self.messages.len();
         match sends {
             Sends::Nothing => true,
-            Sends::One { to, message } => {
+            Sends::One(to, message) => {
                 self.messages.push(message).is_ok() && self.sent.push((sender, to, place)).is_ok()
             }
-            Sends::All { message } => {
+            Sends::All(message) => {
                 self.messages.push(message).is_ok() && self.send_all(sender, place)
             }
         }

@@ -93,7 +93,7 @@ impl Busy {
 /// Whether a command waits at the member then.
 fn takes_one(busy: &mut Busy) -> bool {
     let path = Path::main(busy.alloc);
-    ask(&mut busy.node, Command::FlushTables { path })
+    ask(&mut busy.node, Command::FlushTables(path))
 }
 
 /// A command is proposed at once, and not again before 100 ms are over, in which nobody answers; then it is.

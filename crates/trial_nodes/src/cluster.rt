@@ -155,15 +155,7 @@ fn ask_change(alloc: Global, node: &mut Node<MemoryRecords>, prefix: Prefix) -> 
         })
         .is_ok();
     let path = Path::main(alloc);
-    is_made
-        && ask(
-            node,
-            Command::Replace {
-                path,
-                table,
-                addresses,
-            },
-        )
+    is_made && ask(node, Command::Replace(path, table, addresses))
 }
 
 /// Whether each member is asked a command that changes what the others make.

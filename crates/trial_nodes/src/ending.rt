@@ -13,7 +13,7 @@ use std::panic::Expect;
 fn takes_three(alloc: Global, node: &mut Node<MemoryRecords>) -> bool {
     for _ in 0..3 {
         let path = Path::main(alloc);
-        if !ask(node, Command::FlushTables { path }) {
+        if !ask(node, Command::FlushTables(path)) {
             return false;
         }
     }

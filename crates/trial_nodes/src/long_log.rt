@@ -18,7 +18,7 @@ const KEPT: u32 = 4_096;
 fn takes(alloc: Global, node: &mut Node<MemoryRecords>) -> bool {
     for _ in 0..PAIRS {
         let path = Path::main(alloc);
-        if !ask(node, Command::FlushTables { path }) || !ask_load(alloc, node, b"bogus\n") {
+        if !ask(node, Command::FlushTables(path)) || !ask_load(alloc, node, b"bogus\n") {
             return false;
         }
     }

@@ -154,20 +154,16 @@ impl Stored {
     /// The change is made. Whether there is a slot for it.
     fn commit(&mut self, change: &Option<Change>) -> bool {
         match change {
-            Some(Change::Round { round }) => self.meta.round = *round,
-            Some(Change::Number { number }) => self.meta.number = *number,
-            Some(Change::Floor { ballot }) => self.meta.floor = *ballot,
-            Some(Change::Promised { position, ballot }) => {
+            Some(Change::Round(round)) => self.meta.round = *round,
+            Some(Change::Number(number)) => self.meta.number = *number,
+            Some(Change::Floor(ballot)) => self.meta.floor = *ballot,
+            Some(Change::Promised(position, ballot)) => {
                 return self.promise(*position, *ballot);
             }
-            Some(
-                Change::Accepted {
-                    position,
-                    ballot,
-                    entry,
-                },
-            ) => return self.accept(*position, *ballot, entry),
-            Some(Change::Learned { .. }) | None => (),
+            Some(Change::Accepted(position, ballot, entry)) => return self.accept(
+                *position, *ballot, entry,
+            ),
+            Some(Change::Learned(..)) | None => (),
         }
         true
     }
@@ -176,15 +172,15 @@ impl Stored {
     fn read(&self, reads: Reads) -> Option<&Slot> {
         match reads {
             Reads::Nothing => Some(&self.empty),
-            Reads::Slot { position } => self.slots.get(position as usize),
-            Reads::SlotAndTop { position } => self.slots.get(position as usize),
+            Reads::Slot(position) => self.slots.get(position as usize),
+            Reads::SlotAndTop(position) => self.slots.get(position as usize),
         }
     }
 
     /// The top, where it is read.
     fn top_for(&self, reads: Reads) -> u32 {
         match reads {
-            Reads::SlotAndTop { .. } => self.top(),
+            Reads::SlotAndTop(..) => self.top(),
             _ => 0,
         }
     }

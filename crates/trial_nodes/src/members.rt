@@ -34,14 +34,7 @@ pub(crate) fn ask(node: &mut Node<MemoryRecords>, command: Command) -> bool {
 /// Whether the node takes a load of a ruleset at main.
 pub(crate) fn ask_load(alloc: Global, node: &mut Node<MemoryRecords>, text: &[u8]) -> bool {
     match Vec::from_slice(alloc, text) {
-        Ok(text) => ask(
-            node,
-            Command::Load {
-                path: Path::main(alloc),
-                profile: Profile::Two,
-                text,
-            },
-        ),
+        Ok(text) => ask(node, Command::Load(Path::main(alloc), Profile::Two, text)),
         Err(_) => false,
     }
 }

@@ -33,50 +33,33 @@ fn push_head(out: &mut String, kind: &str, ballot: u64, position: u32) -> Result
 /// A message.
 pub(crate) fn push_message(out: &mut String, message: &Message<Entry>) -> Result<(), AllocError> {
     match message {
-        Message::PrepareAll { ballot, position } => {
+        Message::PrepareAll(ballot, position) => {
             push_head(out, "prepareall", *ballot, *position)
         }
-        Message::PromiseAll {
-            ballot,
-            position,
-            top,
-            accepted,
-        } => {
+        Message::PromiseAll(ballot, position, top, accepted) => {
             push_head(out, "promiseall", *ballot, *position)?;
             push_accepted(out, accepted)?;
             write!(out, " t{top}")
         }
-        Message::Accept {
-            ballot,
-            position,
-            entry,
-        } => {
+        Message::Accept(ballot, position, entry) => {
             push_head(out, "accept", *ballot, *position)?;
             push_entry(out, entry)
         }
-        Message::Vote {
-            ballot,
-            position,
-            entry,
-        } => {
+        Message::Vote(ballot, position, entry) => {
             push_head(out, "vote", *ballot, *position)?;
             push_entry(out, entry)
         }
-        Message::Nack {
-            ballot,
-            position,
-            promised,
-        } => {
+        Message::Nack(ballot, position, promised) => {
             push_head(out, "nack", *ballot, *position)?;
             push_ballot(out, *promised)
         }
-        Message::Need { position } => write!(out, "need p{position}"),
-        Message::Learned { position, entry } => {
+        Message::Need(position) => write!(out, "need p{position}"),
+        Message::Learned(position, entry) => {
             write!(out, "learned p{position}")?;
             push_entry(out, entry)
         }
-        Message::Asked { token, number } => write!(out, "asked {token} {number}"),
-        Message::AskRefused { token, code } => write!(out, "askrefused {token} {code}"),
+        Message::Asked(token, number) => write!(out, "asked {token} {number}"),
+        Message::AskRefused(token, code) => write!(out, "askrefused {token} {code}"),
         _ => out.push_str("another"),
     }
 }

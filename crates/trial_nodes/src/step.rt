@@ -20,13 +20,13 @@ use std::alloc::Global;
 
 /// A message arrives at the first member. Whether it isn't refused.
 fn receive(bus: &mut Bus, sender: u8, message: Message<EntryView>) -> bool {
-    bus.happen(0, &Event::Comes { sender, message })
+    bus.happen(0, &Event::Comes(sender, message))
 }
 
 /// The member is asked a command.
 fn ask(bus: &mut Bus, member: u8, command: u8) -> bool {
     match EntryView::read(&spelling(0, 0, command)) {
-        Some(entry) => bus.happen(member, &Event::Asks { entry }),
+        Some(entry) => bus.happen(member, &Event::Asks(entry)),
         None => false,
     }
 }
@@ -40,25 +40,9 @@ fn come_with(bus: &mut Bus, word: &str, sender: u8, position: u32) -> Option<boo
     let entry = EntryView::read(&bytes)?;
     let ballot = 256;
     Some(match word {
-        "accept" => receive(
-            bus,
-            0,
-            Message::Accept {
-                ballot,
-                position: 0,
-                entry,
-            },
-        ),
-        "vote" => receive(
-            bus,
-            sender,
-            Message::Vote {
-                ballot,
-                position,
-                entry,
-            },
-        ),
-        "outside" => receive(bus, 255, Message::Ask { entry }),
+        "accept" => receive(bus, 0, Message::Accept(ballot, 0, entry)),
+        "vote" => receive(bus, sender, Message::Vote(ballot, position, entry)),
+        "outside" => receive(bus, 255, Message::Ask(entry)),
         _ => return None,
     })
 }
@@ -78,7 +62,7 @@ fn all_come_to(member: &mut Member, code: u8, times: u64) -> bool {
         return false;
     };
     for _ in 0..times {
-        if !comes_to(member, &Event::Asks { entry }, code) {
+        if !comes_to(member, &Event::Asks(entry), code) {
             return false;
         }
     }
@@ -134,25 +118,9 @@ fn place(number: u64) -> u32 {
 fn come(bus: &mut Bus, word: &str, first: u64, second: u64) -> Option<bool> {
     let position = place(second);
     Some(match word {
-        "promiseall" => receive(
-            bus,
-            byte(first),
-            Message::PromiseAll {
-                ballot: 256,
-                position: 0,
-                top: 0,
-                accepted: None,
-            },
-        ),
-        "prepare" => receive(
-            bus,
-            1,
-            Message::Prepare {
-                ballot: first,
-                position: 0,
-            },
-        ),
-        "need" => receive(bus, byte(first), Message::Need { position }),
+        "promiseall" => receive(bus, byte(first), Message::PromiseAll(256, 0, 0, None)),
+        "prepare" => receive(bus, 1, Message::Prepare(first, 0)),
+        "need" => receive(bus, byte(first), Message::Need(position)),
         _ => return come_with(bus, word, byte(first), position),
     })
 }
