@@ -6,4 +6,5 @@ pub mod HitsCounted
 mod Digits
 mod Names
 mod Behind
+mod BodyLines
 mod Posted

@@ -2,6 +2,5 @@
 --
 -- What only code and proofs use: no contract of a public function needs it.
 pub mod Outcomes
-pub mod Counts
 pub mod Left
 pub mod Parameters

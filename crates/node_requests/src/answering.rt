@@ -1,7 +1,7 @@
 //! What is asked at a request handler.
 
-ghost use Rattle.std.specs.Prelude.{◌≡◌, IfOk, OnErr, OnOk, map, codes, nat_lt, true, false, None};
-ghost use Rattle.pf_node.specs.Nodes.{config_of, applied_of};
+ghost use Rattle.std.specs.Prelude.{◌≡◌, IfOk, OnErr, OnOk, map, codes, true, false, None};
+ghost use Rattle.pf_node.specs.Nodes.{config_of};
 ghost use Rattle.pf_entry.specs.Owned.{command_value};
 ghost use Rattle.pf_arguments.specs.Answers.{action_value};
 ghost use Rattle.pf_scripts.specs.Listings.{listed};
@@ -9,37 +9,26 @@ ghost use Rattle.node_requests.specs.Answers.{answer_value, answered, shown};
 ghost use Rattle.node_requests.specs.Bounded.{verdicts_within};
 ghost use Rattle.node_requests.specs.Changing.{Changes, with_number};
 ghost use Rattle.node_requests.specs.Health.{health};
-ghost use Rattle.node_requests.specs.Requests.{IsStatus, AreMetrics, IsRead, IsReadIf, IsChange, Answers};
-ghost use Rattle.node_requests.specs.RequestStatus.{request_status};
+ghost use Rattle.node_requests.specs.Requests.{IsStatus, AreMetrics, IsRead, Answers};
+ghost use Rattle.node_requests.specs.RequestStatus.{is_accepted, request_status};
 ghost use Rattle.node_requests.specs.StatusJson.{status_as};
 
 use crate::answer::Answer;
 use crate::changing::{Changed, change_node};
 use crate::counters::Counters;
-use crate::entries::{entries, log};
 use crate::figures::Figures;
 use crate::handler::RequestHandler;
 use crate::health::Health;
 use crate::json::status_json;
 use crate::metrics::metrics;
+use crate::outcome::push_outcome;
 use crate::packets::test;
 use crate::request::{Read, Request};
-use crate::request_status::request_status;
 use crate::status::status;
 use pf_arguments::{Action, Command};
 use pf_node::Node;
 use px_records::Records;
 use std::alloc::{AllocError, Global};
-
-/// The first and the last number, with one more.
-fn with_number(accepted: Option<(u64, u64)>, changed: Changed) -> Option<(u64, u64)>
-    ensures { result ≡ with_number accepted changed }
-{
-    match changed {
-        Changed::Refused(_) | Changed::Memory => accepted,
-        Changed::Asked(_, number) => Some((accepted.map_or(number, |(first, _)| first), number)),
-    }
-}
 
 impl<R: Records> RequestHandler<R> {
     /// A request handler at a node.
@@ -74,12 +63,30 @@ impl<R: Records> RequestHandler<R> {
         test(self.alloc, self.node.config(), packets)
     }
 
+    /// Whether a number is one of those that were given.
+    fn is_accepted(&self, number: u64) -> bool
+        ensures { result ≡ is_accepted self.now.accepted number }
+    {
+        self.accepted
+            .is_some_and(|(first, last)| first <= number && number <= last)
+    }
+
     /// What became of a request: `applied`, its position and what came of it where that is applied, `waiting` where it
     /// is learned, or was accepted here and isn't learned below the front, else 404 and `unknown`.
     pub fn request_status(&self, origin: u8, number: u64) -> Result<Answer, AllocError>
         ensures { IfOk result (λ a. answer_value a ≡ request_status self.now.node self.now.accepted origin number) }
     {
-        request_status(self.alloc, &self.node, self.accepted, origin, number)
+        match self.node.position_of(origin, number) {
+            Some(position) if position < self.node.applied() => {
+                let mut body = String::new(self.alloc);
+                writeln!(body, "applied {position}")?;
+                push_outcome(&mut body, &self.node, position)?;
+                Ok(Answer::shown(body))
+            }
+            None if origin != self.node.membership().me() || !self.is_accepted(number) =>
+                Answer::of(self.alloc, 404, "unknown\n"),
+            _ => Answer::of(self.alloc, 200, "waiting\n"),
+        }
     }
 
     /// The node's health.
@@ -114,28 +121,18 @@ impl<R: Records> RequestHandler<R> {
     pub fn read(&self, read: &Read, counters: &Counters) -> Result<Answer, AllocError>
         ensures { IfOk result (λ a. IsRead self.now.node self.now.accepted counters.now read.now (answer_value a)) }
     {
+        let health = self.health(counters);
         match read {
             Read::List(action) => self.list(action),
-            Read::Test { packets } => self.test(packets),
-            Read::RequestStatus { origin, number } => self.request_status(*origin, *number),
-            Read::Log { from } => log(self.alloc, &self.node, *from),
-            Read::Entries { from, count } => entries(self.alloc, &self.node, *from, *count),
-            Read::Status { json } => self.status(*json, counters),
-            Read::Health => self.health(counters).health_answer(self.alloc),
-            Read::Ready => self.health(counters).ready_answer(self.alloc),
+            Read::Test(packets) => self.test(packets),
+            Read::RequestStatus(origin, number) => self.request_status(*origin, *number),
+            Read::Log(from) => self.log(*from),
+            Read::Entries(from, count) => self.entries(*from, *count),
+            Read::Status(json) => self.status(*json, counters),
+            Read::Health => health.answer(self.alloc, health != Health::Failed),
+            Read::Ready => health.answer(self.alloc, health == Health::Works),
             Read::Metrics => self.metrics(counters),
         }
-    }
-
-    /// The same, once that many positions are applied; before that it is 503 and `waiting`.
-    fn read_at(&self, at: u32, read: &Read, counters: &Counters) -> Result<Answer, AllocError>
-        ensures { IfOk result (λ a. IsReadIf (nat_lt (applied_of self.now.node) at) self.now.node self.now.accepted
-            counters.now read.now (answer_value a)) }
-    {
-        if self.node.applied() < at {
-            return Answer::of(self.alloc, 503, "waiting\n");
-        }
-        self.read(read, counters)
     }
 
     /// One ask of the node, or a refusal with nothing changed: 62 where the positions that are left are those of
@@ -146,22 +143,11 @@ impl<R: Records> RequestHandler<R> {
         ensures stopping { self.new.is_stopping ≡ self.old.is_stopping }
     {
         let changed = change_node(&mut self.node, command);
-        self.accepted = with_number(self.accepted, changed);
-        changed
-    }
-
-    /// What a change answers. When out of memory for its line it is 503 with an empty body, and the node may have been
-    /// asked.
-    fn change_answer(&mut self, command: &Command) -> Answer
-        ensures { IsChange self.old self.new (command_value command.now) (answer_value result) }
-    {
-        match self.change(command).to_answer(self.alloc) {
-            Ok(answer) => answer,
-            Err(_) => Answer {
-                code: 503,
-                body: String::new(self.alloc),
-            },
+        if let Changed::Asked(_, number) = changed {
+            let first = self.accepted.map_or(number, |(first, _)| first);
+            self.accepted = Some((first, number));
         }
+        changed
     }
 
     /// The node is to end after this turn.
@@ -176,14 +162,26 @@ impl<R: Records> RequestHandler<R> {
     }
 
     /// What a request answers: a read leaves all as it was, a change is one ask of the node or a refusal with nothing
-    /// changed. When out of memory nothing has changed.
+    /// changed. When out of memory for the line of a change it is 503 with an empty body, and the node may have been
+    /// asked; when this is out of memory nothing has changed.
     pub fn answer(&mut self, request: &Request, counters: &Counters) -> Result<Answer, AllocError>
         ensures answers { IfOk result (λ a. Answers self.old self.new counters.now request.now (answer_value a)) }
         ensures memory { OnErr result (self.new ≡ self.old) }
     {
         match request {
-            Request::Change(command) => Ok(self.change_answer(command)),
-            Request::Read { at, read } => self.read_at(*at, read, counters),
+            Request::Change(command) => match self.change(command).to_answer(self.alloc) {
+                Ok(answer) => Ok(answer),
+                Err(_) => Ok(Answer {
+                    code: 503,
+                    body: String::new(self.alloc),
+                }),
+            },
+            Request::Read(at, _) if self.node.applied() < *at => Answer::of(
+                self.alloc,
+                503,
+                "waiting\n",
+            ),
+            Request::Read(_, read) => self.read(read, counters),
             Request::Stop => self.stop(),
         }
     }

@@ -3,7 +3,7 @@
 ghost use Rattle.std.specs.Prelude.{◌≡◌, IfOk};
 ghost use Rattle.pf_entry.specs.Owned.{command_value};
 ghost use Rattle.node_requests.specs.Answers.{answer_value};
-ghost use Rattle.node_requests.specs.Changing.{Changes, AskedOnce, has_position, change_answer};
+ghost use Rattle.node_requests.specs.Changing.{Changes, change_answer};
 
 use crate::answer::Answer;
 use crate::figures::positions_left;
@@ -22,10 +22,15 @@ pub enum Changed {
     Memory,
 }
 
-/// Asks the node to accept the command.
-fn ask_once<R: Records>(node: &mut Node<R>, command: &Command) -> Changed
-    ensures { AskedOnce node.old node.new (command_value command.now) result }
+/// One ask of the node, or a refusal with nothing changed: 62 where every position that is left is one of a command
+/// that waits.
+pub(crate) fn change_node<R: Records>(node: &mut Node<R>, command: &Command) -> Changed
+    ensures { Changes node.old node.new (command_value command.now) result }
 {
+    let left = positions_left(node);
+    if node.waiting() >= left as usize {
+        return Changed::Refused(62);
+    }
     let me = node.membership().me();
     match node.ask(command) {
         Ok(number) => Changed::Asked(me, number),
@@ -33,25 +38,6 @@ fn ask_once<R: Records>(node: &mut Node<R>, command: &Command) -> Changed
             .code()
             .map_or(Changed::Memory, |code| Changed::Refused(code)),
     }
-}
-
-/// Whether more positions are left than commands wait, so that one more has its own.
-fn has_position<R: Records>(node: &Node<R>) -> bool
-    ensures { result ≡ has_position node.now }
-{
-    let left = positions_left(node);
-    node.waiting() < left as usize
-}
-
-/// One ask of the node, or a refusal with nothing changed: 62 where every position that is left is one of a command
-/// that waits.
-pub(crate) fn change_node<R: Records>(node: &mut Node<R>, command: &Command) -> Changed
-    ensures { Changes node.old node.new (command_value command.now) result }
-{
-    if !has_position(node) {
-        return Changed::Refused(62);
-    }
-    ask_once(node, command)
 }
 
 impl Changed {

@@ -6,7 +6,6 @@ ghost use Rattle.px_model.specs.Step.{front, positions};
 ghost use Rattle.pf_node.specs.Nodes.{learned_by};
 ghost use Rattle.node_requests.specs.Requests.{AreFigures};
 ghost use Rattle.node_requests.specs.Sizes.{entries_at};
-ghost use Rattle.node_requests.specs.inner.Counts.{AreCounts};
 
 use pf_config::Config;
 use pf_node::Node;
@@ -46,15 +45,6 @@ pub struct Figures {
     pub has_failed: bool,
 }
 
-/// How much a configuration has.
-#[derive(Clone, Copy)]
-struct Counts {
-    anchors: usize,
-    rules: usize,
-    tables: usize,
-    addresses: usize,
-}
-
 /// How many entries the tables of a path have.
 fn entries_at(config: &Config, path: &[Name], names: &[&str]) -> usize
     ensures { result ≡ entries_at config.now path.now (map (λ n. n.now) names.now) }
@@ -69,43 +59,24 @@ fn entries_at(config: &Config, path: &[Name], names: &[&str]) -> usize
     entries
 }
 
-/// These counts and what a path has.
-fn with_path(config: &Config, path: &[Name], counts: Counts) -> Result<Counts, AllocError>
-    ensures anchors { IfOk result (λ n. n.anchors ≡ counts.anchors) }
-    ensures rules { IfOk result (λ n. n.rules ≡
-        min (counts.rules + length (rules_at config.now path.now)) 18446744073709551615) }
-    ensures tables { IfOk result (λ n. n.tables ≡
-        min (counts.tables + length (table_names config.now path.now)) 18446744073709551615) }
-    ensures addresses { IfOk result (λ n. n.addresses ≡
-        min (counts.addresses + entries_at config.now path.now (table_names config.now path.now))
-        18446744073709551615) }
+/// These figures, and what a path has.
+fn with_path(config: &Config, path: &[Name], figures: Figures) -> Result<Figures, AllocError>
+    ensures { IfOk result (λ n. n ≡ record figures {
+      rules = min (figures.rules + length (rules_at config.now path.now)) 18446744073709551615;
+      tables = min (figures.tables + length (table_names config.now path.now)) 18446744073709551615;
+      addresses = min (figures.addresses + entries_at config.now path.now (table_names config.now path.now))
+          18446744073709551615;
+    }) }
 {
     let names = config.table_names(path)?;
     let rules = config.items(path).len();
     let addresses = entries_at(config, path, &names);
-    Ok(Counts {
-        rules: counts.rules.saturating_add(rules),
-        tables: counts.tables.saturating_add(names.len()),
-        addresses: counts.addresses.saturating_add(addresses),
-        ..counts
+    Ok(Figures {
+        rules: figures.rules.saturating_add(rules),
+        tables: figures.tables.saturating_add(names.len()),
+        addresses: figures.addresses.saturating_add(addresses),
+        ..figures
     })
-}
-
-/// How much a configuration has.
-fn count_config(config: &Config) -> Result<Counts, AllocError>
-    ensures { IfOk result (AreCounts config.now) }
-{
-    let paths = config.paths()?;
-    let mut counts = Counts {
-        anchors: paths.len(),
-        rules: 0,
-        tables: 0,
-        addresses: 0,
-    };
-    for path in &paths {
-        counts = with_path(config, path, counts)?;
-    }
-    Ok(counts)
 }
 
 /// How many positions the log has left.
@@ -120,9 +91,10 @@ impl Figures {
     pub fn of<R: Records>(node: &Node<R>) -> Result<Figures, AllocError>
         ensures { IfOk result (AreFigures node.now) }
     {
-        let counts = count_config(node.config())?;
+        let config = node.config();
+        let paths = config.paths()?;
         let m = node.membership();
-        Ok(Figures {
+        let mut figures = Figures {
             node: m.me(),
             members: m.members(),
             cluster: m.cluster(),
@@ -131,11 +103,15 @@ impl Figures {
             round: node.round(),
             waiting: node.waiting(),
             left: positions_left(node),
-            anchors: counts.anchors,
-            rules: counts.rules,
-            tables: counts.tables,
-            addresses: counts.addresses,
+            anchors: paths.len(),
+            rules: 0,
+            tables: 0,
+            addresses: 0,
             has_failed: node.has_failed(),
-        })
+        };
+        for path in &paths {
+            figures = with_path(config, path, figures)?;
+        }
+        Ok(figures)
     }
 }

@@ -1,15 +1,16 @@
 //! A node's health.
 
-ghost use Rattle.std.specs.Prelude.{◌≡◌, ◌≤◌, ◌+◌, IfOk, length, take};
+ghost use Rattle.std.specs.Prelude.{◌≡◌, ◌≤◌, ◌+◌, IfOk, length, take, if◌then◌else◌};
 ghost use Rattle.node_requests.specs.Answers.{answer_value};
 ghost use Rattle.node_requests.specs.Health.{is_recent, is_shown, health_word};
-ghost use Rattle.node_requests.specs.Health.{counted, health, health_answer, ready_answer};
+ghost use Rattle.node_requests.specs.Health.{counted, health};
+ghost use Rattle.pf_scripts.specs.Lines.{line};
 
-use crate::answer::Answer;
+use crate::answer::{Answer, Answered};
 use crate::counters::{Counters, PeerCounters};
 use pf_node::Node;
 use px_records::Records;
-use std::alloc::{AllocError, Global};
+use std::alloc::Global;
 
 /// For how many seconds commands may wait while the front doesn't move, before that is reported.
 pub const STUCK: u64 = 10;
@@ -89,21 +90,16 @@ impl Health {
         }
     }
 
-    /// Whether the node works at all: 503 of a failed one alone.
-    pub(crate) fn health_answer(self, alloc: Global) -> Result<Answer, AllocError>
-        ensures { IfOk result (λ a. answer_value a ≡ health_answer self) }
+    /// Its name, with 200 where that is good, else 503: to whom asks whether the node works at all, each is good but
+    /// `Failed`; to whom asks whether it is up with the others, `Works` alone.
+    pub(crate) fn answer(self, alloc: Global, is_good: bool) -> Answered
+        ensures { IfOk result (λ a. answer_value a ≡ record {
+          code = if is_good then 200 else 503;
+          body = line (health_word self);
+        }) }
     {
         let body = format!(in alloc; "{}\n", self.word())?;
-        let code = if self == Health::Failed { 503 } else { 200 };
-        Ok(Answer { code, body })
-    }
-
-    /// Whether it is up with the others: 200 of one that works alone.
-    pub(crate) fn ready_answer(self, alloc: Global) -> Result<Answer, AllocError>
-        ensures { IfOk result (λ a. answer_value a ≡ ready_answer self) }
-    {
-        let body = format!(in alloc; "{}\n", self.word())?;
-        let code = if self == Health::Works { 200 } else { 503 };
+        let code = if is_good { 200 } else { 503 };
         Ok(Answer { code, body })
     }
 }

@@ -14,9 +14,9 @@
 //!   change does, `specs/Positions` the lines of a log.
 //!
 //! Within: `routing` reads a request, by `target` (paths and methods), `query` (parameters) and `listing` (the action
-//! that they ask for). `answering` answers it: `changing` a change, `packets` and `bounded` verdicts, `entries` the
-//! log, `request_status` what became of a request; `figures` are a node's numbers, with three renderers: `status`
-//! (lines), `json` and `metrics` (Prometheus).
+//! that they ask for). `answering` answers it, and what became of a request: `changing` a change, `packets` and
+//! `bounded` verdicts, `entries` the log; `figures` are a node's numbers, with three renderers: `status` (lines), `json`
+//! and `metrics` (Prometheus).
 //!
 //! # Why
 //!
@@ -60,7 +60,6 @@ mod packets;
 mod positions;
 mod query;
 mod request;
-mod request_status;
 mod routing;
 mod status;
 mod target;

@@ -5,7 +5,7 @@ ghost use Rattle.px_model.specs.Spelling.{spelled};
 ghost use Rattle.pf_entry.specs.Reading.{reading};
 ghost use Rattle.pf_node.specs.Nodes.{learned_by, applied_of, kept_of};
 ghost use Rattle.node_requests.specs.Outcomes.{kept_line};
-ghost use Rattle.node_requests.specs.inner.Outcomes.{outcome_line, counts_read, counts_in};
+ghost use Rattle.node_requests.specs.inner.Outcomes.{counts_read, counts_in};
 
 use crate::answer::Pushed;
 use pf_command::Applied;
@@ -30,17 +30,6 @@ fn counts_at<R: Records>(node: &Node<R>, position: u32) -> bool
         .is_some_and(|bytes| counts_read(bytes))
 }
 
-/// Puts an outcome behind the text.
-fn push_line(out: &mut String, counts: bool, outcome: Outcome) -> Pushed
-    ensures { OnOk result (string_bytes out.new ≡ string_bytes out.old ++ outcome_line counts outcome) }
-{
-    match outcome {
-        Outcome::Done(added, removed) => push_counts(out, counts, Applied { added, removed }),
-        Outcome::Refused(code, line) => push_refusal(out, code, line),
-        Outcome::NoCommand => Ok(()),
-    }
-}
-
 /// Puts what came of the command at a position behind the text, a line as a script prints it; nothing where that isn't
 /// kept any more.
 #[tactic(auto, using(crate::proofs::Lines::line_kept))]
@@ -49,7 +38,12 @@ pub fn push_outcome<R: Records>(out: &mut String, node: &Node<R>, position: u32)
         ++ kept_line (learned_by node.now) (applied_of node.now) (kept_of node.now) position) }
 {
     match node.outcome(position) {
-        Some(outcome) => push_line(out, counts_at(node, position), outcome),
-        None => Ok(()),
+        Some(Outcome::Done(added, removed)) => push_counts(
+            out,
+            counts_at(node, position),
+            Applied { added, removed },
+        ),
+        Some(Outcome::Refused(code, line)) => push_refusal(out, code, line),
+        Some(Outcome::NoCommand) | None => Ok(()),
     }
 }

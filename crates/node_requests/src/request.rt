@@ -7,35 +7,17 @@ use pf_arguments::{Action, Command};
 pub enum Read<'a> {
     /// What an action lists (pfctl(8), `-s` and `-T`).
     List(Action),
-    /// The verdicts for packets.
-    Test {
-        /// Each packet's text, 1 to 64 of them.
-        packets: Vec<&'a str>,
-    },
-    /// What became of a request.
-    RequestStatus {
-        /// The node that accepted it.
-        origin: u8,
-        /// Its number there.
-        number: u64,
-    },
+    /// The verdicts for packets: each one's text, 1 to 64 of them.
+    Test(Vec<&'a str>),
+    /// What became of a request: the node that accepted it, and its number there.
+    RequestStatus(u8, u64),
     /// The log from a position on, or its last lines.
-    Log {
-        /// The first position.
-        from: Option<u32>,
-    },
-    /// The entries at the applied positions, as they are spelled.
-    Entries {
-        /// The first position, 0 if it isn't given.
-        from: Option<u32>,
-        /// How many at most; 1,000 if it isn't given or is more.
-        count: Option<u32>,
-    },
-    /// How the node is, in lines or as JSON.
-    Status {
-        /// As JSON.
-        json: bool,
-    },
+    Log(Option<u32>),
+    /// The entries at the applied positions, as they are spelled: from the first position on, 0 if it isn't given, and
+    /// how many at most, 1,000 if that isn't given or is more.
+    Entries(Option<u32>, Option<u32>),
+    /// How the node is: as JSON where true, else in lines.
+    Status(bool),
     /// Whether the node works: it hasn't failed.
     Health,
     /// Whether it is up with the others.
@@ -49,13 +31,8 @@ pub enum Read<'a> {
 pub enum Request<'a> {
     /// A change.
     Change(Command),
-    /// A read, once that many positions are applied.
-    Read {
-        /// How many positions at least, 0 for any.
-        at: u32,
-        /// What is read.
-        read: Read<'a>,
-    },
+    /// A read, once that many positions are applied, 0 for any.
+    Read(u32, Read<'a>),
     /// The node is to end after this turn.
     Stop,
 }

@@ -2,14 +2,13 @@
 
 ghost use Rattle.std.specs.Prelude.{◌≡◌, IfOk, map, option_map, option_copied, if◌then◌else◌, Some, None};
 ghost use Rattle.std.specs.List.{before_first, after_first};
-ghost use Rattle.std.specs.Str.{is_utf8};
 ghost use Rattle.std.specs.Str.Lines.{lines};
 ghost use Rattle.pf_arguments.specs.Answers.{Answers};
 ghost use Rattle.pf_arguments.specs.Asked.{Asked};
 ghost use Rattle.node_requests.specs.inner.Parameters.{pairs_of};
 ghost use Rattle.node_requests.specs.Routing.{is_newline, change_asked, lines_in, reads, routed_value, lists};
-ghost use Rattle.node_requests.specs.Routing.{looked_up, entry_asked};
-ghost use Rattle.node_requests.specs.Routing.{test_asked, asked_at, target_asked};
+ghost use Rattle.node_requests.specs.Routing.{entry_asked};
+ghost use Rattle.node_requests.specs.Routing.{test_asked, asked_at};
 ghost use Rattle.node_requests.specs.Routing.{request_number, status_asked, plain_asked, behind, routed, read_value};
 
 use crate::listing::{rules, table, table_test, tables};
@@ -37,26 +36,14 @@ fn cut_at_newline(body: &[u8]) -> (&[u8], &[u8])
     }
 }
 
-/// Bytes as text, none where they aren't UTF-8.
-#[tactic(auto, using(pf_scripts::proofs::LinesCut::utf8_text, pf_scripts::proofs::LinesCut::no_text))]
-fn text_of(bytes: &[u8]) -> Option<&str>
-    ensures { option_map (λ s. s.now) result ≡ (if is_utf8 bytes.now then Some bytes.now else None) }
-{
-    str::from_utf8(bytes).ok()
-}
-
-/// The lines of a string.
-fn lines(alloc: Global, text: &str) -> Result<Vec<&str>, AllocError>
-    ensures { IfOk result (λ v. map (λ w. w.now) v.items ≡ lines text.now) }
-{
-    text.lines().collect(alloc)
-}
-
 /// The lines of a body, none where it isn't UTF-8.
 fn lines_in(alloc: Global, body: &[u8]) -> Result<Option<Vec<&str>>, AllocError>
     ensures { IfOk result (λ found. option_map (λ v. map (λ w. w.now) v.items) found ≡ lines_in body.now) }
 {
-    text_of(body).map(|text| lines(alloc, text)).transpose()
+    match str::from_utf8(body) {
+        Ok(text) => Ok(Some(text.lines().collect(alloc)?)),
+        Err(_) => Ok(None),
+    }
 }
 
 /// `N.NUMBER`
@@ -99,10 +86,7 @@ fn entry_in<'a>(alloc: Global, body: &[u8]) -> Asked<'a>
 fn reads<'a>(given: &[Parameter], read: Read<'a>) -> Routed<'a>
     ensures { routed_value result ≡ reads (pairs_of given.now) (read_value read.entry) }
 {
-    Routed::Asked(Request::Read {
-        at: position_of("at", given).unwrap_or(0),
-        read,
-    })
+    Routed::Asked(Request::Read(position_of("at", given).unwrap_or(0), read))
 }
 
 /// A read of what an action lists, or the number of its refusal.
@@ -116,14 +100,6 @@ fn lists<'a>(given: &[Parameter], asked: Result<Action, CommandFault>) -> Asked<
     }
 }
 
-/// The addresses of a line each, looked up in a table.
-fn table_test_in(alloc: Global, given: &[Parameter], body: &[u8]) -> Result<Action, CommandFault>
-    ensures { Answers result (looked_up (pairs_of given.now) (lines_in body.now)) }
-{
-    let lines = lines_in(alloc, body)?.ok_or(CommandFault::Usage)?;
-    table_test(alloc, given, &lines)
-}
-
 /// The verdicts for a line's packet each.
 fn test_in<'a>(alloc: Global, given: &[Parameter], body: &'a [u8]) -> Asked<'a>
     ensures { IfOk result (λ r. routed_value r ≡ test_asked (pairs_of given.now) body.now) }
@@ -134,7 +110,7 @@ fn test_in<'a>(alloc: Global, given: &[Parameter], body: &'a [u8]) -> Asked<'a>
     if packets.is_empty() || packets.len() > PACKETS_MAX {
         return Ok(Routed::Unread(USAGE));
     }
-    Ok(reads(given, Read::Test { packets }))
+    Ok(reads(given, Read::Test(packets)))
 }
 
 /// What a path asks for, of its parameters and the body.
@@ -156,34 +132,17 @@ fn asked_at<'a>(
         Target::Tables => lists(given, tables(alloc, given)),
         Target::Anchors => Ok(reads(given, Read::List(Action::ShowAnchors))),
         Target::Table => lists(given, table(alloc, given)),
-        Target::TableTest => lists(given, table_test_in(alloc, given, body)),
+        Target::TableTest => lists(given, table_test(alloc, given, lines_in(alloc, body)?)),
         Target::Test => test_in(alloc, given, body),
-        Target::Log => Ok(reads(given, Read::Log { from })),
-        Target::Entries => Ok(reads(given, Read::Entries { from, count })),
-        Target::Status => Ok(reads(given, Read::Status { json })),
+        Target::Log => Ok(reads(given, Read::Log(from))),
+        Target::Entries => Ok(reads(given, Read::Entries(from, count))),
+        Target::Status => Ok(reads(given, Read::Status(json))),
         Target::Health => Ok(reads(given, Read::Health)),
         Target::Ready => Ok(reads(given, Read::Ready)),
         Target::Metrics => Ok(reads(given, Read::Metrics)),
         Target::Stop => Ok(Routed::Asked(Request::Stop)),
         Target::Requests => Ok(Routed::Unread(USAGE)),
     }
-}
-
-/// What a path asks for, its method being right.
-fn target_asked<'a>(
-    alloc: Global,
-    target: Target,
-    query: &str,
-    body: &'a [u8],
-    json: bool,
-) -> Asked<'a>
-    ensures { IfOk result (λ r. routed_value r ≡ target_asked target query.now body.now json) }
-{
-    let given = parameters(alloc, query)?;
-    if !are_parameters(target, &given) {
-        return Ok(Routed::Refused(400));
-    }
-    asked_at(alloc, target, &given, body, json)
 }
 
 /// What the path behind `/v1/requests/` asks for: what became of that request.
@@ -200,7 +159,7 @@ fn status_asked<'a>(alloc: Global, method: &str, name: &str, query: &str) -> Ask
     if !are_parameters(Target::Requests, &given) {
         return Ok(Routed::Refused(400));
     }
-    Ok(reads(&given, Read::RequestStatus { origin, number }))
+    Ok(reads(&given, Read::RequestStatus(origin, number)))
 }
 
 /// What any other path asks for.
@@ -220,7 +179,11 @@ fn plain_asked<'a>(
     if method != target.method() {
         return Ok(Routed::Refused(405));
     }
-    target_asked(alloc, target, query, body, json)
+    let given = parameters(alloc, query)?;
+    if !are_parameters(target, &given) {
+        return Ok(Routed::Refused(400));
+    }
+    asked_at(alloc, target, &given, body, json)
 }
 
 /// What is behind the path of requests.
