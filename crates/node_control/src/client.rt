@@ -13,7 +13,6 @@ use http_server::{Config, Connection, Reason, Refusal, Service, State};
 use std::alloc::Global;
 use std::hash::RandomState;
 use std::io::{self, ErrorKind};
-use std::os::fd::RawFd;
 
 /// How long a client may move no byte, in microseconds.
 const QUIET: u64 = 30_000_000;
@@ -34,7 +33,7 @@ const READ: usize = 2_048;
 /// A connection over which requests come.
 #[derive(Drop)]
 pub(crate) struct Client {
-    stream: Stream,
+    pub(crate) stream: Stream,
     connection: Connection,
     /// When it moved a byte last, in microseconds.
     moved: u64,
@@ -57,12 +56,10 @@ pub(crate) enum Look {
 
 /// Whether bytes were moved, none after an error other than that nothing can be read or written now.
 fn moved(went: io::Result<usize>) -> Option<bool> {
-    match went {
-        Ok(_) => Some(true),
-        Err(error) => {
-            matches!(error.kind(), ErrorKind::WouldBlock | ErrorKind::Interrupted).then_some(false)
-        }
-    }
+    let Err(error) = went else {
+        return Some(true);
+    };
+    matches!(error.kind(), ErrorKind::WouldBlock | ErrorKind::Interrupted).then_some(false)
 }
 
 impl Client {
@@ -97,11 +94,6 @@ impl Client {
         ensures { result ≡ idle_since self.now }
     {
         self.began.unwrap_or(self.moved)
-    }
-
-    /// The descriptor of its stream.
-    pub(crate) fn raw_fd(&self) -> RawFd {
-        self.stream.raw_fd()
     }
 
     /// Whether anything is to be sent.

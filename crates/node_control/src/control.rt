@@ -24,12 +24,12 @@ use mio::unix::SourceFd;
 use mio::{Events, Interest, Poll, Token};
 use node_requests::Health;
 use px_records::Records;
-use std::alloc::{AllocError, Global};
+use std::alloc::Global;
 use std::fs::{self, DirBuilder, Files, Permissions};
 use std::hash::RandomState;
 use std::io::{self, Eprint, ErrorKind};
 use std::net::{Net, SocketAddr, TcpListener, TcpStream};
-use std::os::fd::RawFd;
+use std::os::fd::{AsRawFd, RawFd};
 use std::os::unix::fs::{DirBuilderExt, FileTypeExt, PermissionsExt};
 use std::os::unix::net::{UnixListener, UnixStream};
 use std::time::{Clock, Duration};
@@ -82,7 +82,6 @@ struct Entrance {
     most: usize,
     /// Which client is looked at next.
     next: usize,
-    alloc: Global,
     keys: RandomState,
 }
 
@@ -166,7 +165,7 @@ fn remove_folder<RT: Files>(rt: &RT, folder: &str, inner: &str) {
 
 /// The listening socket at the path, which doesn't wait. Whatever the umask is, its owner and its group may connect,
 /// and nobody before that is so: it is made in a folder of its own, `PATH.d`, where only its owner comes.
-fn listen<RT: Files + Net>(rt: &RT, alloc: Global, path: &str) -> io::Result<Listener> {
+fn listen<RT: Files + Net>(rt: &RT, alloc: Global, path: &str) -> io::Result<UnixListener> {
     let folder = format!(in alloc; "{path}.d")?;
     let inner = format!(in alloc; "{path}.d/s")?;
     let (folder, inner) = (folder.as_str(), inner.as_str());
@@ -177,26 +176,14 @@ fn listen<RT: Files + Net>(rt: &RT, alloc: Global, path: &str) -> io::Result<Lis
     DirBuilder::new().mode(FOLDER_MODE).create(rt, folder)?;
     let listener = bind_at(rt, folder, inner, path);
     remove_folder(rt, folder, inner);
-    Ok(Listener::Local(listener?))
-}
-
-/// The listening socket at the address, which doesn't wait.
-fn listen_at<RT>(rt: &RT, address: SocketAddr) -> io::Result<Listener>
-where
-    RT: Net<Listener = TcpListener, Stream = TcpStream>,
-{
-    let listener = TcpListener::bind(rt, address)?;
-    listener.set_nonblocking(true)?;
-    Ok(Listener::Tcp(listener))
+    listener
 }
 
 /// Has a wait end when something comes at the descriptor.
 fn watch(poll: &Poll, fd: RawFd) -> io::Result<()> {
-    poll.registry().register(
-        &mut SourceFd(&fd),
-        Token(0),
-        Interest::READABLE | Interest::WRITABLE,
-    )
+    let interest = Interest::READABLE | Interest::WRITABLE;
+    poll.registry()
+        .register(&mut SourceFd(&fd), Token(0), interest)
 }
 
 /// Since when the client has been left alone that has been for the longest time.
@@ -221,7 +208,6 @@ impl Entrance {
             clients,
             most,
             next: 0,
-            alloc,
             keys,
         })
     }
@@ -260,11 +246,9 @@ impl Entrance {
     fn has_room(&self, now: u64) -> bool
         ensures { result ≡ has_room now self.now.most self.now.clients.items }
     {
+        let silent = self.clients.get(self.most_silent());
         self.clients.len() <= self.most
-            || match self.clients.get(self.most_silent()) {
-                Some(client) => now > client.idle_since().saturating_add(SILENT),
-                None => false,
-            }
+            || silent.is_some_and(|client| now > client.idle_since().saturating_add(SILENT))
     }
 
     /// Accepts a waiting connection, if there is room, or in place of the one that is silent longest. Whether one came.
@@ -290,8 +274,8 @@ impl Entrance {
         if self.clients.len() > self.most {
             self.dismiss_silent();
         }
-        let client = Client::new(self.alloc, keys, stream, now);
-        if watch(poll, client.raw_fd()).is_ok() {
+        let client = Client::new(*self.clients.allocator(), keys, stream, now);
+        if watch(poll, client.stream.raw_fd()).is_ok() {
             let _seated = self.clients.push(client);
         }
     }
@@ -505,30 +489,6 @@ impl ControlSocket {
         }
     }
 
-    /// Serves the clients of figures, and operators where nothing was done there.
-    fn figures_first<R: Records>(&mut self, service: &mut HttpService<R>, now: u64) -> bool
-        ensures asks { AsksWithin service.old service.new }
-        ensures kept { IsKept service.old service.new }
-        ensures serves { Serves service.old service.new }
-    {
-        if self.serve_figures(service, now) {
-            return true;
-        }
-        self.operators.serve(&self.poll, service, false, now)
-    }
-
-    /// Serves operators, and the clients of figures where nothing was done there.
-    fn operators_first<R: Records>(&mut self, service: &mut HttpService<R>, now: u64) -> bool
-        ensures asks { AsksWithin service.old service.new }
-        ensures kept { IsKept service.old service.new }
-        ensures serves { Serves service.old service.new }
-    {
-        if self.operators.serve(&self.poll, service, false, now) {
-            return true;
-        }
-        self.serve_figures(service, now)
-    }
-
     /// Serves clients between two rounds of the node, operators and the clients of figures first in turn: some
     /// changes are asked, or one other request is worked at. Whether anything was done.
     pub(crate) fn serve<R: Records>(&mut self, service: &mut HttpService<R>, now: u64) -> bool
@@ -539,9 +499,10 @@ impl ControlSocket {
         service.changes_left = CHANGES;
         self.is_figures_first = !self.is_figures_first;
         if self.is_figures_first {
-            return self.figures_first(service, now);
+            return self.serve_figures(service, now)
+                || self.operators.serve(&self.poll, service, false, now);
         }
-        self.operators_first(service, now)
+        self.operators.serve(&self.poll, service, false, now) || self.serve_figures(service, now)
     }
 }
 
@@ -562,17 +523,15 @@ fn open_path<RT: Files + Net>(
         ErrorKind::OutOfMemory => ControlFault::Memory,
         _ => ControlFault::NoSocket,
     })?;
-    if watch(poll, listener.raw_fd()).is_err() {
+    if watch(poll, listener.as_raw_fd()).is_err() {
         let _gone = fs::remove_file(rt, path);
         return Err(ControlFault::NoSocket);
     }
-    match Entrance::new(alloc, keys, listener, CLIENTS) {
-        Ok(entrance) => Ok(entrance),
-        Err(AllocError) => {
-            let _gone = fs::remove_file(rt, path);
-            Err(ControlFault::Memory)
-        }
+    let entrance = Entrance::new(alloc, keys, Listener::Local(listener), CLIENTS);
+    if entrance.is_err() {
+        let _gone = fs::remove_file(rt, path);
     }
+    entrance.map_err(|_| ControlFault::Memory)
 }
 
 /// The entrance at the port of figures, if there is to be one.
@@ -591,10 +550,12 @@ where
         return Ok(None);
     };
     let keys = keys.clone().map_err(|_| ControlFault::Memory)?;
-    let listener = listen_at(rt, address).map_err(|_| ControlFault::NoPort)?;
-    if watch(poll, listener.raw_fd()).is_err() {
-        return Err(ControlFault::NoPort);
-    }
+    let listener = TcpListener::bind(rt, address).map_err(|_| ControlFault::NoPort)?;
+    listener
+        .set_nonblocking(true)
+        .map_err(|_| ControlFault::NoPort)?;
+    watch(poll, listener.as_raw_fd()).map_err(|_| ControlFault::NoPort)?;
+    let listener = Listener::Tcp(listener);
     let entrance = Entrance::new(alloc, keys, listener, FIGURE_CLIENTS);
     Ok(Some(entrance.map_err(|_| ControlFault::Memory)?))
 }

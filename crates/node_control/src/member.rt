@@ -64,13 +64,6 @@ where
     }
 }
 
-/// The control socket is closed, if there is one.
-fn close_at<RT: Files>(rt: &RT, control: Option<ControlSocket>, place: Option<ControlPlace<'_>>) {
-    if let (Some(control), Some(place)) = (control, place) {
-        control.close(rt, place.path);
-    }
-}
-
 /// Where the members listen, as clients are answered.
 fn members_at<'a>(place: Option<ControlPlace<'a>>) -> &'a str
     ensures { result.now ≡ unwrap_or (option_map (λ p. p.members.now) place.entry) [] }
@@ -149,10 +142,11 @@ where
     ensures made { OnFront result.0 (MakesTurns turns (T.timer_events timer.old) (T.timer_events timer.new)) }
     ensures same { W.identity wire.new ≡ W.identity wire.old }
 {
-    let mut control = match open_at(rt, alloc, place) {
-        Ok(control) => control,
+    let mut opened = match open_at(rt, alloc, place) {
+        Ok(opened) => opened,
         Err(ended) => return (ended, node),
     };
+    let members = members_at(place);
     let (ended, node) = run_node(
         rt,
         alloc,
@@ -160,12 +154,14 @@ where
         wire,
         timer,
         observer,
-        members_at(place),
+        members,
         hears_asks,
-        &mut control,
+        &mut opened,
         turns,
     );
-    close_at(rt, control, place);
+    if let (Some(control), Some(place)) = (opened, place) {
+        control.close(rt, place.path);
+    }
     (ended, node)
 }
 

@@ -1,6 +1,7 @@
 //! What is seen of a node as it runs.
 
 ghost use Rattle.std.specs.Prelude.{◌≡◌, ◌==◌, ◌||◌, not, if◌then◌else◌, map, length, IfOk, string_bytes};
+ghost use Rattle.node_loop.specs.Progress.{counts_in, heads_in};
 ghost use Rattle.node_control.specs.Observers.{HasSeenNothing, first_rows, has_packets_of, is_quiet_of};
 ghost use Rattle.node_control.specs.inner.Watching.{proposed_by, proposed_after, proposed_then};
 ghost use Rattle.node_control.specs.inner.Watching.{is_proposed, stood_since, seconds_since};
@@ -10,10 +11,10 @@ ghost use Rattle.node_control.specs.inner.Rows.{is_due, sampled, reported, sent_
 
 use crate::hearing::Hearing;
 use crate::service::Made;
-use node_loop::{Progress, RoundCounts};
+use node_loop::{Progress, RoundCounts, TurnBuffers};
 use node_requests::{Counters, PeerCounters};
 use px_wire::{Head, Membership};
-use std::alloc::{AllocError, Global};
+use std::alloc::Global;
 use std::io::Eprint;
 
 /// How long another member's proposal counts, in microseconds: it is made again after some 4 seconds at most.
@@ -89,13 +90,8 @@ fn is_proposed(front: u32, now: u64, proposed: Proposed) -> bool
 fn stood_since(has_moved: bool, waits: bool, since: Option<u64>, now: u64) -> Option<u64>
     ensures { result ≡ stood_since has_moved waits since now }
 {
-    if !waits {
-        return None;
-    }
-    if has_moved {
-        return Some(now);
-    }
-    Some(since.unwrap_or(now))
+    let stood = if has_moved { now } else { since.unwrap_or(now) };
+    waits.then_some(stood)
 }
 
 /// How many whole seconds have passed since then.
@@ -124,7 +120,7 @@ fn count_sent(rows: &mut Vec<Row>, counts: &RoundCounts)
 }
 
 /// A row for each member but this one.
-fn first_rows(alloc: Global, m: Membership) -> Result<Vec<Row>, AllocError>
+fn first_rows(alloc: Global, m: Membership) -> Made<Vec<Row>>
     ensures { IfOk result (λ rows. rows.items ≡ first_rows m.me m.members) }
 {
     let mut rows = Vec::new(alloc);
@@ -191,12 +187,7 @@ impl Row {
 impl Observer {
     /// The observer of this member, which has seen nothing; whether datagrams go in packets, so that none is too long
     /// for one, and whether it warns alone, and reports nothing else, on standard error.
-    pub fn new(
-        alloc: Global,
-        m: Membership,
-        has_packets: bool,
-        is_quiet: bool,
-    ) -> Result<Observer, AllocError>
+    pub fn new(alloc: Global, m: Membership, has_packets: bool, is_quiet: bool) -> Made<Observer>
         ensures new { IfOk result (HasSeenNothing m) }
         ensures packets { IfOk result (λ o. has_packets_of o ≡ has_packets) }
         ensures quiet { IfOk result (λ o. is_quiet_of o ≡ is_quiet) }
@@ -392,15 +383,11 @@ impl Observer {
 
     /// Writes on standard error what is to be reported of the members that were heard in a round, after which the node
     /// lacks entries that others have, or not.
-    pub(crate) fn hear<RT: Eprint>(
-        &mut self,
-        rt: &RT,
-        heads: &[Head],
-        counts: &RoundCounts,
-        is_lacking: bool,
-    )
-        ensures { seen_of self.new ≡ listened is_lacking heads.now counts.now (seen_of self.old) }
+    pub(crate) fn hear<RT: Eprint>(&mut self, rt: &RT, buffers: &TurnBuffers, is_lacking: bool)
+        ensures { seen_of self.new ≡
+            listened is_lacking (heads_in buffers.now) (counts_in buffers.now) (seen_of self.old) }
     {
+        let (heads, counts) = (buffers.heads(), buffers.counts());
         self.hearing.look(rt, heads, counts, self.now);
         self.hearing.note_lack(rt, is_lacking, self.now);
     }

@@ -37,14 +37,12 @@ fn serve<R: Records, RT: Clock + Eprint>(
     ensures kept { IsKept service.old service.new }
     ensures serves { ServesAt control.old service.old service.new }
 {
-    match control {
-        Some(control) => {
-            control.note(rt, service);
-            service.counters.clients = control.clients() as u64;
-            control.serve(service, now)
-        }
-        None => false,
-    }
+    let Some(control) = control else {
+        return false;
+    };
+    control.note(rt, service);
+    service.counters.clients = control.clients() as u64;
+    control.serve(service, now)
 }
 
 /// Waits until something comes, over the wire or at the control socket, the given number of milliseconds at most.
@@ -93,14 +91,11 @@ fn pass<R: Records, W: Wire, T: Timer, RT: Clock + Eprint>(
 {
     let node = &service.handler.node;
     observer.begin(now, node.front(), node.waiting() > 0);
-    let made = match round(&mut service.handler.node, wire, buffers, timer, now) {
-        Ok(made) => made,
-        Err(fault) => return Err(fault),
-    };
+    let made = round(&mut service.handler.node, wire, buffers, timer, now)?;
     observer.count(buffers.heads(), buffers.counts());
     observer.report(&mut service.counters, made);
     service.is_listening = timer.is_listening(now);
-    observer.hear(rt, buffers.heads(), buffers.counts(), service.is_listening);
+    observer.hear(rt, buffers, service.is_listening);
     if !serve(rt, service, control, now) {
         wait(wire, control, made.wait);
     }
@@ -155,10 +150,8 @@ fn passes<R: Records, W: Wire, T: Timer, S: Stopwatch, RT: Clock + Eprint>(
             return Ok(true);
         }
         let now = microseconds(clock, start);
-        match pass(rt, service, wire, observer, buffers, control, timer, now) {
-            Ok(used) => left = left.saturating_sub(u64::from(used)),
-            Err(fault) => return Err(fault),
-        }
+        let used = pass(rt, service, wire, observer, buffers, control, timer, now)?;
+        left = left.saturating_sub(u64::from(used));
     }
     Ok(false)
 }
@@ -193,16 +186,10 @@ pub(crate) fn pass_on<R: Records, W: Wire, T: Timer, S: Stopwatch, RT: Clock + E
     ensures same { W.identity wire.new ≡ W.identity wire.old }
 {
     let start = clock.read();
-    match passes(
+    let is_stopped = passes(
         rt, service, wire, observer, buffers, control, timer, clock, start, turns,
-    ) {
-        Ok(is_stopped) => {
-            let node = &mut service.handler.node;
-            match finish(node, wire, buffers, timer, clock, start) {
-                Ok(()) => Ok(is_stopped),
-                Err(fault) => Err(fault),
-            }
-        }
-        Err(fault) => Err(fault),
-    }
+    )?;
+    let node = &mut service.handler.node;
+    finish(node, wire, buffers, timer, clock, start)?;
+    Ok(is_stopped)
 }

@@ -9,10 +9,10 @@ ghost use Rattle.node_requests.specs.Answers.{answer_value};
 ghost use Rattle.node_requests.specs.Routing.{routed_value};
 ghost use Rattle.node_control.specs.inner.Answering.{node_fields, answer_fields, content_type};
 ghost use Rattle.node_control.specs.inner.Asking.{accepts_json, asked_for, is_of_figures};
-ghost use Rattle.node_control.specs.inner.Handling.{Carries, IsAnswered, IsKept, IsTurnedAway, IsPassedOn, HandledAs};
+ghost use Rattle.node_control.specs.inner.Handling.{Carries, IsAnswered, IsKept, IsTurnedAway, IsPassedOn};
 ghost use Rattle.node_control.specs.inner.Handling.{AnswersRequest, IsHandled, counted_as};
-ghost use Rattle.node_control.specs.inner.Handling.{is_served, is_urgent, is_change, is_read};
-ghost use Rattle.node_control.specs.inner.Handling.{waiting, no_text, not_found};
+ghost use Rattle.node_control.specs.inner.Handling.{is_served, is_urgent, is_change};
+ghost use Rattle.node_control.specs.inner.Handling.{waiting, no_text};
 
 use bytes::{BufMut, Bytes};
 use http::{HeaderName, HeaderValue, StatusCode, Uri};
@@ -52,9 +52,9 @@ fn content_type(request: &Request) -> &'static str
     ensures { result.now ≡ content_type request.now }
 {
     match request {
-        Request::Read { at: _, read } => match read {
+        Request::Read(_, read) => match read {
             Read::Metrics => "text/plain; version=0.0.4",
-            Read::Status { json: true } => "application/json",
+            Read::Status(true) => "application/json",
             _ => TEXT,
         },
         _ => TEXT,
@@ -82,16 +82,9 @@ fn is_urgent(request: &Request) -> bool
 {
     match request {
         Request::Stop => true,
-        Request::Read { at: _, read } => matches!(read, Read::Health | Read::Ready),
+        Request::Read(_, read) => matches!(read, Read::Health | Read::Ready),
         Request::Change(_) => false,
     }
-}
-
-/// Whether a change is asked for.
-fn is_change(request: &Request) -> bool
-    ensures { result ≡ is_change request.now }
-{
-    matches!(request, Request::Change(_))
 }
 
 /// Adds a field.
@@ -159,8 +152,7 @@ impl<R: Records> HttpService<R> {
     pub(crate) fn close(self) -> Node<R>
         ensures { result ≡ self.handler.node }
     {
-        let HttpService { handler, .. } = self;
-        handler.close()
+        self.handler.close()
     }
 
     /// Names the node that answers, and the number of positions that it applied.
@@ -179,21 +171,6 @@ impl<R: Records> HttpService<R> {
         Ok(())
     }
 
-    /// Adds the fields of an answer.
-    fn add_fields(&self, code: u16, kind: &str, response: &mut Response) -> Made<()>
-        ensures fields { OnOk result
-            (fields_of response.new ≡ fields_of response.old ++ answer_fields self.now.handler.node code kind.now) }
-        ensures status { OnOk result (response.new.status ≡ response.old.status) }
-        ensures body { OnOk result (response.new.body.items ≡ response.old.body.items) }
-    {
-        self.add_node_fields(response)?;
-        add_text(self.alloc, response, b"content-type", kind)?;
-        if code == 503 {
-            add_text(self.alloc, response, b"retry-after", "1")?;
-        }
-        Ok(())
-    }
-
     /// Fills a response with an answer.
     fn fill(&self, answer: &Answer, kind: &str, response: &mut Response) -> Made<()>
         requires { IsBlank response.old }
@@ -203,7 +180,11 @@ impl<R: Records> HttpService<R> {
         ensures body { OnOk result (response.new.body.items ≡ string_bytes answer.now.body) }
     {
         response.status = StatusCode::from_u16(answer.code).map_err(|_| AllocError)?;
-        self.add_fields(answer.code, kind, response)?;
+        self.add_node_fields(response)?;
+        add_text(self.alloc, response, b"content-type", kind)?;
+        if answer.code == 503 {
+            add_text(self.alloc, response, b"retry-after", "1")?;
+        }
         response.body.put_slice(answer.body.as_bytes())
     }
 
@@ -301,27 +282,6 @@ impl<R: Records> HttpService<R> {
         self.turn_away(&Answer { code: 503, body }, response)
     }
 
-    /// Reads, where figures alone are served.
-    fn look(&mut self, request: &Request, response: &mut Response) -> Made<()>
-        requires { IsBlank response.old }
-        ensures read { is_read request.now ≡ true → OnOk result
-            (IsAnswered self.old.handler self.new.handler self.old.counters request.now response.new) }
-        ensures other { is_read request.now ≡ false → OnOk result
-            (IsTurnedAway self.old self.new not_found response.new) }
-        ensures still { self.new.handler ≡ self.old.handler }
-        ensures left { self.new.changes_left ≡ self.old.changes_left }
-        ensures memory { OnErr result (self.new ≡ self.old) }
-        ensures scraped { self.new.is_scraped ≡ self.old.is_scraped }
-        ensures kept { IsKept self.old self.new }
-        ensures counted { OnOk result
-            (self.new.counters ≡ counted_as self.old.is_scraped response.new.status self.old.counters) }
-    {
-        match request {
-            Request::Read { at: _, read: _ } => self.ask(request, response),
-            Request::Change(_) | Request::Stop => self.refuse(404, response),
-        }
-    }
-
     /// Asks a change, unless the node is catching up, or as many were asked since its last round as may be.
     fn change(&mut self, request: &Request, response: &mut Response) -> Made<()>
         requires blank { IsBlank response.old }
@@ -361,33 +321,15 @@ impl<R: Records> HttpService<R> {
             return self.put_off(response);
         }
         if self.is_scraped {
-            return self.look(request, response);
+            return match request {
+                Request::Read(_, _) => self.ask(request, response),
+                Request::Change(_) | Request::Stop => self.refuse(404, response),
+            };
         }
-        if is_change(request) {
+        if matches!(request, Request::Change(_)) {
             return self.change(request, response);
         }
         self.ask(request, response)
-    }
-
-    /// Handles what a request asks for.
-    fn handle_as(&mut self, routed: &Routed, response: &mut Response) -> Made<()>
-        requires { IsBlank response.old }
-        ensures handled { OnOk result (HandledAs self.old self.new (routed_value routed.now) response.new) }
-        ensures still { self.old.is_scraped ≡ true → self.new.handler ≡ self.old.handler }
-        ensures memory { OnErr result (self.new ≡ self.old) }
-        ensures scraped { self.new.is_scraped ≡ self.old.is_scraped }
-        ensures kept { IsKept self.old self.new }
-        ensures counted { OnOk result
-            (self.new.counters ≡ counted_as self.old.is_scraped response.new.status self.old.counters) }
-    {
-        match routed {
-            Routed::Asked(request) => self.pass_on(request, response),
-            Routed::Refused(status) => self.refuse(*status, response),
-            Routed::Unread(code) => {
-                let answer = Answer::refused(self.alloc, *code, 0)?;
-                self.turn_away(&answer, response)
-            }
-        }
     }
 
     /// Whether what the request is for is served here.
@@ -412,7 +354,14 @@ impl<R: Records> HttpService<R> {
             return self.refuse(404, response);
         }
         let routed = asked_for(self.alloc, request)?;
-        self.handle_as(&routed, response)
+        match &routed {
+            Routed::Asked(asked) => self.pass_on(asked, response),
+            Routed::Refused(status) => self.refuse(*status, response),
+            Routed::Unread(code) => {
+                let answer = Answer::refused(self.alloc, *code, 0)?;
+                self.turn_away(&answer, response)
+            }
+        }
     }
 }
 

@@ -71,25 +71,12 @@ impl Stream {
 }
 
 impl Listener {
-    /// Its descriptor.
-    pub(crate) fn raw_fd(&self) -> RawFd {
-        match self {
-            Listener::Local(listener) => listener.as_raw_fd(),
-            Listener::Tcp(listener) => listener.as_raw_fd(),
-        }
-    }
-
-    /// The next connection that has come, if one has.
-    fn accept(&self) -> io::Result<Stream> {
-        match self {
-            Listener::Local(listener) => listener.accept().map(|(stream, _)| Stream::Local(stream)),
-            Listener::Tcp(listener) => listener.accept().map(|(stream, _)| Stream::Tcp(stream)),
-        }
-    }
-
     /// The next connection that has come, which doesn't wait; an error where none has come.
     pub(crate) fn next(&self) -> io::Result<Option<Stream>> {
-        let stream = self.accept()?;
+        let stream = match self {
+            Listener::Local(listener) => Stream::Local(listener.accept()?.0),
+            Listener::Tcp(listener) => Stream::Tcp(listener.accept()?.0),
+        };
         Ok(stream.hasten().is_ok().then_some(stream))
     }
 }

@@ -108,10 +108,6 @@ noted_if h (Some p) s = noted h p s
 abbrev pub shown_by : Head → PeerProgress → PeerProgress
 shown_by h s = noted_if h h.position (reaching (learned_below h) s)
 
--- nothing was seen
-abbrev pub unseen : PeerProgress
-unseen = record { reached = 0; has_learned = false; accepting = 0; lacking = replicate 15 0 }
-
 -- what was seen, once it was looked at: how far others are stays
 abbrev pub looked : PeerProgress → PeerProgress
 looked s = record { reached = s.reached; has_learned = false; accepting = 0; lacking = replicate 15 0 }

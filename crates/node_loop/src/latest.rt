@@ -37,7 +37,6 @@ impl Latest {
         ensures request { requests_in result ≡ [] }
     {
         Latest {
-            alloc,
             ballot: 0,
             position: 0,
             kept: Vec::new(alloc),
@@ -67,13 +66,8 @@ impl Latest {
         ensures lost { OnErr result (sent_in self.new ≡ sent_in self.old) }
         ensures request { requests_in self.new ≡ requests_in self.old }
     {
-        let copy = Vec::from_slice(self.alloc, bytes)?;
-        self.kept.push(Kept {
-            to,
-            kind,
-            bytes: copy,
-        })?;
-        Ok(())
+        let bytes = Vec::from_slice(*self.kept.allocator(), bytes)?;
+        Ok(self.kept.push(Kept { to, kind, bytes })?)
     }
 
     /// Keeps a datagram that was sent, if it is an accept request or a vote that isn't below the position of the last;
@@ -174,30 +168,22 @@ impl Latest {
         }
     }
 
-    /// Hands the datagram with this number to the wire, unless it is longer than a packet and it is too early for that:
-    /// its addressee and its length, if it was handed over.
-    fn hand<W: Wire>(&self, wire: &mut W, i: usize, now: u64) -> Option<(u8, usize)>
-        ensures again { HandsAt i (sent_in self.entry.now) (W.traffic wire.old) (W.traffic wire.new) }
-        ensures same { W.identity wire.new ≡ W.identity wire.old }
-    {
-        let kept = self.kept.get(i)?;
-        let length = kept.bytes.len();
-        if length > PACKET && !self.is_large_due(kept.to, now) {
-            return None;
-        }
-        let _sent = wire.send(kept.to, kept.bytes.as_slice());
-        Some((kept.to, length))
-    }
-
-    /// The same, and notes what was handed over.
+    /// Hands the datagram with this number to the wire, unless it is longer than a packet and it is too early for that,
+    /// and notes what was handed over.
     pub(crate) fn send<W: Wire>(&mut self, wire: &mut W, i: usize, now: u64)
         ensures again { HandsAt i (sent_in self.old) (W.traffic wire.old) (W.traffic wire.new) }
         ensures kept { sent_in self.new ≡ sent_in self.old }
         ensures request { requests_in self.new ≡ requests_in self.old }
         ensures same { W.identity wire.new ≡ W.identity wire.old }
     {
-        if let Some((to, length)) = self.hand(wire, i, now) {
-            self.pass(to, length, now);
+        let Some(kept) = self.kept.get(i) else {
+            return;
+        };
+        let (to, length) = (kept.to, kept.bytes.len());
+        if length > PACKET && !self.is_large_due(to, now) {
+            return;
         }
+        let _sent = wire.send(to, kept.bytes.as_slice());
+        self.pass(to, length, now);
     }
 }

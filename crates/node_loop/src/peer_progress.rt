@@ -1,15 +1,14 @@
 //! What messages show of how far other members are.
 
 ghost use Rattle.std.specs.Prelude.{◌≡◌};
-ghost use Rattle.node_loop.specs.Progress.{shown_by, noted, looked, reaching, lacking, lacked, with_learned, accepting};
-ghost use Rattle.node_loop.specs.Progress.{unseen};
+ghost use Rattle.node_loop.specs.Progress.{shown_by, looked, reaching, lacking, lacked};
 
 use crate::packet::MEMBERS;
 use px_wire::{Head, Kind};
 
 /// What was seen of other members since the start, by the messages that came to this one. It decides when the clock
 /// ticks and what is sent again, and nothing else.
-#[derive(Clone, Copy, PartialEq, Eq)]
+#[derive(Clone, Copy, PartialEq, Eq, Default)]
 pub(crate) struct PeerProgress {
     /// A position below which some member has learned all, as far as is seen.
     pub(crate) reached: u32,
@@ -23,23 +22,11 @@ pub(crate) struct PeerProgress {
 }
 
 impl PeerProgress {
-    /// Nothing was seen.
-    pub(crate) fn new() -> PeerProgress
-        ensures { result ≡ unseen }
-    {
-        PeerProgress {
-            reached: 0,
-            has_learned: false,
-            accepting: 0,
-            lacking: [0; MEMBERS],
-        }
-    }
-
     /// What has come is looked at.
     pub(crate) fn looked(self) -> PeerProgress
         ensures { result ≡ looked self }
     {
-        PeerProgress::new().reaching(self.reached)
+        PeerProgress::default().reaching(self.reached)
     }
 
     /// The position from which on this member is to be sent what it lacks, if it lacks any of those below the front.
@@ -71,48 +58,28 @@ impl PeerProgress {
         PeerProgress { reached, ..self }
     }
 
-    /// An entry came that this member had asked for.
-    fn with_learned(self) -> PeerProgress
-        ensures { result ≡ with_learned self }
-    {
-        PeerProgress {
-            has_learned: true,
-            ..self
-        }
-    }
-
-    /// An accept request came for the position before this one.
-    fn accepting(self, next: u32) -> PeerProgress
-        ensures { result ≡ accepting next self }
-    {
-        let accepting = self.accepting.max(next);
-        PeerProgress { accepting, ..self }
-    }
-
-    /// With what a message about this position shows beside how far its sender is. A need is answered with its own
-    /// entry.
-    fn noting(self, head: &Head, position: u32) -> PeerProgress
-        ensures { result ≡ noted head.now position self }
-    {
-        match head.kind {
-            Kind::Prepare | Kind::PrepareAll => {
-                self.lacking(head.from, position.saturating_add(1))
-            }
-            Kind::Need => self.lacking(head.from, position.saturating_add(2)),
-            Kind::Accept if head.from != head.to => self.accepting(position.saturating_add(1)),
-            Kind::Learned => self.with_learned(),
-            _ => self,
-        }
-    }
-
-    /// With what a message with this head shows of its sender.
+    /// With what a message with this head shows of its sender: how far it is, and what else one about a position shows.
+    /// A need is answered with its own entry.
     pub(crate) fn after(self, head: &Head) -> PeerProgress
         ensures { result ≡ shown_by head.now self }
     {
         let seen = self.reaching(head.learned_below());
-        match head.position {
-            Some(position) => seen.noting(head, position),
-            None => seen,
+        let Some(position) = head.position else {
+            return seen;
+        };
+        let next = position.saturating_add(1);
+        match head.kind {
+            Kind::Prepare | Kind::PrepareAll => seen.lacking(head.from, next),
+            Kind::Need => seen.lacking(head.from, position.saturating_add(2)),
+            Kind::Accept if head.from != head.to => {
+                let accepting = seen.accepting.max(next);
+                PeerProgress { accepting, ..seen }
+            }
+            Kind::Learned => PeerProgress {
+                has_learned: true,
+                ..seen
+            },
+            _ => seen,
         }
     }
 }

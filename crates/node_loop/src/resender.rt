@@ -177,6 +177,6 @@ impl Resender {
     {
         let votes = self.votes.walk(self.me, front, self.now);
         self.votes.send(wire, self.me, votes);
-        votes.has_any()
+        votes.position.is_some()
     }
 }

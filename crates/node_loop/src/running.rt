@@ -13,6 +13,7 @@ ghost use Rattle.node_loop.specs.Timing.{IsShort, LooksTimes, MakesRound, WorksO
 ghost use Rattle.node_loop.specs.Times.{IsTimed, LooksAt};
 ghost use Rattle.node_loop.specs.Turns.{Served, TickedIf, in_loop};
 
+use crate::counts::RoundCounts;
 use crate::peer_progress::PeerProgress;
 use crate::resender::Resender;
 use crate::serving::{drain, tick_now};
@@ -113,41 +114,9 @@ fn action<T: Timer>(timer: &mut T, peer_progress: &mut PeerProgress, now: u64, v
     action
 }
 
-/// Members whose messages show that they lack entries below the front are sent again what was sent to them of those.
-fn remind<W: Wire>(wire: &mut W, resender: &mut Resender, peer_progress: &PeerProgress, front: u32)
-    ensures again { HandsAgain (kept_of resender.old) (W.traffic wire.old) (W.traffic wire.new) }
-    ensures kept { kept_of resender.new ≡ kept_of resender.old }
-    ensures requests { requests_of resender.new ≡ requests_of resender.old }
-    ensures same { W.identity wire.new ≡ W.identity wire.old }
-{
-    for member in 0..MEMBERS {
-        if let Some(position) = peer_progress.lacks(member, front) {
-            resender.repeat_to(wire, member, position);
-        }
-    }
-}
-
-/// The same; and what was sent of the positions from the front on is sent again, if that is due.
-fn repeat<W: Wire>(
-    wire: &mut W,
-    resender: &mut Resender,
-    peer_progress: &PeerProgress,
-    is_due: bool,
-    front: u32,
-)
-    ensures again { HandsAgain (kept_of resender.old) (W.traffic wire.old) (W.traffic wire.new) }
-    ensures kept { kept_of resender.new ≡ kept_of resender.old }
-    ensures requests { requests_of resender.new ≡ requests_of resender.old }
-    ensures same { W.identity wire.new ≡ W.identity wire.old }
-{
-    remind(wire, resender, peer_progress, front);
-    if is_due {
-        resender.repeat(wire, front);
-    }
-}
-
-/// The same; and a member that others have passed is handed its own votes again that its window has reached: whether
-/// there were any.
+/// Members whose messages show that they lack entries below the front are sent again what was sent to them of those;
+/// what was sent of the positions from the front on is sent again, if that is due; and a member that others have passed
+/// is handed its own votes again that its window has reached. Returns whether there were any such votes.
 fn resend<W: Wire>(
     wire: &mut W,
     resender: &mut Resender,
@@ -160,7 +129,14 @@ fn resend<W: Wire>(
     ensures requests { requests_of resender.new ≡ requests_of resender.old }
     ensures same { W.identity wire.new ≡ W.identity wire.old }
 {
-    repeat(wire, resender, peer_progress, is_due, front);
+    for member in 0..MEMBERS {
+        if let Some(position) = peer_progress.lacks(member, front) {
+            resender.repeat_to(wire, member, position);
+        }
+    }
+    if is_due {
+        resender.repeat(wire, front);
+    }
     if peer_progress.reached > front {
         return resender.repeat_own(wire, front);
     }
@@ -176,7 +152,7 @@ fn begin(buffers: &mut TurnBuffers, now: u64)
     ensures counts { counts_in buffers.new ≡ nothing_of (counts_in buffers.old).me }
     ensures time { time_of buffers.new.resender ≡ now }
 {
-    buffers.counts = buffers.counts.next();
+    buffers.counts = RoundCounts::new(buffers.counts.me);
     buffers.resender.set_time(now);
 }
 
@@ -215,10 +191,7 @@ pub fn round<R: Records, W: Wire, T: Timer>(
 {
     let was = node.front();
     begin(buffers, now);
-    let handled = match drain(node, wire, buffers, MOST) {
-        Ok(handled) => handled,
-        Err(fault) => return Err(fault),
-    };
+    let handled = drain(node, wire, buffers, MOST)?;
     let seen = buffers.peer_progress;
     let view = view_of(node, buffers, was);
     let action = action(timer, &mut buffers.peer_progress, now, view);
@@ -254,13 +227,9 @@ pub fn finish<R: Records, W: Wire, T: Timer, S: Stopwatch>(
         if left == 0 || node.waiting() == 0 {
             return Ok(());
         }
-        match round(node, wire, buffers, timer, microseconds(clock, start)) {
-            Ok(made) => {
-                wire.wait(made.wait);
-                left = left.saturating_sub(made.wait.max(1));
-            }
-            Err(fault) => return Err(fault),
-        }
+        let made = round(node, wire, buffers, timer, microseconds(clock, start))?;
+        wire.wait(made.wait);
+        left = left.saturating_sub(made.wait.max(1));
     }
     Ok(())
 }

@@ -81,33 +81,9 @@ pub fn tick_now<R: Records, W: Wire>(
     result
 }
 
-/// What was taken is noted by its head: what that shows of its sender, the head itself, where there is memory, and a
-/// request that may come again.
-fn note(
-    peer_progress: &mut PeerProgress,
-    heads: &mut Vec<Head>,
-    resender: &mut Resender,
-    bytes: &[u8],
-)
-    ensures kept { kept_of resender.new ≡ kept_of resender.old }
-    ensures requests { AreAmong (requests_of resender.new) (requests_of resender.old ++ bytes.now ∷ []) }
-    ensures shown { (g : Group) (from to : ℕ) (message : Message) → DatagramBytes g from to message bytes.now →
-        peer_progress.new ≡ shown_by (head_of from to message) peer_progress.old }
-    ensures heard { vec_len heads.old < vec_capacity heads.old →
-        (g : Group) (from to : ℕ) (message : Message) → DatagramBytes g from to message bytes.now →
-        heads.new.items ≡ heads.old.items ++ head_of from to message ∷ [] }
-    ensures few { length heads.new.items ≤ length heads.old.items + 1 }
-{
-    let Some(head) = Head::read(bytes) else {
-        return;
-    };
-    *peer_progress = peer_progress.after(&head);
-    resender.took(&head, bytes);
-    let _kept = heads.push(head);
-}
-
-/// What came is received, and what its message shows of its sender is noted. A datagram that spells no message for this
-/// member changes nothing of that.
+/// What came is received, and what was taken is noted by its head: what that shows of its sender, the head itself,
+/// where there is memory, and a request that may come again. A datagram that spells no message for this member changes
+/// nothing of that.
 fn receive<R: Records>(
     node: &mut Node<R>,
     peer_progress: &mut PeerProgress,
@@ -133,7 +109,12 @@ fn receive<R: Records>(
 {
     match node.receive(bytes, out) {
         Ok(Received::Done) => {
-            note(peer_progress, heads, resender, bytes);
+            let Some(head) = Head::read(bytes) else {
+                return Ok(());
+            };
+            *peer_progress = peer_progress.after(&head);
+            resender.took(&head, bytes);
+            let _kept = heads.push(head);
             Ok(())
         }
         Ok(Received::Ignored(_)) => Ok(()),
@@ -247,13 +228,8 @@ pub(crate) fn drain<R: Records, W: Wire>(
 {
     buffers.heads.clear();
     for handled in 0..most {
-        match take_one(node, wire, buffers) {
-            Ok(had) => {
-                if !had {
-                    return Ok(handled);
-                }
-            }
-            Err(fault) => return Err(fault),
+        if !take_one(node, wire, buffers)? {
+            return Ok(handled);
         }
     }
     Ok(most)

@@ -5,7 +5,6 @@ ghost use Rattle.node_loop.specs.Total.{total};
 
 use crate::packet::MEMBERS;
 use px_wire::{Head, Kind};
-use std::alloc::Global;
 use std::collections::VecDeque;
 
 /// An accept request or a vote that was sent.
@@ -20,7 +19,6 @@ pub(crate) struct Kept {
 /// request of another member that was taken last.
 #[derive(Drop)]
 pub(crate) struct Latest {
-    pub(crate) alloc: Global,
     pub(crate) ballot: u64,
     pub(crate) position: u32,
     pub(crate) kept: Vec<Kept>,
@@ -63,7 +61,6 @@ pub(crate) struct ResendProgress {
 /// member was sent them again.
 #[derive(Drop)]
 pub(crate) struct Votes {
-    pub(crate) alloc: Global,
     pub(crate) votes: VecDeque<Sent>,
     /// How many bytes they have.
     pub(crate) size: usize,

@@ -32,23 +32,15 @@ impl<C: Clock> Stopwatch for SystemClock<'_, C> {
     }
 }
 
-/// The time from one reading to another, in microseconds; none has passed where one of them is missing.
-fn between(start: Option<Instant>, now: Option<Instant>) -> u64
-    ensures { result ≡ between start now }
-{
-    let (Some(start), Some(now)) = (start, now) else {
-        return 0;
-    };
-    let passed = now.duration_since(start).as_micros();
-    passed.min(u128::from(u64::MAX)) as u64
-}
-
 /// The time since a reading of the clock, which is read once for that, in microseconds; none has passed where the clock
 /// can't be read.
 pub fn microseconds<S: Stopwatch>(clock: &mut S, start: Option<Instant>) -> u64
     ensures { (now : Reading) × Adds (S.readings clock.old) (S.readings clock.new) (now ∷ [])
         × (result ≡ between start now) }
 {
-    let now = clock.read();
-    between(start, now)
+    let (Some(start), Some(now)) = (start, clock.read()) else {
+        return 0;
+    };
+    let passed = now.duration_since(start).as_micros();
+    passed.min(u128::from(u64::MAX)) as u64
 }

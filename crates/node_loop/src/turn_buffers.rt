@@ -58,13 +58,11 @@ impl TurnBuffers {
         ensures hears { IfOk result (λ r. r.hears_asks ≡ hears_asks) }
         ensures counts { IfOk result (λ r. r.counts ≡ nothing_of m.now.me) }
     {
-        let bytes = vec![in alloc; 0; BUFFER_BYTES]?;
-        let heads = Vec::with_capacity(alloc, HEADS)?;
         Ok(TurnBuffers {
-            bytes,
+            bytes: vec![in alloc; 0; BUFFER_BYTES]?,
             out: Vec::new(alloc),
-            peer_progress: PeerProgress::new(),
-            heads,
+            peer_progress: PeerProgress::default(),
+            heads: Vec::with_capacity(alloc, HEADS)?,
             resender: Resender::new(alloc, m.members(), m.me()),
             hears_asks,
             counts: RoundCounts::new(m.me()),

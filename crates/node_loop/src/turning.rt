@@ -69,10 +69,7 @@ pub(crate) fn act<R: Records>(
     ensures grows { applied_of node.old ≤ applied_of node.new }
 {
     match came {
-        Some(bytes) => match node.receive(bytes, out) {
-            Ok(_) => Ok(()),
-            Err(fault) => Err(fault),
-        },
+        Some(bytes) => node.receive(bytes, out).map(|_| ()),
         None => node.tick(out),
     }
 }

@@ -98,17 +98,10 @@ pub(crate) struct Stretch {
     begin: usize,
     /// One past the number of the last.
     end: usize,
-    /// One past the last position that is the member's.
-    position: Option<u32>,
+    /// One past the last position that is the member's; none where none of them is.
+    pub(crate) position: Option<u32>,
     /// What they leave of the room in its socket.
     room: usize,
-}
-
-impl Stretch {
-    /// Whether any of them is the member's.
-    pub(crate) fn has_any(self) -> bool {
-        self.position.is_some()
-    }
 }
 
 impl Votes {
@@ -118,7 +111,6 @@ impl Votes {
     {
         let room = ROOM / usize::from(members.saturating_sub(1).max(1));
         Votes {
-            alloc,
             votes: VecDeque::new(alloc),
             size: 0,
             resent: [ResendProgress::new(room); MEMBERS],
@@ -171,7 +163,7 @@ impl Votes {
         ensures kept { OnOk result (votes_in self.new ≡ votes_in self.old ++ (to, bytes.now) ∷ []) }
         ensures lost { OnErr result (votes_in self.new ≡ votes_in self.old) }
     {
-        let copy = Vec::from_slice(self.alloc, bytes)?;
+        let copy = Vec::from_slice(*self.votes.allocator(), bytes)?;
         self.votes.push_back(Sent {
             position,
             ballot,
@@ -194,10 +186,9 @@ impl Votes {
         let Some((ballot, position)) = proposal_of(head) else {
             return;
         };
-        if let Some(last) = self.votes.back() {
-            if position < last.position {
-                return;
-            }
+        let last = self.votes.back();
+        if last.is_some_and(|last| position < last.position) {
+            return;
         }
         self.clear(position, ballot);
         if !self.has(position, to) {
@@ -229,11 +220,6 @@ impl Votes {
         }
     }
 
-    /// The number of the first vote at this position or a later one.
-    fn place(&self, position: u32) -> usize {
-        self.votes.partition_point(|vote| vote.position < position)
-    }
-
     /// The votes from this number on, before a position, that are the member's and fit into so much of its socket.
     fn reach(&self, to: u8, begin: usize, before: u32, room: usize) -> Stretch {
         let mut all = Stretch {
@@ -243,12 +229,10 @@ impl Votes {
             room,
         };
         for i in begin..self.votes.len() {
-            let Some(vote) = self.votes.get(i) else {
+            let vote = self.votes.get(i);
+            let Some(vote) = vote.filter(|vote| vote.position < before) else {
                 return all;
             };
-            if vote.position >= before {
-                return all;
-            }
             if vote.to == to {
                 let cost = vote.bytes.len().saturating_mul(2).saturating_add(OVERHEAD);
                 if cost > all.room {
@@ -274,7 +258,8 @@ impl Votes {
         };
         if let Some(start) = resent.start(from, now) {
             let before = from.saturating_add(WINDOW);
-            all = self.reach(to, self.place(start), before, resent.room);
+            let begin = self.votes.partition_point(|vote| vote.position < start);
+            all = self.reach(to, begin, before, resent.room);
         }
         if let Some(place) = self.resent.get_mut(usize::from(to)) {
             *place = resent.after(from, all, now);

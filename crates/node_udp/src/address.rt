@@ -54,20 +54,16 @@ fn before_bracket(text: &[u8]) -> usize
 fn four(text: &[u8]) -> Option<Addr>
     ensures { result ≡ four_in (addr_of text.now) }
 {
-    match parse_bytes(text) {
-        Ok(Addr::V4(bits)) => Some(Addr::V4(bits)),
-        Ok(Addr::V6(_)) | Err(_) => None,
-    }
+    let ip = parse_bytes(text).ok();
+    ip.filter(|ip| matches!(ip, Addr::V4(_)))
 }
 
 /// An IPv6 address.
 fn six(text: &[u8]) -> Option<Addr>
     ensures { result ≡ six_in (addr_of text.now) }
 {
-    match parse_bytes(text) {
-        Ok(Addr::V6(bits)) => Some(Addr::V6(bits)),
-        Ok(Addr::V4(_)) | Err(_) => None,
-    }
+    let ip = parse_bytes(text).ok();
+    ip.filter(|ip| matches!(ip, Addr::V6(_)))
 }
 
 /// The address and the port that this text is.

@@ -48,36 +48,13 @@ fn asked_view<'a>(command: &Command, bytes: &'a [u8]) -> Option<EntryView<'a>>
     EntryView::read(bytes)
 }
 
-/// The datagram that asks the node.
-fn ask_bytes(
-    alloc: Global,
-    m: &Membership,
-    node: u8,
-    command: &Command,
-) -> Result<Vec<u8>, NodeFault>
-    requires client { m.now.me ≡ CLIENT }
-    requires member { node < m.now.members }
-    ensures spelled { IfOk result (λ v. IsAsk (group m.now) node command.now v.items) }
-    ensures long { result ≡ Err NodeFault.TooLong → IsTrue (is_over (asked_entry command.now)) }
-    ensures short { OnOk result (is_over (asked_entry command.now) ≡ false) }
-    ensures why { OnErr result ((result ≡ Err NodeFault.TooLong) ⊎ (result ≡ Err NodeFault.Memory)) }
-{
-    let bytes = asked_bytes(alloc, command)?;
-    match asked_view(command, bytes.as_slice()) {
-        Some(entry) => {
-            encode(alloc, m, node, &Message::Ask { entry }).map_err(|_| NodeFault::Memory)
-        }
-        None => unreachable!(),
-    }
-}
-
 /// What a message answers to the token.
 fn ask_answer(message: &MessageView) -> Option<AskAnswer>
     ensures { result ≡ ask_answer (message_of message.now) }
 {
     match message {
-        Message::Asked { token, number } if *token == TOKEN => Some(AskAnswer::Asked(*number)),
-        Message::AskRefused { token, code } if *token == TOKEN => Some(AskAnswer::Refused(*code)),
+        Message::Asked(token, number) if *token == TOKEN => Some(AskAnswer::Asked(*number)),
+        Message::AskRefused(token, code) if *token == TOKEN => Some(AskAnswer::Refused(*code)),
         _ => None,
     }
 }
@@ -100,10 +77,8 @@ fn listen<W: Wire>(m: &Membership, node: u8, wire: &mut W) -> Option<AskAnswer>
     ensures same { W.identity wire.new ≡ W.identity wire.old }
 {
     let mut room = [0u8; ANSWER_ROOM];
-    match wire.recv(&mut room) {
-        Some(n) => answer_in(m, node, &room[..n]),
-        None => None,
-    }
+    let n = wire.recv(&mut room)?;
+    answer_in(m, node, &room[..n])
 }
 
 /// Waits at most n times: the node's first answer.
@@ -145,7 +120,12 @@ pub fn ask_once<W: Wire>(
     ensures why { OnErr result ((result ≡ Err NodeFault.TooLong) ⊎ (result ≡ Err NodeFault.Memory)) }
     ensures same { W.identity wire.new ≡ W.identity wire.old }
 {
-    let bytes = ask_bytes(alloc, m, node, command)?;
+    let asked = asked_bytes(alloc, command)?;
+    let Some(entry) = asked_view(command, asked.as_slice()) else {
+        unreachable!()
+    };
+    let ask = Message::Ask(entry);
+    let bytes = encode(alloc, m, node, &ask).map_err(|_| NodeFault::Memory)?;
     let _sent = wire.send(node, bytes.as_slice());
     Ok(listen_on(m, node, waits, wire))
 }

@@ -62,9 +62,7 @@ pub(crate) fn find<R: Network>(rt: &R, text: &str) -> Option<Address>
         return Some(address);
     }
     let port = host_port(text.as_bytes())?;
-    let Some((host, _)) = text.split_once(':') else {
-        return None;
-    };
+    let (host, _) = text.split_once(':')?;
     let ip = rt.look_up(host, port)?;
     Some(Address { ip, port })
 }

@@ -237,9 +237,7 @@ impl<S: Socket + Drop, C: Clock + Drop> UdpWire<S, C> {
     {
         let mut socket = socket;
         let wait = Duration::from_millis(u64::from(wait_ms));
-        if socket.set_timeout(wait).is_err() {
-            return Err(BindFault::NoSocket);
-        }
+        socket.set_timeout(wait).map_err(|_| BindFault::NoSocket)?;
         Ok(UdpWire::with_socket(socket, clock, peers, me, wait_ms))
     }
 }
@@ -548,9 +546,7 @@ impl<S: Socket, C: Clock> Wire for UdpWire<S, C> {
             Some(there) => self.sent_to(bytes, there),
             None => false,
         };
-        if !sent {
-            self.failures = self.failures.saturating_add(1);
-        }
+        self.failures = self.failures.saturating_add(u64::from(!sent));
         sent
     }
 

@@ -39,6 +39,9 @@ pub struct Header {
     pub counter: u64,
 }
 
+/// The header of a packet and what follows it, or the packet's first fault.
+pub(crate) type Opened<'a> = Result<(Header, &'a [u8]), PacketFault>;
+
 /// The fault, unless this holds.
 fn require(holds: bool, fault: PacketFault) -> Result<(), PacketFault>
     ensures { MatchResult result (λ _. holds ≡ true) (λ f. (holds ≡ false) × (f ≡ fault)) }
@@ -93,12 +96,7 @@ impl Header {
     }
 
     /// The header that bytes begin with, and what follows it, for a member of a cluster; else its first fault.
-    pub(crate) fn read(
-        bytes: &[u8],
-        cluster: u32,
-        members: u8,
-        me: u8,
-    ) -> Result<(Header, &[u8]), PacketFault>
+    pub(crate) fn read(bytes: &[u8], cluster: u32, members: u8, me: u8) -> Opened<'_>
         ensures { MatchResult result
             (λ x. (header_fault cluster members me bytes.now ≡ None) × (x.0 ≡ header_in bytes.now) ×
             (x.1.now ≡ drop 37 bytes.now))

@@ -51,19 +51,12 @@ impl PacketKey {
         }
     }
 
-    /// Whether the tag is that of header and body.
-    fn fits(&self, front: &[u8], tag: &[u8; 16]) -> bool
-        ensures { result ≡ bytes_eq tag.now (tag_of (block_of self.now) front.now) }
-    {
-        is_same(&self.tag(front), tag)
-    }
-
     /// Whether the last 16 bytes are the tag of those before them.
     pub(crate) fn is_sealed(&self, packet: &[u8]) -> bool
         ensures { result ≡ is_sealed (block_of self.now) packet.now }
     {
         match packet.last_chunk::<TAG_BYTES>() {
-            Some(tag) => self.fits(&packet[..packet.len() - TAG_BYTES], tag),
+            Some(tag) => is_same(&self.tag(&packet[..packet.len() - TAG_BYTES]), tag),
             None => false,
         }
     }

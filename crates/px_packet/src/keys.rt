@@ -7,7 +7,7 @@ ghost use Rattle.px_packet.specs.Packets.{packet_key, sealed, front_of, is_authe
 ghost use Rattle.px_packet.specs.Keyed.{block_of, and_key, key_of, keys_of};
 
 use crate::fault::PacketFault;
-use crate::header::Header;
+use crate::header::{Header, Opened};
 use crate::key::{PacketKey, TAG_BYTES};
 use std::alloc::AllocError;
 
@@ -56,13 +56,7 @@ impl PacketKeys {
 
     /// The header and the body of a packet that was sealed with one of the keys for this member of a cluster; else its
     /// first fault. The tag is checked before anything else is read.
-    pub fn open<'a>(
-        &self,
-        packet: &'a [u8],
-        cluster: u32,
-        members: u8,
-        me: u8,
-    ) -> Result<(Header, &'a [u8]), PacketFault>
+    pub fn open<'a>(&self, packet: &'a [u8], cluster: u32, members: u8, me: u8) -> Opened<'a>
         ensures { MatchResult result
             (λ x. (packet_fault (keys_of self.now) cluster members me packet.now ≡ None) ×
             (x.0 ≡ header_in (front_of packet.now)) × (x.1.now ≡ drop 37 (front_of packet.now)))

@@ -6,8 +6,11 @@ use Rattle.px_packet.specs.declared.header.Header.{Header}
 use Rattle.px_packet.specs.declared.arrival.Arrival.{Arrival}
 use Rattle.px_packet.specs.declared.arrival.Arrival.TheVariants as arrivals
 use Rattle.px_packet.specs.declared.held.PiecesHeld.{PiecesHeld}
+use Rattle.px_packet.specs.declared.start.Start.{Start}
+use Rattle.px_transport.specs.declared.coming.Coming.{Coming}
 use Rattle.px_transport.specs.declared.coming.Coming.TheVariants as coming
-use Rattle.px_transport.specs.Receiving.{Given, Whole, Joined, Held, Nothing, Dropped, Memory}
+use Rattle.px_transport.specs.declared.receiver.Receiver.{Receiver}
+use Rattle.px_transport.specs.Receiving.{Given, Whole, Joined, Held, Nothing, Dropped, Memory, Heard, Hears, heard_after, given_by}
 use Rattle.px_transport.specs.Sending.{Sealer}
 use Rattle.px_transport.specs.Wiring.{WireState, Comes, Takes, DoesAll, Duty, Again, opened, given_of, heard_with}
 use Rattle.px_transport.specs.Wiring.{is_other_machine, more_if}
@@ -51,6 +54,16 @@ pub comes_copy : (p : Header × List ℕ) (g : Given) (a : Arrival) (room : ℕ)
     is_other_machine a ≡ true → Comes (Some p) (Some g) room coming.OtherMachine into
 comes_copy p g a room into e f =
     subst (λ x. Comes (Some p) (Some x) room coming.OtherMachine into) e (refl, refl, refl, f)
+
+-- a packet was opened, and what the receiver gives of it is what comes of it
+pub comes_opened : (mine : Start) (m : Memory) (hs : List Heard) (o : Option (Header × List ℕ)) (p : Header × List ℕ)
+    (now : ℕ) (r : Receiver) (room : ℕ) (x : Coming) (into : List ℕ) → o ≡ Some p →
+    Hears mine (heard_after mine m hs p.0 p.1 now) r → Comes (Some p) (Some (given_by mine m hs p.0 p.1 now)) room x into →
+    (n : Memory) × (Hears mine (heard_with mine n hs o now) r × Comes o (given_of mine n hs o now) room x into)
+comes_opened mine m hs o p now r room x into is heard comes =
+    let P : Option (Header × List ℕ) → Type 0 =
+    λ y. Hears mine (heard_with mine m hs y now) r × Comes y (given_of mine m hs y now) room x into in
+    (m, subst P (sym is) (heard, comes))
 
 -- ---- what is done then
 

@@ -100,11 +100,11 @@ due_all hs es i first all l so_far =
 abbrev pub entry_of : Peer → List Unfinished → Entry
 entry_of p us = record { peer = p; reassembly = us }
 
-chosen : {X : Type 0} (b : Bool) (x y : X) → b ≡ true → (if b then x else y) ≡ x
+pub chosen : {X : Type 0} (b : Bool) (x y : X) → b ≡ true → (if b then x else y) ≡ x
 chosen true x y e = refl
 chosen false x y e = absurd cc
 
-passed_over : {X : Type 0} (b : Bool) (x y : X) → b ≡ false → (if b then x else y) ≡ y
+pub passed_over : {X : Type 0} (b : Bool) (x y : X) → b ≡ false → (if b then x else y) ≡ y
 passed_over true x y e = absurd cc
 passed_over false x y e = refl
 

@@ -22,7 +22,6 @@ pub struct LoopbackWire<W> {
     below: W,
     me: u8,
     kept: VecDeque<Vec<u8>>,
-    alloc: Global,
 }
 
 impl<W: Wire> LoopbackWire<W> {
@@ -37,7 +36,6 @@ impl<W: Wire> LoopbackWire<W> {
             below,
             me,
             kept: VecDeque::new(alloc),
-            alloc,
         }
     }
 
@@ -73,9 +71,8 @@ impl<W: Wire> LoopbackWire<W> {
         ensures lost { OnErr result (kept_of self.new ≡ kept_of self.old) }
         ensures below { (below_of self.new ≡ below_of self.old) × (me_of self.new ≡ me_of self.old) }
     {
-        let copy = Vec::from_slice(self.alloc, bytes)?;
-        self.kept.push_back(copy)?;
-        Ok(())
+        let copy = Vec::from_slice(*self.kept.allocator(), bytes)?;
+        Ok(self.kept.push_back(copy)?)
     }
 }
 

@@ -54,8 +54,7 @@ impl MemoryWire {
         ensures failures { self.new.failures ≡ self.old.failures }
     {
         let copy = Vec::from_slice(*self.sent.allocator(), bytes)?;
-        self.sent.push((to, copy))?;
-        Ok(())
+        Ok(self.sent.push((to, copy))?)
     }
 }
 
@@ -73,12 +72,9 @@ impl Wire for MemoryWire {
         ensures gave { Adds (WentOver self.old) (WentOver self.new) (gives (option_map (λ n. take n into.new) result)) }
         ensures counts { self.old.failures ≤ self.new.failures }
     {
-        if self.next >= self.coming.len() {
-            return None;
-        }
-        let n = put(&mut self.coming[self.next], into);
+        let datagram = self.coming.get_mut(self.next)?;
         self.next += 1;
-        Some(n)
+        Some(put(datagram, into))
     }
 
     fn poll(&mut self, into: &mut [u8]) -> Option<usize>
@@ -104,14 +100,12 @@ impl Wire for MemoryWire {
     }
 
     fn send(&mut self, to: u8, bytes: &[u8]) -> bool {
-        match self.keep(to, bytes) {
-            Ok(()) => true,
-            Err(_) => {
-                self.is_whole = false;
-                self.failures = self.failures.saturating_add(1);
-                false
-            }
+        if self.keep(to, bytes).is_ok() {
+            return true;
         }
+        self.is_whole = false;
+        self.failures = self.failures.saturating_add(1);
+        false
     }
 
     fn failures(&self) -> u64 {

@@ -1,10 +1,9 @@
 //! Packets that are opened and taken.
 
-ghost use Rattle.std.specs.Prelude.{◌≡◌, ◌≤◌, List, Some, length, take};
-ghost use Rattle.px_transport.specs.Wires.{within};
+ghost use Rattle.std.specs.Prelude.{List, length};
 ghost use Rattle.px_packet.specs.declared.start.Start.{Start};
 ghost use Rattle.px_packet.specs.Keyed.{keys_of};
-ghost use Rattle.px_transport.specs.Receiving.{Heard, Memory, Hears, heard_after, given_by};
+ghost use Rattle.px_transport.specs.Receiving.{Heard, Memory, Hears};
 ghost use Rattle.px_transport.specs.Wiring.{opened, given_of, heard_with, Comes, IsWithin};
 ghost use Rattle.px_transport.specs.Senders.{sealer_of};
 
@@ -13,33 +12,7 @@ use crate::cutting::put_whole;
 use crate::packet_outcome::PacketOutcome;
 use crate::receiver::Receiver;
 use crate::sender::Sender;
-use px_packet::{Arrival, Header};
-
-/// What comes of a packet that was opened.
-fn take_opened(
-    receiver: &mut Receiver,
-    header: &Header,
-    body: &[u8],
-    now: u64,
-    into: &mut [u8],
-) -> Coming
-    ensures fits { IsWithin result into.new }
-    ensures comes { (mine : Start) (hs : List Heard) → Hears mine hs receiver.old → (m : Memory) ×
-        Hears mine (heard_after mine m hs header.now body.now now) receiver.new ×
-        Comes (Some (header.now, body.now)) (Some (given_by mine m hs header.now body.now now)) (length into.old)
-        result into.new }
-{
-    match receiver.take(header, body, now) {
-        PacketOutcome::Whole(datagram) => Coming::Given(put_whole(datagram, into)),
-        PacketOutcome::Joined(datagram) => Coming::Given(put_whole(datagram.as_slice(), into)),
-        PacketOutcome::Held(held) => Coming::Held(header.from, held),
-        PacketOutcome::Nothing => Coming::Given(0),
-        PacketOutcome::Dropped(arrival) => match arrival {
-            Arrival::OtherMachine => Coming::OtherMachine,
-            _ => Coming::Dropped,
-        },
-    }
-}
+use px_packet::Arrival;
 
 /// What comes of a packet.
 pub(crate) fn take_packet(
@@ -56,8 +29,15 @@ pub(crate) fn take_packet(
         Comes p (given_of mine m hs p now) (length into.old) result into.new) }
 {
     let keys = &sender.keys;
-    match keys.open(packet, sender.cluster, sender.members, sender.me) {
-        Ok((header, body)) => take_opened(receiver, &header, body, now, into),
-        Err(_) => Coming::Dropped,
+    let Ok((header, body)) = keys.open(packet, sender.cluster, sender.members, sender.me) else {
+        return Coming::Dropped;
+    };
+    match receiver.take(&header, body, now) {
+        PacketOutcome::Whole(datagram) => Coming::Given(put_whole(datagram, into)),
+        PacketOutcome::Joined(datagram) => Coming::Given(put_whole(datagram.as_slice(), into)),
+        PacketOutcome::Held(held) => Coming::Held(header.from, held),
+        PacketOutcome::Nothing => Coming::Given(0),
+        PacketOutcome::Dropped(Arrival::OtherMachine) => Coming::OtherMachine,
+        PacketOutcome::Dropped(_) => Coming::Dropped,
     }
 }

@@ -7,8 +7,9 @@ ghost use Rattle.px_transport.specs.Sending.{time_left};
 
 use crate::coming::Coming;
 use crate::opening::take_packet;
+use crate::outgoing::none_sent;
 use crate::receiver::Receiver;
-use crate::sender::Sender;
+use crate::sender::{PACKET_MAX, Sender, To};
 use crate::wire::Wire;
 use px_packet::{PacketKeys, PiecesHeld, Start};
 use std::alloc::{AllocError, Global};
@@ -70,18 +71,6 @@ fn count_below(failures: u64, before: u64, after: u64) -> u64
     failures.saturating_add(after.saturating_sub(before))
 }
 
-/// Receives a datagram of a wire, which is waited for or not.
-fn receive<W: Wire>(wire: &mut W, waits: bool, into: &mut [u8]) -> Option<usize>
-    ensures fits { IfSome result (λ n. n ≤ length into.new) }
-    ensures gave { Adds (W.traffic wire.old) (W.traffic wire.new) (gives (option_map (λ n. take n into.new) result)) }
-    ensures same { W.identity wire.new ≡ W.identity wire.old }
-{
-    if waits {
-        return wire.recv(into);
-    }
-    wire.poll(into)
-}
-
 impl<W: Wire + Drop, C: Clock + Drop> PacketWire<W, C> {
     ghost use Rattle.std.specs.Prelude.{[], IfOk, replicate};
     ghost use Rattle.px_packet.specs.Keyed as keyed;
@@ -119,7 +108,15 @@ impl<W: Wire + Drop, C: Clock + Drop> PacketWire<W, C> {
             inner,
             began: reading(&clock),
             clock,
-            sender: Sender::new(alloc, keys, cluster, members, me, start)?,
+            sender: Sender {
+                keys,
+                cluster,
+                members,
+                me,
+                start,
+                outgoing: none_sent(alloc, members)?,
+                room: Vec::with_capacity(alloc, PACKET_MAX)?,
+            },
             receiver: Receiver::new(alloc, members, start)?,
             incoming: vec![in alloc; 0; ROOM_BYTES]?,
             failures: 0,
@@ -134,8 +131,8 @@ impl<W: Wire, C: Clock> PacketWire<W, C> {
     ghost use Rattle.px_transport.specs.Receiving.{Heard, Hears};
     ghost use Rattle.px_transport.specs.Wiring.{inner_of, sealer_of, keys_of, receiver_of, dropped_of, copies_of};
     ghost use Rattle.px_transport.specs.Wiring.{IsSameMember, IsSameCount, Leads, State, Report, Again, Does, DoesAll};
-    ghost use Rattle.px_transport.specs.Wiring.{duties, upkeep, Takes, TakesAny, Received, WentSealed, outgoing_of};
-    ghost use Rattle.px_transport.specs.Wiring.{next_due, state_due};
+    ghost use Rattle.px_transport.specs.Wiring.{duties, upkeep, Takes, Received, WentSealed, outgoing_of};
+    ghost use Rattle.px_transport.specs.Wiring.{next_due};
 
     /// The wire below, to be looked at.
     pub fn inner(&self) -> &W
@@ -178,7 +175,8 @@ impl<W: Wire, C: Clock> PacketWire<W, C> {
         ensures same { W.identity (inner_of self.new) ≡ W.identity (inner_of self.old) }
     {
         let echo = self.receiver.start_of(member);
-        let sent = self.sender.send_state(&mut self.inner, member, echo, now);
+        let to = To { member, echo };
+        let sent = self.sender.send_state(&mut self.inner, to, now);
         self.failures = count_sent(self.failures, sent);
     }
 
@@ -195,7 +193,8 @@ impl<W: Wire, C: Clock> PacketWire<W, C> {
         let Some(held) = self.receiver.report(member, now) else {
             return;
         };
-        let sent = self.sender.send_held(&mut self.inner, member, echo, held);
+        let to = To { member, echo };
+        let sent = self.sender.send_held(&mut self.inner, to, held);
         self.failures = count_sent(self.failures, sent);
     }
 
@@ -213,7 +212,8 @@ impl<W: Wire, C: Clock> PacketWire<W, C> {
             self.failures = count_sent(self.failures, false);
             return;
         }
-        let sent = self.sender.send_lacked(&mut self.inner, member, echo, held);
+        let to = To { member, echo };
+        let sent = self.sender.send_lacked(&mut self.inner, to, held);
         self.failures = count_sent(self.failures, sent);
     }
 
@@ -250,18 +250,6 @@ impl<W: Wire, C: Clock> PacketWire<W, C> {
         }
     }
 
-    /// When a member is to be sent a packet of kind state next; never where it is this one.
-    fn state_due(&self, member: u8) -> u64
-        requires { member < self.now.sender.members }
-        ensures { (hs : List Heard) → Hears (sealer_of self.now).start hs (receiver_of self.now) →
-            result ≡ state_due (sealer_of self.now) (outgoing_of self.now) hs member }
-    {
-        if !self.sender.is_other(member) {
-            return u64::MAX;
-        }
-        self.sender.due(member, self.receiver.start_of(member))
-    }
-
     /// When something is due next, in milliseconds since the wire was made.
     fn next_due(&self) -> u64
         ensures { (hs : List Heard) → Hears (sealer_of self.now).start hs (receiver_of self.now) →
@@ -269,7 +257,12 @@ impl<W: Wire, C: Clock> PacketWire<W, C> {
     {
         let mut due = self.receiver.due().unwrap_or(u64::MAX);
         for member in 0..self.sender.members {
-            due = due.min(self.state_due(member));
+            let state = if self.sender.is_other(member) {
+                self.sender.due(member, self.receiver.start_of(member))
+            } else {
+                u64::MAX
+            };
+            due = due.min(state);
         }
         due
     }
@@ -310,27 +303,14 @@ impl<W: Wire, C: Clock> PacketWire<W, C> {
         ensures same { W.identity (inner_of self.new) ≡ W.identity (inner_of self.old) }
     {
         let before = self.inner.failures();
-        let came = receive(&mut self.inner, waits, self.incoming.as_mut_slice());
+        let into = self.incoming.as_mut_slice();
+        let came = if waits {
+            self.inner.recv(into)
+        } else {
+            self.inner.poll(into)
+        };
         self.failures = count_below(self.failures, before, self.inner.failures());
         came
-    }
-
-    /// Takes what came, if anything did: how many bytes are given.
-    fn take_came(&mut self, came: Option<usize>, now: u64, into: &mut [u8]) -> Option<usize>
-        requires { IfSome came (λ n. n ≤ length self.old.incoming.items) }
-        ensures takes { Leads W.traffic self.old self.new (λ k k'. TakesAny (keys_of self.old) (sealer_of self.old) now
-            (option_map (λ n. take n self.old.incoming.items) came) (length into.old)
-            (option_map (λ n. take n into.new) result) k k' (dropped_of self.old) (dropped_of self.new)
-            (copies_of self.old) (copies_of self.new)) }
-        ensures fits { IfSome result (λ n. n ≤ length into.new) }
-        ensures member { IsSameMember self.old self.new }
-        ensures rises { self.old.failures ≤ self.new.failures }
-        ensures same { W.identity (inner_of self.new) ≡ W.identity (inner_of self.old) }
-    {
-        match came {
-            Some(n) => Some(self.hear(n, now, into)),
-            None => None,
-        }
     }
 
     /// Does what is due, and takes what then comes over the wire below, which is waited for or not.
@@ -347,8 +327,8 @@ impl<W: Wire, C: Clock> PacketWire<W, C> {
     {
         let now = self.now();
         self.keep_up(now);
-        let came = self.receive_below(waits);
-        self.take_came(came, now, into)
+        let n = self.receive_below(waits)?;
+        Some(self.hear(n, now, into))
     }
 }
 
@@ -441,7 +421,8 @@ impl<W: Wire, C: Clock> Wire for PacketWire<W, C> {
             return false;
         }
         let echo = self.receiver.start_of(to);
-        let sent = self.sender.send(&mut self.inner, to, echo, bytes);
+        let to = To { member: to, echo };
+        let sent = self.sender.send(&mut self.inner, to, bytes);
         self.failures = count_sent(self.failures, sent);
         sent
     }

@@ -1,10 +1,10 @@
 //! What a member hears of the others.
 
-ghost use Rattle.std.specs.Prelude.{◌≡◌, List, IfOk, replicate, option_map};
+ghost use Rattle.std.specs.Prelude.{◌≡◌, List, IfOk, replicate};
 ghost use Rattle.px_packet.specs.Arrivals.{arrival_of};
 ghost use Rattle.px_packet.specs.Reassembling.{due_held, earlier};
 ghost use Rattle.px_transport.specs.Bodies.{piece_in};
-ghost use Rattle.px_transport.specs.Receiving.{Heard, Memory, unheard, with_header, as_joined, read_held, with_piece};
+ghost use Rattle.px_transport.specs.Receiving.{Heard, Memory, unheard, with_header, with_piece};
 ghost use Rattle.px_transport.specs.Receiving.{with_body, heard_by, of_member, heard_after, given_by, reported_of};
 ghost use Rattle.px_transport.specs.Receiving.{due_of, IsHeard, Hears, seen};
 
@@ -17,26 +17,6 @@ use std::alloc::{AllocError, Global};
 pub(crate) struct Entry {
     pub(crate) peer: Peer,
     pub(crate) reassembly: Reassembly,
-}
-
-/// What a body of kind pieces held gives.
-fn read_held<'a>(body: &[u8]) -> PacketOutcome<'a>
-    ensures { seen result ≡ read_held body.now }
-{
-    match PiecesHeld::read(body) {
-        Some(held) => PacketOutcome::Held(held),
-        None => PacketOutcome::Nothing,
-    }
-}
-
-/// What the datagram gives of which all pieces have come, where there is one.
-fn joined<'a>(datagram: Option<Vec<u8>>) -> PacketOutcome<'a>
-    ensures { seen result ≡ as_joined (option_map (λ m. m.items) datagram) }
-{
-    match datagram {
-        Some(datagram) => PacketOutcome::Joined(datagram),
-        None => PacketOutcome::Nothing,
-    }
 }
 
 impl Entry {
@@ -73,7 +53,8 @@ impl Entry {
             return PacketOutcome::Nothing;
         };
         match self.reassembly.take(&piece, now) {
-            Ok(done) => joined(done),
+            Ok(Some(datagram)) => PacketOutcome::Joined(datagram),
+            Ok(None) => PacketOutcome::Nothing,
             Err(_) => PacketOutcome::Nothing,
         }
     }
@@ -88,7 +69,10 @@ impl Entry {
             Kind::State => PacketOutcome::Nothing,
             Kind::Whole => PacketOutcome::Whole(body),
             Kind::Piece => self.take_piece(body, now),
-            Kind::PiecesHeld => read_held(body),
+            Kind::PiecesHeld => match PiecesHeld::read(body) {
+                Some(held) => PacketOutcome::Held(held),
+                None => PacketOutcome::Nothing,
+            },
         }
     }
 
@@ -118,9 +102,8 @@ fn earlier(a: Option<u64>, b: Option<u64>) -> Option<u64>
     ensures { result ≡ earlier a b }
 {
     match (a, b) {
-        (None, t) => t,
-        (s, None) => s,
         (Some(s), Some(t)) => Some(s.min(t)),
+        _ => a.or(b),
     }
 }
 
@@ -158,11 +141,9 @@ impl Receiver {
         ensures { (mine : Start) (hs : List Heard) → Hears mine hs self.now →
             result ≡ (of_member hs member).known.start }
     {
-        let member = usize::from(member);
-        if member >= self.entries.len() {
+        let Some(entry) = self.entries.get(usize::from(member)) else {
             return Start::NEVER;
-        }
-        let entry = &self.entries[member];
+        };
         entry.peer.start()
     }
 
@@ -173,12 +154,10 @@ impl Receiver {
             Hears mine (heard_after mine m hs header.now body.now now) self.new ×
             (seen result ≡ given_by mine m hs header.now body.now now) }
     {
-        let from = usize::from(header.from);
-        if from >= self.entries.len() {
-            return PacketOutcome::Nothing;
-        }
         let alloc = *self.entries.allocator();
-        let entry = &mut self.entries[from];
+        let Some(entry) = self.entries.get_mut(usize::from(header.from)) else {
+            return PacketOutcome::Nothing;
+        };
         entry.take(alloc, self.start, header, body, now)
     }
 
@@ -190,11 +169,7 @@ impl Receiver {
         ensures after { (mine : Start) (hs : List Heard) → Hears mine hs self.old →
             Hears mine (reported_of hs member now) self.new }
     {
-        let member = usize::from(member);
-        if member >= self.entries.len() {
-            return None;
-        }
-        let entry = &mut self.entries[member];
+        let entry = self.entries.get_mut(usize::from(member))?;
         entry.reassembly.report(now)
     }
 

@@ -2,18 +2,24 @@
 
 ghost use Rattle.std.specs.Prelude.{◌≡◌, length};
 
-use crate::outgoing::{Outgoing, none_sent};
+use crate::outgoing::Outgoing;
 use crate::wire::Wire;
 use px_packet::{
     DATAGRAM_MAX, Header, Kind, PacketKeys, PiecesHeld, Start, piece_count, write_piece,
 };
-use std::alloc::{AllocError, Global};
 
 /// How many bytes a packet has at most.
-const PACKET_MAX: usize = 1_232;
+pub(crate) const PACKET_MAX: usize = 1_232;
 
 /// How many bytes a datagram has at most that is sent in one packet: beside it are a header and a tag.
 const WHOLE_MAX: usize = 1_179;
+
+/// To whom packets go: a member, and the start of it that they echo.
+#[derive(Clone, Copy)]
+pub(crate) struct To {
+    pub(crate) member: u8,
+    pub(crate) echo: Start,
+}
 
 /// What a member sends: packets that it seals for the other members, each with the next counter of its receiver.
 #[derive(Drop)]
@@ -26,49 +32,18 @@ pub(crate) struct Sender {
     /// Of each member, by its number.
     pub(crate) outgoing: Vec<Outgoing>,
     /// Room for a packet.
-    room: Vec<u8>,
+    pub(crate) room: Vec<u8>,
     ghost size: { length outgoing.items ≡ members },
 }
 
 impl Sender {
-    ghost use Rattle.std.specs.Prelude.{◌≡◌, ◌<◌, ◌≤◌, ◌*◌, ◌⊎◌, ◌∷◌, [], false, IsTrue, IfOk, replicate, take};
+    ghost use Rattle.std.specs.Prelude.{◌≡◌, ◌<◌, ◌≤◌, ◌*◌, ◌⊎◌, ◌∷◌, [], false, IsTrue, take};
     ghost use Rattle.px_transport.specs.Wires.{Adds, IsQuiet};
-    ghost use Rattle.px_packet.specs.Keyed.{key_of};
     ghost use Rattle.px_packet.specs.declared.kind.Kind.TheVariants.{Piece};
-    ghost use Rattle.px_transport.specs.Sending.{is_other, can_be_cut, new_to, to_member, next_state, stated_for};
+    ghost use Rattle.px_transport.specs.Sending.{is_other, can_be_cut, to_member, next_state, stated_for};
     ghost use Rattle.px_transport.specs.Sending.{Sends, SendsUpTo, HasName, refilled_for};
-    ghost use Rattle.px_transport.specs.Sending.{piece, pieces, kept_with, packets_of, again, state, report, states};
+    ghost use Rattle.px_transport.specs.Sending.{pieces, kept_with, packets_of, again, state, report, states};
     ghost use Rattle.px_transport.specs.Senders.{sealer_of, outgoing_of};
-
-    /// A member that sent nothing.
-    pub(crate) fn new(
-        alloc: Global,
-        keys: PacketKeys,
-        cluster: u32,
-        members: u8,
-        me: u8,
-        start: Start,
-    ) -> Result<Sender, AllocError>
-        ensures sealer { IfOk result (λ s. sealer_of s ≡ record {
-          cluster = cluster;
-          members = members;
-          me = me;
-          start = start;
-          key = key_of keys;
-        }) }
-        ensures keys { IfOk result (λ s. s.keys ≡ keys) }
-        ensures outgoing { IfOk result (λ s. outgoing_of s ≡ replicate members new_to) }
-    {
-        Ok(Sender {
-            keys,
-            cluster,
-            members,
-            me,
-            start,
-            outgoing: none_sent(alloc, members)?,
-            room: Vec::with_capacity(alloc, PACKET_MAX)?,
-        })
-    }
 
     /// Whether it is another member.
     pub(crate) fn is_other(&self, member: u8) -> bool
@@ -80,22 +55,15 @@ impl Sender {
 
     /// Seals a packet for a member with the next counter, and hands it to the wire below. Whether it was sent; where no
     /// counter is left or it is out of memory nothing was handed over.
-    pub(crate) fn send_packet<W: Wire>(
-        &mut self,
-        inner: &mut W,
-        to: u8,
-        echo: Start,
-        kind: Kind,
-        body: &[u8],
-    ) -> bool
-        requires { to < self.old.members }
+    fn send_packet<W: Wire>(&mut self, inner: &mut W, to: To, kind: Kind, body: &[u8]) -> bool
+        requires { to.member < self.old.members }
         ensures sends { SendsUpTo (sealer_of self.old) result
-            (record { to = to; echo = echo; kind = kind; body = body.now } ∷ [])
+            (record { to = to.member; echo = to.echo; kind = kind; body = body.now } ∷ [])
             (Adds (W.traffic inner.old) (W.traffic inner.new)) (outgoing_of self.old) (outgoing_of self.new) }
         ensures rest { (sealer_of self.new ≡ sealer_of self.old) × (self.new.keys ≡ self.old.keys) }
         ensures same { W.identity inner.new ≡ W.identity inner.old }
     {
-        let place = usize::from(to);
+        let place = usize::from(to.member);
         let last = &self.outgoing[place];
         let Some(counter) = last.next() else {
             return false;
@@ -104,10 +72,10 @@ impl Sender {
             cluster: self.cluster,
             members: self.members,
             from: self.me,
-            to,
+            to: to.member,
             kind,
             start: self.start,
-            echo,
+            echo: to.echo,
             counter,
         };
         if self.keys.seal(&header, body, &mut self.room).is_err() {
@@ -115,32 +83,7 @@ impl Sender {
         }
         let outgoing = &mut self.outgoing[place];
         outgoing.count(counter);
-        inner.send(to, self.room.as_slice())
-    }
-
-    /// Sends the piece of a datagram with this number.
-    fn send_piece<W: Wire>(
-        &mut self,
-        inner: &mut W,
-        to: u8,
-        echo: Start,
-        name: u32,
-        datagram: &[u8],
-        index: u8,
-    ) -> bool
-        requires to { to < self.old.members }
-        requires short { length datagram.now ≤ DATAGRAM_MAX }
-        requires inside { 1160 * index < length datagram.now }
-        ensures sends { SendsUpTo (sealer_of self.old) result (piece to echo name datagram.now index ∷ [])
-            (Adds (W.traffic inner.old) (W.traffic inner.new)) (outgoing_of self.old) (outgoing_of self.new) }
-        ensures rest { (sealer_of self.new ≡ sealer_of self.old) × (self.new.keys ≡ self.old.keys) }
-        ensures same { W.identity inner.new ≡ W.identity inner.old }
-    {
-        let mut body = Vec::new(*self.room.allocator());
-        if write_piece(name, datagram, index, &mut body).is_err() {
-            return false;
-        }
-        self.send_packet(inner, to, echo, Kind::Piece, body.as_slice())
+        inner.send(to.member, self.room.as_slice())
     }
 
     /// It is this time: towards a member as many packets may go again as it reads.
@@ -156,18 +99,17 @@ impl Sender {
 
     /// Sends the pieces of a datagram that a receiver lacks, at most n, up to the first that isn't sent. Whether
     /// these were.
-    pub(crate) fn send_pieces<W: Wire>(
+    fn send_pieces<W: Wire>(
         &mut self,
         inner: &mut W,
-        to: u8,
-        echo: Start,
+        to: To,
         held: PiecesHeld,
         datagram: &[u8],
         most: u8,
     ) -> bool
-        requires to { to < self.old.members }
+        requires to { to.member < self.old.members }
         requires short { length datagram.now ≤ DATAGRAM_MAX }
-        ensures sends { SendsUpTo (sealer_of self.old) result (take most (pieces to echo held datagram.now))
+        ensures sends { SendsUpTo (sealer_of self.old) result (take most (pieces to.member to.echo held datagram.now))
             (Adds (W.traffic inner.old) (W.traffic inner.new)) (outgoing_of self.old) (outgoing_of self.new) }
         ensures rest { (sealer_of self.new ≡ sealer_of self.old) × (self.new.keys ≡ self.old.keys) }
         ensures same { W.identity inner.new ≡ W.identity inner.old }
@@ -182,7 +124,11 @@ impl Sender {
                 return true;
             }
             left -= 1;
-            if !self.send_piece(inner, to, echo, held.name, datagram, index) {
+            let mut body = Vec::new(*self.room.allocator());
+            if write_piece(held.name, datagram, index, &mut body).is_err() {
+                return false;
+            }
+            if !self.send_packet(inner, to, Kind::Piece, body.as_slice()) {
                 return false;
             }
         }
@@ -191,21 +137,15 @@ impl Sender {
 
     /// Sends a datagram to a member: in one packet where it has room there, else cut, and of the pieces as many as may
     /// still go to it. Whether these were sent.
-    pub(crate) fn send<W: Wire>(
-        &mut self,
-        inner: &mut W,
-        to: u8,
-        echo: Start,
-        datagram: &[u8],
-    ) -> bool
-        requires to { to < self.old.members }
+    pub(crate) fn send<W: Wire>(&mut self, inner: &mut W, to: To, datagram: &[u8]) -> bool
+        requires to { to.member < self.old.members }
         ensures size { can_be_cut datagram.now ≡ false → (result ≡ false) ×
             (IsQuiet (W.traffic inner.old) (W.traffic inner.new)) × (outgoing_of self.new ≡ outgoing_of self.old) }
         ensures sends { ((result ≡ false) × (IsQuiet (W.traffic inner.old) (W.traffic inner.new)) ×
             (outgoing_of self.new ≡ outgoing_of self.old)) ⊎
-            (HasName (outgoing_of self.old) to datagram.now ×
-            SendsUpTo (sealer_of self.old) result (packets_of (outgoing_of self.old) to echo datagram.now)
-            (Adds (W.traffic inner.old) (W.traffic inner.new)) (kept_with (outgoing_of self.old) to datagram.now)
+            (HasName (outgoing_of self.old) to.member datagram.now ×
+            SendsUpTo (sealer_of self.old) result (packets_of (outgoing_of self.old) to.member to.echo datagram.now)
+            (Adds (W.traffic inner.old) (W.traffic inner.new)) (kept_with (outgoing_of self.old) to.member datagram.now)
             (outgoing_of self.new)) }
         ensures rest { (sealer_of self.new ≡ sealer_of self.old) × (self.new.keys ≡ self.old.keys) }
         ensures same { W.identity inner.new ≡ W.identity inner.old }
@@ -214,32 +154,26 @@ impl Sender {
             return false;
         }
         if datagram.len() <= WHOLE_MAX {
-            return self.send_packet(inner, to, echo, Kind::Whole, datagram);
+            return self.send_packet(inner, to, Kind::Whole, datagram);
         }
-        let outgoing = &mut self.outgoing[usize::from(to)];
+        let outgoing = &mut self.outgoing[usize::from(to.member)];
         let left = outgoing.left();
         let Some(name) = outgoing.name(datagram) else {
             return false;
         };
         let none = PiecesHeld { name, bits: 0 };
-        self.send_pieces(inner, to, echo, none, datagram, left)
+        self.send_pieces(inner, to, none, datagram, left)
     }
 
     /// Sends a member the pieces that it lacks of a datagram, while that is kept, as many as may still go to it.
-    pub(crate) fn send_lacked<W: Wire>(
-        &mut self,
-        inner: &mut W,
-        to: u8,
-        echo: Start,
-        held: PiecesHeld,
-    ) -> bool
-        requires to { to < self.old.members }
-        ensures sends { SendsUpTo (sealer_of self.old) result (again (outgoing_of self.old) to echo held)
+    pub(crate) fn send_lacked<W: Wire>(&mut self, inner: &mut W, to: To, held: PiecesHeld) -> bool
+        requires to { to.member < self.old.members }
+        ensures sends { SendsUpTo (sealer_of self.old) result (again (outgoing_of self.old) to.member to.echo held)
             (Adds (W.traffic inner.old) (W.traffic inner.new)) (outgoing_of self.old) (outgoing_of self.new) }
         ensures rest { (sealer_of self.new ≡ sealer_of self.old) × (self.new.keys ≡ self.old.keys) }
         ensures same { W.identity inner.new ≡ W.identity inner.old }
     {
-        let outgoing = &self.outgoing[usize::from(to)];
+        let outgoing = &self.outgoing[usize::from(to.member)];
         let left = outgoing.left();
         let Some(kept) = outgoing.get(held.name) else {
             return true;
@@ -250,44 +184,32 @@ impl Sender {
         let Ok(datagram) = Vec::from_slice(*self.room.allocator(), kept) else {
             return false;
         };
-        self.send_pieces(inner, to, echo, held, datagram.as_slice(), left)
+        self.send_pieces(inner, to, held, datagram.as_slice(), left)
     }
 
     /// Sends a member a packet of kind state, if it is due.
-    pub(crate) fn send_state<W: Wire>(
-        &mut self,
-        inner: &mut W,
-        to: u8,
-        echo: Start,
-        now: u64,
-    ) -> bool
-        requires to { to < self.old.members }
-        ensures sends { SendsUpTo (sealer_of self.old) result (states (outgoing_of self.old) to echo now)
-            (Adds (W.traffic inner.old) (W.traffic inner.new)) (stated_for (outgoing_of self.old) to echo now)
+    pub(crate) fn send_state<W: Wire>(&mut self, inner: &mut W, to: To, now: u64) -> bool
+        requires to { to.member < self.old.members }
+        ensures sends { SendsUpTo (sealer_of self.old) result (states (outgoing_of self.old) to.member to.echo now)
+            (Adds (W.traffic inner.old) (W.traffic inner.new)) (stated_for (outgoing_of self.old) to.member to.echo now)
             (outgoing_of self.new) }
         ensures rest { (sealer_of self.new ≡ sealer_of self.old) × (self.new.keys ≡ self.old.keys) }
         ensures same { W.identity inner.new ≡ W.identity inner.old }
     {
-        let place = usize::from(to);
+        let place = usize::from(to.member);
         let last = &self.outgoing[place];
-        if now < last.due(echo) {
+        if now < last.due(to.echo) {
             return true;
         }
         let outgoing = &mut self.outgoing[place];
-        outgoing.state(now, echo);
-        self.send_packet(inner, to, echo, Kind::State, &[])
+        outgoing.state(now, to.echo);
+        self.send_packet(inner, to, Kind::State, &[])
     }
 
     /// Sends a member which pieces have come.
-    pub(crate) fn send_held<W: Wire>(
-        &mut self,
-        inner: &mut W,
-        to: u8,
-        echo: Start,
-        held: PiecesHeld,
-    ) -> bool
-        requires to { to < self.old.members }
-        ensures sends { SendsUpTo (sealer_of self.old) result (report to echo held ∷ [])
+    pub(crate) fn send_held<W: Wire>(&mut self, inner: &mut W, to: To, held: PiecesHeld) -> bool
+        requires to { to.member < self.old.members }
+        ensures sends { SendsUpTo (sealer_of self.old) result (report to.member to.echo held ∷ [])
             (Adds (W.traffic inner.old) (W.traffic inner.new)) (outgoing_of self.old) (outgoing_of self.new) }
         ensures rest { (sealer_of self.new ≡ sealer_of self.old) × (self.new.keys ≡ self.old.keys) }
         ensures same { W.identity inner.new ≡ W.identity inner.old }
@@ -296,7 +218,7 @@ impl Sender {
         if held.write(&mut body).is_err() {
             return false;
         }
-        self.send_packet(inner, to, echo, Kind::PiecesHeld, body.as_slice())
+        self.send_packet(inner, to, Kind::PiecesHeld, body.as_slice())
     }
 
     /// When a packet of kind state is to be sent next to a member with this start.

@@ -9,8 +9,8 @@ returns-then-ne c = among_front _ _ _ (among_all _)
 pub returns-in_default : goal.returns-in_default
 returns-in_default c = among_front _ _ _ (among_all _)
 
-pub returns-then-position-last : goal.returns-then-position-last
-returns-then-position-last c = among_front _ _ _ (among_all _)
+pub returns-then-is_some_and : goal.returns-then-is_some_and
+returns-then-is_some_and c = among_front _ _ _ (among_all _)
 
 pub returns-then-not-has : goal.returns-then-not-has
 returns-then-not-has c =

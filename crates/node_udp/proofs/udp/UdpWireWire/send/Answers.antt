@@ -7,26 +7,8 @@ use Rattle.node_udp.proofs.Passing.{over_still, over_sends, over_loses}
 use Rattle.node_udp.proofs.udp.UdpWireWire.send.Goals as goal
 use Rattle.node_udp.proofs.udp.UdpWireWire.send.Goals.{in-Some, in-None}
 
-pub returns-else-not-sent-clause-handed : goal.returns-else-not-sent-clause-handed
-returns-else-not-sent-clause-handed g c =
-    elim c.match-address.branch [
-      | in-Some w ↦ subst
-          (λ (s : _). Adds (WentOver (g.S.Socket.traffic (socket_of c.args.self.now)) c.args.self.now)
-          (WentOver (g.S.Socket.traffic (socket_of s)) s) (Handed c.args.to c.args.bytes.now ∷ [])) (sym w.self-is)
-          (over_sends (g.S.Socket.traffic c.args.self.now.socket) (g.S.Socket.traffic w.sent_to-sent.new.self.socket) c.args.self.now
-          w.sent_to-sent.new.self c.args.to c.args.bytes.now w.in-Some.there c.address.result w.in-Some.is
-          w.sent_to-sent.ensures.rest.0 w.sent_to-sent.ensures.rest.1 w.sent_to-sent.ensures.last
-          w.sent_to-sent.ensures.went w.in-Some.ensures.there c.address.ensures.client)
-      | in-None w ↦ subst
-          (λ (s : _). Adds (WentOver (g.S.Socket.traffic (socket_of c.args.self.now)) c.args.self.now)
-          (WentOver (g.S.Socket.traffic (socket_of s)) s) (Handed c.args.to c.args.bytes.now ∷ [])) (sym w.self-is)
-          (over_loses (g.S.Socket.traffic c.args.self.now.socket) (g.S.Socket.traffic c.args.self.now.socket) c.args.self.now c.args.self.now
-          c.args.to c.args.bytes.now c.address.result w.in-None.is (record { quiet = λ es h. h; peers_is = refl; me_is = refl; last_is = refl; hears_is = refl })
-          (w.in-None.ensures.none refl) c.address.ensures.client)
-    ]
-
-pub returns-then-not-sent-clause-handed : goal.returns-then-not-sent-clause-handed
-returns-then-not-sent-clause-handed g c =
+pub returns-clause-handed : goal.returns-clause-handed
+returns-clause-handed g c =
     let sent : Adds (WentOver (g.S.Socket.traffic (socket_of c.args.self.now)) c.args.self.now)
     (WentOver (g.S.Socket.traffic (socket_of c.match-address.self)) c.match-address.self) (Handed c.args.to c.args.bytes.now ∷ []) =
     elim c.match-address.branch [

@@ -21,21 +21,21 @@ returns-clause-sends g c =
     let a = c.args in
     let s = sealer_of a.self.now in
     let os = outgoing_of a.self.now in
-    let inside : a.to < length os = omega (arith, c.requires, a.self.now.size) in
-    let place : c.from-place.result ≡ a.to = search rules in
-    let o : c.index-last.result.now ≡ to_member os a.to =
-    at_index os a.to c.from-place.result c.index-last.result.now place inside c.index-last.ensures in
-    let p : Unsealed = record { to = a.to; echo = a.echo; kind = a.kind; body = a.body.now } in
+    let inside : a.to.member < length os = omega (arith, c.requires, a.self.now.size) in
+    let place : c.from-place.result ≡ a.to.member = search rules in
+    let o : c.index-last.result.now ≡ to_member os a.to.member =
+    at_index os a.to.member c.from-place.result c.index-last.result.now place inside c.index-last.ensures in
+    let p : Unsealed = record { to = a.to.member; echo = a.to.echo; kind = a.kind; body = a.body.now } in
     let bytes : ℕ → List ℕ = λ n. sealed (key_of a.self.now.keys) (header_bytes (header_of s p n) ++ a.body.now) in
     let P : List ℕ → Type 0 =
-    λ b. Adds (g.W.Wire.traffic a.inner.now) (g.W.Wire.traffic c.send.new.self) (Handed a.to b ∷ []) in
+    λ b. Adds (g.W.Wire.traffic a.inner.now) (g.W.Wire.traffic c.send.new.self) (Handed a.to.member b ∷ []) in
     let m : c.in-Some.counter ≡ c.index-last.result.now.counter + 1 = search rules in
-    let n : c.in-Some.counter ≡ (to_member os a.to).counter + 1 = m ∙ ap (λ x. x.counter + 1) o in
+    let n : c.in-Some.counter ≡ (to_member os a.to.member).counter + 1 = m ∙ ap (λ x. x.counter + 1) o in
     let b : c.seal.new.buffer.items ≡ bytes c.in-Some.counter = search rules in
-    let e : c.as_slice.result.now ≡ bytes ((to_member os a.to).counter + 1) =
+    let e : c.as_slice.result.now ≡ bytes ((to_member os a.to.member).counter + 1) =
     c.as_slice.ensures.value ∙ b ∙ ap bytes n in
-    let kept : slice_set os c.from-place.result c.count.new.self ≡ counted_for os a.to =
-    set_at os a.to c.from-place.result c.index_mut-outgoing.result.now c.count.new.self counted place inside
+    let kept : slice_set os c.from-place.result c.count.new.self ≡ counted_for os a.to.member =
+    set_at os a.to.member c.from-place.result c.index_mut-outgoing.result.now c.count.new.self counted place inside
     c.index_mut-outgoing.ensures.value c.count.ensures in
     upto_one s c.send.result p (g.W.Wire.traffic a.inner.now) os (g.W.Wire.traffic c.send.new.self)
     (slice_set os c.from-place.result c.count.new.self) (subst P e c.send.ensures.handed) kept

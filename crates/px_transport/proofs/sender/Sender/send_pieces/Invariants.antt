@@ -9,8 +9,8 @@ use Rattle.px_transport.proofs.sender.Sender.send_pieces.Given as goal
 abbrev pub invariant-loop-index : goal.invariant-loop-index
 invariant-loop-index g l = record {
   first : List Unsealed;
-  split : take l.most (pieces l.to l.echo l.held l.datagram) ≡
-      first ++ take l.left (pieces_from l.to l.echo l.held l.datagram l.index);
+  split : take l.most (pieces l.to.member l.to.echo l.held l.datagram) ≡
+      first ++ take l.left (pieces_from l.to.member l.to.echo l.held l.datagram l.index);
   sends : Sends (sealer_of l.fn.self) first (Adds (g.W.Wire.traffic l.fn.inner) (g.W.Wire.traffic l.inner))
       (outgoing_of l.fn.self) (outgoing_of l.self);
   sealer : sealer_of l.self ≡ sealer_of l.fn.self;
