@@ -1,6 +1,7 @@
 pub mod Lines
 pub mod Actions
 pub mod Names
+mod Answered
 pub mod Series
 pub mod Parts
 pub mod Scripts

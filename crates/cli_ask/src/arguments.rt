@@ -28,11 +28,11 @@ use std::alloc::{AllocError, Global};
 fn sync(alloc: Global) -> Result<Call, AllocError>
     ensures { IfOk result (λ c. call_value c ≡ sync) }
 {
-    let command = Command::Load {
-        path: Path::main(alloc),
-        profile: Profile::Two,
-        text: Vec::from_slice(alloc, b"sync\n")?,
-    };
+    let command = Command::Load(
+        Path::main(alloc),
+        Profile::Two,
+        Vec::from_slice(alloc, b"sync\n")?,
+    );
     Call::entry(alloc, &command, Kind::Sync).map_err(|_memory| AllocError)
 }
 

@@ -2,7 +2,7 @@
 
 ghost use Rattle.std.specs.Prelude.{◌≡◌, ◌≤◌};
 ghost use Rattle.cli_ask.specs.Calls.{call_value};
-ghost use Rattle.cli_ask.specs.Asking.{answer_value, is_last, in_time, OrMemory, AskedOn, AskedAt};
+ghost use Rattle.cli_ask.specs.Asking.{answer_value, is_last, AskedOn, AskedAt};
 
 use crate::call::{Call, Kind};
 use crate::commands::{WAITING, number_after, outcome_call, outcome_of, waiting};
@@ -54,16 +54,6 @@ fn is_last(call: &Call, found: &Answered, is_once: bool) -> bool
     is_once || !is_open
 }
 
-/// What is answered once the time is over: the answer, or where there is none the one before.
-fn in_time(alloc: Global, is_waiting: bool, found: Answered) -> Answered
-    ensures { OrMemory (in_time is_waiting (answer_value found)) (answer_value result) }
-{
-    match found {
-        Err(_) if is_waiting => Ok(waiting(alloc)?),
-        found => found,
-    }
-}
-
 /// How requests are made: with what it is waited between two, until when, and whether each is made once alone.
 #[derive(Clone, Copy)]
 pub(crate) struct Asking<'a, RT> {
@@ -90,7 +80,10 @@ impl<RT: Pauses> Asking<'_, RT> {
                 self.rt.pause(PAUSE);
             }
             if control.is_over(self.deadline) {
-                return in_time(self.alloc, is_waiting, found);
+                return match found {
+                    Err(_) if is_waiting => Ok(waiting(self.alloc)?),
+                    found => found,
+                };
             }
             is_waiting = found.is_ok();
         }

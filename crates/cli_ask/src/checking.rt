@@ -24,12 +24,7 @@ pub(crate) type Found = Result<Option<Refused>, AllocError>;
 pub(crate) fn refused_command(alloc: Global, command: &Command) -> Found
     ensures { IfOk result (λ r. r ≡ command_refusal (command_value command.now)) }
 {
-    let Command::Load {
-        path,
-        profile,
-        text,
-    } = command
-    else {
+    let Command::Load(path, profile, text) = command else {
         return Ok(None);
     };
     let is_main = path.names().is_empty();

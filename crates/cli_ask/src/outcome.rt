@@ -2,7 +2,7 @@
 
 ghost use Rattle.std.specs.Prelude.{◌≡◌, IfOk, string_bytes};
 ghost use Rattle.pf_scripts.specs.Lines.{refused_line};
-ghost use Rattle.cli_ask.specs.Outcomes.{Wrote, answer_status, refusal};
+ghost use Rattle.cli_ask.specs.Outcomes.{Wrote, refusal};
 
 use crate::answers::is_done;
 use crate::call::Kind;
@@ -52,24 +52,14 @@ pub(crate) fn refusal_line(alloc: Global, refused: Refused) -> Result<String, Al
     Ok(line)
 }
 
-/// How a run with this answer ends: `Done` where what was asked for was done.
-fn answer_status(kind: Kind, reply: &Reply) -> Status
-    ensures { result ≡ answer_status kind reply.now }
-{
-    if is_done(kind, reply.code, reply.body.as_slice()) {
-        Status::Done
-    } else {
-        Status::Refused
-    }
-}
-
 /// Writes what a run gives.
 pub(crate) fn write_outcome<W: Write>(alloc: Global, outcome: Outcome, writer: &mut W) -> Status
     ensures { Wrote result outcome (W.contents writer.old) (W.contents writer.new) }
 {
     match outcome {
         Outcome::Answered(kind, reply) => match write_bytes(writer, reply.body.as_slice()) {
-            Ok(()) => answer_status(kind, &reply),
+            Ok(()) if is_done(kind, reply.code, reply.body.as_slice()) => Status::Done,
+            Ok(()) => Status::Refused,
             Err(_) => Status::Failed,
         },
         Outcome::Refused(refused) => match refusal_line(alloc, refused) {

@@ -1,12 +1,12 @@
 //! A request as bytes, and bytes as an answer.
 
-ghost use Rattle.std.specs.Prelude.{◌≡◌, Err, IfOk, All, length, map, option_map, string_bytes};
+ghost use Rattle.std.specs.Prelude.{◌≡◌, Err, IfOk, All, length, map, option_map};
 ghost use Rattle.std.specs.Str.{str_eq_ignore_ascii_case};
 ghost use Rattle.httparse.specs.Spans.{IsHeaderWithin, header_bytes};
 ghost use Rattle.cli_ask.specs.Calls.{call_value};
-ghost use Rattle.cli_ask.specs.Replies.{request_head, request_bytes, number, text_of, field_in, number_in};
+ghost use Rattle.cli_ask.specs.Replies.{request_bytes, number, text_of, field_in, number_in};
 ghost use Rattle.cli_ask.specs.Replies.{has_length};
-ghost use Rattle.cli_ask.specs.Replies.{answer_of, reply_value, IsAnswer, IsNoAnswer};
+ghost use Rattle.cli_ask.specs.Replies.{reply_value, IsAnswer, IsNoAnswer};
 
 use crate::call::Call;
 use crate::exchange::{Answered, AskFault, Reply};
@@ -17,25 +17,17 @@ use std::alloc::{AllocError, Global};
 /// How many fields an answer's head has at most.
 const FIELDS: usize = 64;
 
-/// A request's head, with the body's length.
-fn request_head(alloc: Global, method: &str, target: &str, len: usize) -> Result<String, AllocError>
-    ensures { IfOk result (λ h. string_bytes h ≡ request_head method.now target.now len) }
-{
-    let len = len.to_string(alloc)?;
-    let mut head = String::from_str(alloc, method)?;
-    head.push_str(" ")?;
-    head.push_str(target)?;
-    head.push_str(" HTTP/1.1\r\nhost: pfx\r\nconnection: close\r\ncontent-length: ")?;
-    head.push_str(len.as_str())?;
-    head.push_str("\r\n\r\n")?;
-    Ok(head)
-}
-
-/// The request's bytes.
+/// The request's bytes: its head, with the body's length, and the body.
 pub(crate) fn request_bytes(alloc: Global, call: &Call) -> Result<Vec<u8>, AllocError>
     ensures { IfOk result (λ v. v.items ≡ request_bytes (call_value call.now)) }
 {
-    let head = request_head(alloc, call.method, call.target.as_str(), call.body.len())?;
+    let (method, target, len) = (call.method, call.target.as_str(), call.body.len());
+    let mut head = String::new(alloc);
+    write!(
+        head,
+        "{method} {target} HTTP/1.1\r\nhost: pfx\r\nconnection: close\r\n"
+    )?;
+    write!(head, "content-length: {len}\r\n\r\n")?;
     let mut bytes = head.into_bytes();
     bytes.extend_from_slice(call.body.as_slice())?;
     Ok(bytes)
@@ -97,26 +89,6 @@ fn has_length(bytes: &[u8], fields: &[HeaderSpan], len: usize) -> bool
     ))
 }
 
-/// What a head with these fields and a body answer.
-fn answer_of(
-    alloc: Global,
-    code: u16,
-    bytes: &[u8],
-    fields: &[HeaderSpan],
-    body: &[u8],
-) -> Result<Reply, AllocError>
-    requires { All (IsHeaderWithin (length bytes.now)) fields.now }
-    ensures { IfOk result (λ r. reply_value r
-        ≡ answer_of code (map (header_bytes bytes.now) fields.now) body.now) }
-{
-    Ok(Reply {
-        code,
-        body: Vec::from_slice(alloc, body)?,
-        front: number_in(bytes, fields, b"pfx-front"),
-        applied: number_in(bytes, fields, b"pfx-applied"),
-    })
-}
-
 /// The answer that the bytes are. `BadAnswer` where they are none.
 pub(crate) fn reply_in(alloc: Global, bytes: &[u8]) -> Answered
     ensures answer { IfOk result (λ r. IsAnswer bytes.now (reply_value r)) }
@@ -132,5 +104,10 @@ pub(crate) fn reply_in(alloc: Global, bytes: &[u8]) -> Answered
     if !has_length(bytes, fields, body.len()) {
         return Err(AskFault::BadAnswer);
     }
-    Ok(answer_of(alloc, head.code, bytes, fields, body)?)
+    Ok(Reply {
+        code: head.code,
+        body: Vec::from_slice(alloc, body)?,
+        front: number_in(bytes, fields, b"pfx-front"),
+        applied: number_in(bytes, fields, b"pfx-applied"),
+    })
 }

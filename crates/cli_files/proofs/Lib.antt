@@ -1,2 +1,3 @@
 pub mod KeyLines
 mod StartsLines
+mod Texts

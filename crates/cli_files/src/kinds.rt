@@ -44,12 +44,7 @@ pub(crate) fn number_of(value: &Value) -> Option<u64>
 fn are_texts(values: &[Value]) -> bool
     ensures { result ≡ are_texts (items_view values.now) }
 {
-    for value in values {
-        if !value.is_str() {
-            return false;
-        }
-    }
-    true
+    values.iter().all(|value| value.is_str())
 }
 
 /// Whether the key names a setting that takes this value.

@@ -86,7 +86,7 @@ pub use key_reading::key_from;
 pub use known::KnownMember;
 pub use next::next_start;
 pub use raise::RaiseFault;
-pub use raising::{raise_at, starts_at};
+pub use raising::{Known, raise_at, starts_at};
 pub use random_bytes::RandomBytes;
 pub use settings::NodeFile;
 pub use settings_fault::FileFault;

@@ -12,12 +12,10 @@ pub(crate) fn line_of(text: &[u8], key: &str) -> Option<u64> {
     let mut is_start = true;
     for (at, byte) in text.iter().enumerate() {
         let after = text.get(at..)?.strip_prefix(key.as_bytes());
-        // the key ends there
-        if is_start
-            && after.is_some_and(|after| {
-                !matches!(after, [b'-' | b'_' | b'a'..=b'z' | b'A'..=b'Z' | b'0'..=b'9', ..])
-            })
-        {
+        // it is that of a longer key
+        let goes_on =
+            matches!(after, Some([b'-' | b'_' | b'a'..=b'z' | b'A'..=b'Z' | b'0'..=b'9', ..]));
+        if is_start && after.is_some() && !goes_on {
             return Some(line_at(text, at));
         }
         is_start = *byte == b'\n' || (is_start && b" \t[\"'".contains(byte));

@@ -1,10 +1,9 @@
 //! The raising of a member's start in its file of starts.
 
-ghost use Rattle.std.specs.Prelude.{◌≡◌, ◌≢◌, ◌<◌, ◌≤◌, List, ℕ, Err, Some, None, IfOk, IfErr, false, length};
+ghost use Rattle.std.specs.Prelude.{◌≡◌, ◌≢◌, ◌<◌, List, ℕ, Err, Some, None, IfOk, IfErr, false, length};
 ghost use Rattle.std.specs.Prelude.{option_map};
-ghost use Rattle.cli_files.specs.StartsTexts.{starts_text, AreFit};
-ghost use Rattle.cli_files.specs.Raising.{AreKnown, Raises, IsSpent, ComesFirst, IsOfRead};
-ghost use Rattle.cli_files.specs.declared.known.KnownMember as declared;
+ghost use Rattle.cli_files.specs.StartsTexts.{starts_text};
+ghost use Rattle.cli_files.specs.Raising.{AreKnown, Raises, IsSpent, ComesFirst};
 
 use crate::known::KnownMember;
 use crate::next::next_start;
@@ -16,35 +15,23 @@ use crate::starts_writing::write_starts;
 use px_packet::Start;
 use std::alloc::Global;
 
-/// What a string has of a cluster of that many members.
-fn known_in_text(alloc: Global, text: &[u8], members: u8) -> Result<Vec<KnownMember>, RaiseFault>
-    ensures known { IfOk result (λ v. (length v.items ≡ members) × (text.now ≡ starts_text v.items)) }
-    ensures damaged { result ≡ Err RaiseFault.Damaged → (known : List declared.KnownMember) → AreFit known →
-        length known ≤ 15 → length known ≡ members → text.now ≡ starts_text known → ⊥ }
-    ensures why { IfErr result IsOfRead }
-{
-    match read_starts(alloc, text) {
-        Ok(known) if known.len() == usize::from(members) => Ok(known),
-        Err(StartsFault::Memory) => Err(RaiseFault::Memory),
-        _ => Err(RaiseFault::Damaged),
-    }
-}
+/// What is known of the members of a cluster, or why nothing is.
+pub type Known = Result<Vec<KnownMember>, RaiseFault>;
 
 /// What the text of a file, if there is one, has of a cluster of that many members. Where there is none it is
 /// `Missing`, or, where one may be made, none of them was heard.
-pub(crate) fn known_in(
-    alloc: Global,
-    text: &Option<Vec<u8>>,
-    members: u8,
-    may_be_made: bool,
-) -> Result<Vec<KnownMember>, RaiseFault>
+fn known_in(alloc: Global, text: &Option<Vec<u8>>, members: u8, may_be_made: bool) -> Known
     ensures known { IfOk result (λ v. AreKnown members may_be_made (option_map (λ t. t.items) text.now) v.items) }
     ensures missing { result ≡ Err RaiseFault.Missing → (text.now ≡ None) × (may_be_made ≡ false) }
     ensures all { IfOk result (λ v. length v.items ≡ members) }
     ensures why { (result ≢ Err RaiseFault.Spent) × (result ≢ Err RaiseFault.Unwritten) }
 {
     match text {
-        Some(text) => known_in_text(alloc, text.as_slice(), members),
+        Some(text) => match read_starts(alloc, text.as_slice()) {
+            Ok(known) if known.len() == usize::from(members) => Ok(known),
+            Err(StartsFault::Memory) => Err(RaiseFault::Memory),
+            _ => Err(RaiseFault::Damaged),
+        },
         // none of its members was heard
         None if may_be_made => {
             let (start, birth) = (Start::NEVER, 0);
@@ -55,11 +42,7 @@ pub(crate) fn known_in(
 }
 
 /// What the file of starts at a place has of a cluster of that many members: `Missing` where there is none.
-pub fn starts_at<P: StartsPlace>(
-    alloc: Global,
-    place: &P,
-    members: u8,
-) -> Result<Vec<KnownMember>, RaiseFault>
+pub fn starts_at<P: StartsPlace>(alloc: Global, place: &P, members: u8) -> Known
     ensures known { IfOk result (λ v. (text : List ℕ) × P.has place.now (Some text) × (length v.items ≡ members) ×
         (text ≡ starts_text v.items)) }
     ensures missing { result ≡ Err RaiseFault.Missing → P.has place.now None }

@@ -36,9 +36,8 @@ impl NodeFile {
     pub fn empty(alloc: Global) -> NodeFile
         ensures { settings_of result ≡ no_members }
     {
-        NodeFile {
-            table: Table::new(alloc),
-        }
+        let table = Table::new(alloc);
+        NodeFile { table }
     }
 
     /// The settings that a string has, which is TOML in UTF-8. `Syntax` where it isn't, `Unknown` of a key that names
@@ -48,11 +47,9 @@ impl NodeFile {
         ensures all { IfOk result (λ f. first_wrong (settings_of f) ≡ None) }
         ensures refused { IfErr result (λ fault. IsRefused fault text.now) }
     {
-        let table = table_from_slice(alloc, text).map_err(|error| {
-            error.span().map_or(
-                FileFault::Memory,
-                |span| FileFault::Syntax(line_at(text, span.start)),
-            )
+        let table = table_from_slice(alloc, text).map_err(|error| match error.span() {
+            Some(span) => FileFault::Syntax(line_at(text, span.start)),
+            None => FileFault::Memory,
         })?;
         let Some(key) = first_wrong(&table) else {
             return Ok(NodeFile { table });

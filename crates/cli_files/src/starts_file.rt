@@ -4,9 +4,8 @@ ghost use Rattle.std.specs.Prelude.{◌≡◌, ◌≢◌, ◌++◌, ◌<◌, ⊤
 ghost use Rattle.cli_files.specs.Raising.{Raises};
 ghost use Rattle.std.specs.Int.{w32, from_be_bytes};
 
-use crate::known::KnownMember;
 use crate::raise::RaiseFault;
-use crate::raising::{raise_at, starts_at};
+use crate::raising::{Known, raise_at, starts_at};
 use crate::random_bytes::RandomBytes;
 use crate::starts_place::{StartsFile, StartsPlace};
 use px_packet::Start;
@@ -23,12 +22,7 @@ pub fn starts_path(alloc: Global, store: &str) -> Result<String, AllocError>
 }
 
 /// What a file of starts has of a cluster of that many members, by [`starts_at`] at the file at a path.
-pub fn starts_in<F: Files>(
-    files: &F,
-    alloc: Global,
-    path: &str,
-    members: u8,
-) -> Result<Vec<KnownMember>, RaiseFault>
+pub fn starts_in<F: Files>(files: &F, alloc: Global, path: &str, members: u8) -> Known
     ensures all { IfOk result (λ known. length known.items ≡ members) }
     ensures why { (result ≢ Err RaiseFault.Spent) × (result ≢ Err RaiseFault.Unwritten) }
 {

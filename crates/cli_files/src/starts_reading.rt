@@ -25,15 +25,13 @@ fn member_in(digits: &[u8]) -> Option<KnownMember>
 {
     let mut bytes = [0u8; 16];
     hex::decode_to_slice(digits, &mut bytes).ok()?;
-    Some(KnownMember {
-        start: Start {
-            number: u32::from_be_bytes([bytes[0], bytes[1], bytes[2], bytes[3]]),
-            salt: u32::from_be_bytes([bytes[4], bytes[5], bytes[6], bytes[7]]),
-        },
-        birth: u64::from_be_bytes([
-            bytes[8], bytes[9], bytes[10], bytes[11], bytes[12], bytes[13], bytes[14], bytes[15],
-        ]),
-    })
+    let number = u32::from_be_bytes([bytes[0], bytes[1], bytes[2], bytes[3]]);
+    let salt = u32::from_be_bytes([bytes[4], bytes[5], bytes[6], bytes[7]]);
+    let birth = u64::from_be_bytes([
+        bytes[8], bytes[9], bytes[10], bytes[11], bytes[12], bytes[13], bytes[14], bytes[15],
+    ]);
+    let start = Start { number, salt };
+    Some(KnownMember { start, birth })
 }
 
 /// The members of a file of starts. A string is read where it is the text of some members, 15 at most, and as those.

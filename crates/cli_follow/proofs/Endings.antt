@@ -1,8 +1,10 @@
 -- What the arguments ask for, and how a run ends.
-use Rattle.std.proofs.Common.{◌≡◌, ◌∙◌, ℕ, List, Option, Some, None, Result, Ok, Err, refl, ap, unwrap_or, inl, inr}
+use Rattle.std.proofs.Common.{◌≡◌, ◌∙◌, ℕ, List, Option, Some, None, Result, Ok, Err, refl, ap, subst, codes, unwrap_or, inl, inr}
 use Rattle.std.specs.Str.Parse.{ParsesUnsigned}
 use Rattle.std.proofs.KnownBytes.{Appends-nil}
-use Rattle.clap.specs.Words.{Row, ReadsOne}
+use Rattle.clap.specs.Words.{Row, ReadsOne, Text, one_of, one_text, rows_of}
+use Rattle.clap.specs.declared.parser.matches.Found.{Found}
+use Rattle.clap.proofs.WalkLemmas.{one_text-rows}
 use Rattle.cli_io.specs.declared.status.Status.{Status}
 use Rattle.cli_io.specs.declared.status.Status.TheVariants as status
 use Rattle.cli_follow.specs.Exchanges.{Exchange}
@@ -18,6 +20,10 @@ pub turns_are : {E : Type 0} (gives : List ℕ → Result ℕ E → Type 0) (tex
 turns_are gives None r n none some f is = is ∙ ap (λ o. unwrap_or o 18446744073709551615) (none refl)
 turns_are gives (Some t) (Some v) n none some f is = λ digits fits. is ∙ (f t (Ok v) (some t refl)).1
 turns_are gives (Some t) None n none some f is = let w = some t refl in λ digits fits. absurd (f t (Err w.0) w.1 (digits, fits))
+
+-- as the rows have them
+pub in_rows : (found : Found) (n : ℕ) → AreTurns (one_text found (codes "turns")) n → AreTurns (one_of (codes "turns") (rows_of found)) n
+in_rows found n h = subst (λ (o : Option Text). AreTurns o n) (one_text-rows found (codes "turns")) h
 
 -- a run to these places
 pub to_places : (x y : List Exchange → Type 0) (u v : List Act → Type 0) (has : (path text : List ℕ) → Type 0) (rows : List Row) (p : Places) (turns : ℕ) (s : Status) (a b : Option (List ℕ)) → IsWantedBy has rows p →

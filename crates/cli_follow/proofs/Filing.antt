@@ -4,6 +4,7 @@ use Rattle.std.specs.Prelude.{◌&&◌}
 use Rattle.std.proofs.KnownBytes.{Appends-nil}
 use Rattle.nft_rules.specs.Rendering.{Machine}
 use Rattle.cli_follow.specs.declared.files.TextFiles.{TextFiles}
+use Rattle.pf_config.specs.Map.{Configuration}
 use Rattle.cli_follow.specs.declared.follower.Due.{Due}
 use Rattle.cli_follow.specs.declared.follower.Due.TheVariants as due
 use Rattle.cli_follow.specs.Exchanges.{Exchange}
@@ -67,6 +68,27 @@ pub filed_late : (x y : List Exchange → Type 0) (p q : List Act → Type 0) (w
     TurnFiled x y p q w e (AsksEntries f) old new
 filed_late x y p q w e f again old new leads (acts, (adds, h)) =
     let (es, given, led) = leads in (es, due_in w f due.Rest, given, led, refl, (acts, (adds, late_filed f again (are_behind old) old acts new refl h)))
+
+-- they were put again, where one couldn't be written
+pub written_if : (p q : List Act → Type 0) (c : Configuration) (again behind : Bool) (old new : Option TextFiles) → again ≡ true → behind ≡ true →
+    Acted p q (λ acts. FilesWritten c old acts new) → Acted p q (λ acts. FilesWrittenIf (again && behind) c old acts new)
+written_if p q c again behind old new e f h = rw (e, f) h
+
+-- they weren't, since none is behind, or it isn't time
+pub still_if : (p : List Act → Type 0) (c : Configuration) (late : Bool) (old : Option TextFiles) → late ≡ false → Acted p p (λ acts. FilesWrittenIf late c old acts old)
+still_if p c late old e = rw e ([], (adds_nothing p, (refl, refl)))
+
+pub not_behind : (again behind : Bool) → false ≡ behind → (again && behind) ≡ false
+not_behind true behind e = sym e
+not_behind false behind e = refl
+
+pub not_again : (again behind : Bool) → false ≡ again → (again && behind) ≡ false
+not_again true behind e = absurd cc
+not_again false behind e = refl
+
+pub left_if : (p q : List Act → Type 0) (c : Configuration) (again behind : Bool) (old : Option TextFiles) → again ≡ true → behind ≡ true →
+    Acted p q (λ acts. FilesLeft c old acts) → Acted p q (λ acts. FilesLeftIf (again && behind) c old acts)
+left_if p q c again behind old e f h = rw (e, f) h
 
 -- ---- turns
 

@@ -1,6 +1,6 @@
 -- What is done with files, one after the other.
 use Rattle.std.proofs.Common.{◌≡◌, ℕ, Bool, true, false, List, [], ◌∷◌, ◌++◌, map, refl, sym, subst, append-nil, inl, inr}
-use Rattle.std.specs.Prelude.{Result, Ok, Err, IfOk, OnErr, string_bytes}
+use Rattle.std.specs.Prelude.{Result, Ok, Err, OnErr, string_bytes}
 use Rattle.std.specs.List.{list_any}
 use Rattle.std.proofs.lemmas.List.{map-append}
 use Rattle.cli_follow.specs.declared.files.TextFile.{TextFile}
@@ -35,10 +35,9 @@ pub already_there : (x : List Act → Type 0) (folder : List ℕ) (old : List Te
 already_there x folder old name text e = ([], (adds_nothing x, there_if (list_any (is_there name text) old) folder name text e))
 
 -- it isn't, and is put
-pub put_there : {E : Type 0} (r : Result Bool E) (x y : List Act → Type 0) (folder : List ℕ) (old : List TextFile) (name text : List ℕ) → list_any (is_there name text) old ≡ false →
-    IfOk r (λ put. Acted x y (λ acts. IsPut folder name text acts put)) → IfOk r (λ put. Acted x y (λ acts. PutsOnce folder old name text acts put))
-put_there (Ok put) x y folder old name text e (acts, (adds, h)) = (acts, (adds, put_if (list_any (is_there name text) old) folder name text acts put e h))
-put_there (Err fault) x y folder old name text e h = tt
+pub put_there : (x y : List Act → Type 0) (folder : List ℕ) (old : List TextFile) (name text : List ℕ) (put : Bool) → list_any (is_there name text) old ≡ false →
+    Acted x y (λ acts. IsPut folder name text acts put) → Acted x y (λ acts. PutsOnce folder old name text acts put)
+put_there x y folder old name text put e (acts, (adds, h)) = (acts, (adds, put_if (list_any (is_there name text) old) folder name text acts put e h))
 
 -- ---- one after the other
 

@@ -6,10 +6,10 @@ ghost use Rattle.pf_dump.specs.Done.{AreDoneTo};
 ghost use Rattle.pf_dump.specs.Seen.{text_of};
 ghost use Rattle.pf_dump.specs.Written.{texts_of};
 ghost use Rattle.cli_follow.specs.Exchanges.{Adds};
-ghost use Rattle.cli_follow.specs.Files.{Act, Wrote, Renamed, Acted, IsWritten, IsDone, IsPut, PutsOnce, Puts};
+ghost use Rattle.cli_follow.specs.Files.{Act, Wrote, Renamed, Acted, IsDone, PutsOnce, Puts};
 ghost use Rattle.cli_follow.specs.Files.{PutsFront};
 ghost use Rattle.cli_follow.specs.Files.{file_value, file_name, file_at, files_of, is_named, is_put, is_there};
-ghost use Rattle.cli_follow.specs.Files.{is_gone, with_gone, are_behind, ArePutFor, AreLeftFor};
+ghost use Rattle.cli_follow.specs.Files.{with_gone, are_behind, ArePutFor, AreLeftFor};
 
 use crate::followed_configuration::FollowedConfiguration;
 use crate::follower::log_refusal;
@@ -104,31 +104,11 @@ fn files_of(alloc: Global, config: &Config) -> Result<Option<Vec<TextFile>>, All
     Ok(Some(files))
 }
 
-/// Whether a file has to be emptied, where these are to be written.
-fn is_gone(files: &[TextFile], old: &TextFile) -> bool
-    ensures { result ≡ is_gone (map file_value files.now) old.now }
-{
-    !has_name(files, old.name.as_str()) && !(old.text.as_str().is_empty() && old.is_put)
-}
-
 /// Whether this is there.
 fn is_written(files: &[TextFile], name: &str, text: &str) -> bool
     ensures { result ≡ list_any (is_there name.now text.now) files.now }
 {
     files.iter().any(|old| old.is_put && old.name.as_str() == name && old.text.as_str() == text)
-}
-
-/// Writes a file that isn't there: what is at this path is removed first, a link too, whose target stays as it
-/// is.
-fn write_new<F: Files>(rt: &F, path: &str, text: &str) -> io::Result<()>
-    ensures { OnOk result (IsWritten F.File.contents text.now) }
-{
-    let _gone = fs::remove_file(rt, path);
-    let mut file = OpenOptions::new()
-        .write(true)
-        .create_new(true)
-        .open(rt, path)?;
-    file.write_all(text.as_bytes())
 }
 
 /// Where files are written and renamed.
@@ -156,7 +136,13 @@ impl<R: Files> Folders for SystemFiles<'_, R> {
     ghost done = { λ _ acts. AllByRecursion (IsDone R.File.contents) acts };
 
     fn write_file(&mut self, path: &str, text: &str) -> io::Result<()> {
-        write_new(self.rt, path, text)
+        // what is there goes first, a link too, whose target stays as it is
+        let _gone = fs::remove_file(self.rt, path);
+        let mut file = OpenOptions::new()
+            .write(true)
+            .create_new(true)
+            .open(self.rt, path)?;
+        file.write_all(text.as_bytes())
     }
 
     fn rename(&mut self, from: &str, to: &str) -> io::Result<()> {
@@ -178,23 +164,7 @@ impl TextFiles {
         })
     }
 
-    /// Writes a file beside its place and renames it, and answers whether that was possible.
-    fn put<F: Folders>(&self, folders: &mut F, name: &str, text: &str) -> Result<bool, AllocError>
-        ensures put { IfOk result (λ is_put. Acted (F.done folders.old) (F.done folders.new)
-            (λ acts. IsPut (string_bytes self.now.folder) name.now text.now acts is_put)) }
-        ensures none { OnErr result (Adds (F.done folders.old) (F.done folders.new) []) }
-    {
-        let alloc = *self.written.allocator();
-        let folder = self.folder.as_str();
-        let place = format!(in alloc; "{folder}/{name}")?;
-        let beside = format!(in alloc; "{folder}/.{name}.new")?;
-        Ok(
-            folders.write_file(beside.as_str(), text).is_ok()
-                && folders.rename(beside.as_str(), place.as_str()).is_ok(),
-        )
-    }
-
-    /// Writes a file unless it is there, and answers whether it does now.
+    /// Writes a file beside its place and renames it, unless it is there, and answers whether it is there now.
     fn put_once<F: Folders>(&self, folders: &mut F, name: &str, text: &str) -> Made<bool>
         ensures put { IfOk result (λ is_put. Acted (F.done folders.old) (F.done folders.new) (λ acts.
             PutsOnce (string_bytes self.now.folder) self.now.written.items name.now text.now acts is_put)) }
@@ -203,7 +173,13 @@ impl TextFiles {
         if is_written(self.written.as_slice(), name, text) {
             return Ok(true);
         }
-        self.put(folders, name, text)
+        let alloc = *self.written.allocator();
+        let folder = self.folder.as_str();
+        let place = format!(in alloc; "{folder}/{name}")?;
+        let beside = format!(in alloc; "{folder}/.{name}.new")?;
+        let is_put = folders.write_file(beside.as_str(), text).is_ok()
+            && folders.rename(beside.as_str(), place.as_str()).is_ok();
+        Ok(is_put)
     }
 
     /// The files, and empty ones for paths that are gone.
@@ -214,7 +190,8 @@ impl TextFiles {
         let alloc = *self.written.allocator();
         let written = self.written.as_slice();
         for old in written {
-            if is_gone(files.as_slice(), old) {
+            let is_emptied = old.text.as_str().is_empty() && old.is_put;
+            if !has_name(files.as_slice(), old.name.as_str()) && !is_emptied {
                 let name = String::from_str(alloc, old.name.as_str())?;
                 let (text, is_put) = (String::new(alloc), false);
                 files.push(TextFile { name, text, is_put })?;

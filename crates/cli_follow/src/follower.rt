@@ -1,22 +1,19 @@
 //! What follows one node's log, and writes what nft(8) is to load.
 
 ghost use Rattle.std.specs.Prelude.{◌≡◌, ◌+◌, ◌||◌, ◌&&◌, ℕ, true, Some, Ok, IfOk, IfErr, OnOk, OnErr, option_map};
-ghost use Rattle.std.specs.Io.KnownBytes.{Appends};
 ghost use Rattle.cli_io.specs.Written.{AppendsFront};
 ghost use Rattle.nft_rules.specs.Seen.{machine_of};
-ghost use Rattle.cli_follow.specs.Output.{wanted, start, is_again, caught_up, informed};
+ghost use Rattle.cli_follow.specs.Output.{wanted, start, is_again, informed};
 ghost use Rattle.cli_follow.specs.Output.{after_entries, after_status, written_if, written_to};
 ghost use Rattle.cli_follow.specs.Output.{Wanted};
 ghost use Rattle.cli_follow.specs.Output as code;
-ghost use Rattle.cli_follow.specs.inner.Seen.{follower_of, wanted_of, due_in, loads_of, Wrote, Written};
+ghost use Rattle.cli_follow.specs.inner.Seen.{follower_of, wanted_of, due_in, Written};
 
 use crate::files::Made;
 use crate::followed_configuration::{FollowedConfiguration, TakeFault};
-use crate::kernel::{Kernel, Step};
+use crate::kernel::Kernel;
 use crate::members::members_reported;
 use cli_ask::{AskFault, Reply};
-use cli_io::write_bytes;
-use cli_nft::Member;
 use nft_rules::MachineInterface;
 use node_requests::{ENTRIES_BYTES, ENTRIES_MAX};
 use std::alloc::{AllocError, Global};
@@ -24,6 +21,9 @@ use std::io::Write;
 
 /// Of how many asks the first has a file tried again that couldn't be written, and asks where the members listen.
 const AGAIN: u64 = 20;
+
+/// What a node answers, or why nothing comes.
+type Answer = Result<Reply, AskFault>;
 
 /// Why nothing more can be written.
 #[derive(Clone, Copy, PartialEq, Eq)]
@@ -63,21 +63,13 @@ pub(crate) enum Due {
     Another,
 }
 
-/// Lines for nft(8).
-#[derive(Drop)]
-struct Nft {
-    kernel: Kernel,
-    /// Whether the lines have the members' guard, so that the node is asked where its members listen.
-    is_guarded: bool,
-}
-
 /// What follows one node's log.
 #[derive(Drop)]
 pub struct Follower {
     /// What was followed.
     pub(crate) followed: FollowedConfiguration,
     /// Lines for nft(8), where they are wanted.
-    nft: Option<Nft>,
+    nft: Option<Kernel>,
     /// Whether something was to be written already.
     has_begun: bool,
 }
@@ -94,54 +86,12 @@ pub(crate) fn log_refusal<E: Write>(errors: &mut E, position: u32, code: u8) {
     let _logged = writeln!(errors, "pfx: at {position} refused {code}");
 }
 
-/// Writes lines, and all that is kept back.
-fn write_lines<W: Write>(writer: &mut W, lines: &[u8]) -> Result<(), WriteFault>
-    ensures whole { OnOk result (Appends (W.contents writer.old) (W.contents writer.new) lines.now) }
-    ensures front { OnErr result (AppendsFront (W.contents writer.old) (W.contents writer.new) lines.now) }
-    ensures closed { IfErr result (λ e. e ≡ WriteFault.Closed) }
-{
-    if write_bytes(writer, lines).is_err() || writer.flush().is_err() {
-        return Err(WriteFault::Closed);
-    }
-    Ok(())
-}
-
 /// What is due where something is to be written or not.
 fn due_if(is_wanted: bool) -> Due
     ensures due { (w : Wanted) (f : code.Follower) → written_if w is_wanted f ≡ due_in w f result }
     ensures status { result ≡ Due.Status → ⊥ }
 {
     if is_wanted { Due::Write } else { Due::Rest }
-}
-
-impl Nft {
-    /// Writes what a kernel is to load; a refusal is said.
-    #[tactic(auto, using(cli_io::proofs::Fronts::nothing_written))]
-    fn write<W: Write, E: Write>(
-        &mut self,
-        followed: &FollowedConfiguration,
-        writer: &mut W,
-        errors: &mut E,
-    ) -> Result<(), WriteFault>
-        ensures whole { OnOk result (Wrote self.old self.new followed.now
-            (W.contents writer.old) (W.contents writer.new)) }
-        ensures front { OnErr result (AppendsFront (W.contents writer.old) (W.contents writer.new)
-            (loads_of self.old followed.now).lines) }
-        ensures fault { IfErr result (λ e. e ≡ WriteFault.Another → ⊥) }
-        ensures members { self.new.kernel.members ≡ self.old.kernel.members }
-        ensures interfaces { self.new.kernel.interfaces ≡ self.old.kernel.interfaces }
-        ensures guarded { self.new.is_guarded ≡ self.old.is_guarded }
-    {
-        let position = followed.position;
-        match self.kernel.load(&followed.config, position)? {
-            Step::Same => Ok(()),
-            Step::Refused(code) => {
-                log_refusal(errors, position, code);
-                Ok(())
-            }
-            Step::Lines(lines) => write_lines(writer, lines.as_slice()),
-        }
-    }
 }
 
 impl Follower {
@@ -156,10 +106,7 @@ impl Follower {
             ≡ wanted (option_map (λ v. machine_of v.items) interfaces) is_guarded) }
     {
         let followed = FollowedConfiguration::new(alloc)?;
-        let nft = interfaces.map(|interfaces| Nft {
-            kernel: Kernel::new(alloc, interfaces),
-            is_guarded,
-        });
+        let nft = interfaces.map(|interfaces| Kernel::new(alloc, interfaces, is_guarded));
         Ok(Follower {
             followed,
             nft,
@@ -167,30 +114,8 @@ impl Follower {
         })
     }
 
-    /// What is due where all that is applied is there.
-    fn caught_up(&self, again: bool) -> Due
-        ensures due { (asks : ℕ) → caught_up (wanted_of self.now) again (follower_of asks self.now)
-            ≡ due_in (wanted_of self.now) (follower_of asks self.now) result }
-        ensures guarded { result ≡ Due.Status → (wanted_of self.now).is_guarded ≡ true }
-    {
-        // the node is asked where its members listen
-        let is_guarded = self.nft.as_ref().is_some_and(|nft| nft.is_guarded);
-        if is_guarded && (self.followed.is_moved || again) {
-            return Due::Status;
-        }
-        if self.followed.is_moved {
-            return Due::Write;
-        }
-        Due::Rest
-    }
-
     /// Takes the answer to the ask for entries that came after the given number of asks.
-    pub(crate) fn entered(
-        &mut self,
-        alloc: Global,
-        asks: u64,
-        answer: Result<Reply, AskFault>,
-    ) -> Result<Due, AllocError>
+    pub(crate) fn entered(&mut self, alloc: Global, asks: u64, answer: Answer) -> Made<Due>
         ensures due { IfOk result (λ d. after_entries (wanted_of self.old) (follower_of asks self.old) answer
             ≡ due_in (wanted_of self.new) (follower_of (asks + 1) self.new) d) }
         ensures wanted { wanted_of self.new ≡ wanted_of self.old }
@@ -211,34 +136,21 @@ impl Follower {
             Err(TakeFault::Memory) => return Err(AllocError),
             Err(TakeFault::BadLine) => return Ok(Due::Nothing(AskFault::BadAnswer)),
         }
-        // an answer of so many entries, or of that length, hasn't all that are applied
-        let taken = self.followed.position.saturating_sub(from);
-        if taken >= ENTRIES_MAX || reply.body.len() >= ENTRIES_BYTES {
+        // an answer of `ENTRIES_MAX` entries, or of `ENTRIES_BYTES`, hasn't all that are applied
+        let applied = self.followed.position.saturating_sub(from);
+        if applied >= ENTRIES_MAX || reply.body.len() >= ENTRIES_BYTES {
             return Ok(Due::More);
         }
-        Ok(self.caught_up(is_again(asks)))
-    }
-
-    /// From now on what these members send each other passes. What is due then.
-    fn set_members(&mut self, members: Vec<Member>) -> Due
-        requires guarded { (wanted_of self.old).is_guarded ≡ true }
-        ensures due { (asks : ℕ) → informed (wanted_of self.old) (follower_of asks self.old) (Some members.items)
-            ≡ due_in (wanted_of self.new) (follower_of asks self.new) result }
-        ensures wanted { wanted_of self.new ≡ wanted_of self.old }
-        ensures status { result ≡ Due.Status → ⊥ }
-    {
-        match &mut self.nft {
-            Some(nft) => {
-                let is_new = nft.kernel.set_members(members);
-                // commands were done, or the members are others than what was written has
-                due_if(self.followed.is_moved || (is_new && self.has_begun))
-            }
-            None => Due::Rest,
+        // the node is asked where its members listen
+        let is_guarded = self.nft.as_ref().is_some_and(|nft| nft.is_guarded);
+        if is_guarded && (self.followed.is_moved || is_again(asks)) {
+            return Ok(Due::Status);
         }
+        Ok(due_if(self.followed.is_moved))
     }
 
     /// Takes the answer to the ask for the status.
-    pub(crate) fn informed(&mut self, alloc: Global, answer: Result<Reply, AskFault>) -> Made<Due>
+    pub(crate) fn informed(&mut self, alloc: Global, answer: Answer) -> Made<Due>
         requires guarded { (wanted_of self.old).is_guarded ≡ true }
         ensures due { IfOk result (λ d. (asks : ℕ) →
             after_status (wanted_of self.old) (follower_of asks self.old) answer
@@ -251,10 +163,15 @@ impl Follower {
             Err(AskFault::Memory) => return Err(AllocError),
             Err(fault) => return Ok(Due::Nothing(fault)),
         };
-        match members_reported(alloc, reply.body.as_slice())? {
-            Some(members) => Ok(self.set_members(members)),
-            None => Ok(Due::Nothing(AskFault::BadAnswer)),
-        }
+        let Some(members) = members_reported(alloc, reply.body.as_slice())? else {
+            return Ok(Due::Nothing(AskFault::BadAnswer));
+        };
+        let Some(nft) = &mut self.nft else {
+            return Ok(Due::Rest);
+        };
+        let is_new = nft.set_members(members);
+        // commands were done, or the members are others than what was written has
+        Ok(due_if(self.followed.is_moved || (is_new && self.has_begun)))
     }
 
     /// Writes what was followed, where lines for nft(8) are wanted. What is refused is said.

@@ -10,8 +10,8 @@
 //! - [`members_are_read`]: the members that a node names are read as such.
 //!
 //! Within: `options` has the arguments as `clap` reads them, `running` the loop, `control` the control socket,
-//! `follower` what an answer leads to, `kernel` what nft(8) is to load, `places` where it is written, `files` the rulesets for pfctl(8), `members` where
-//! a node's members listen.
+//! `follower` what an answer leads to, `kernel` what nft(8) is to load, and how it is written, `places` what is written
+//! where, `files` the rulesets for pfctl(8), `members` where a node's members listen.
 //!
 //! # Why
 //!

@@ -1,10 +1,9 @@
 //! What is to be written where, by the arguments.
 
-ghost use Rattle.std.specs.Prelude.{◌≡◌, false, [], IfOk, IfSome, Some, option_map};
+ghost use Rattle.std.specs.Prelude.{false, IfOk, IfSome, Some};
 ghost use Rattle.clap.specs.Words.{found_of, rows_of};
 ghost use Rattle.nft_rules.specs.Seen.{machine_of};
-ghost use Rattle.cli_follow.specs.Files.{are_behind};
-ghost use Rattle.cli_follow.specs.Places.{folder_of, recorded, ArePlaces, IsListed};
+ghost use Rattle.cli_follow.specs.Places.{ArePlaces, IsListed};
 
 use crate::files::TextFiles;
 use clap::ArgMatches;
@@ -60,17 +59,6 @@ fn log_interfaces<RT: Files, E: Write>(rt: &RT, file: &str, errors: &mut E) {
     };
 }
 
-/// The files in a folder, if one is named.
-fn files_in(alloc: Global, folder: Option<&str>) -> Result<Option<TextFiles>, AllocError>
-    ensures folder { IfOk result (λ files. folder_of files ≡ option_map (λ f. f.now) folder.entry) }
-    ensures none { IfOk result (λ files. recorded files ≡ []) }
-    ensures behind { IfOk result (λ files. are_behind files ≡ false) }
-{
-    folder
-        .map(|folder| TextFiles::new(alloc, folder))
-        .transpose()
-}
-
 /// Where the arguments want it written. 40 where they want it nowhere, `--nft` and `--interfaces` aren't both there, or
 /// `--no-member-guard` is without them; 89 where the file lists no interfaces, which is logged on standard error.
 pub(crate) fn places_for<RT: Files + Sources, E: Write>(
@@ -81,7 +69,10 @@ pub(crate) fn places_for<RT: Files + Sources, E: Write>(
 ) -> Result<Result<Places, u8>, AllocError>
     ensures { IfOk result (λ places. ArePlaces (RT.has rt.now) (rows_of (found_of matches.now)) places) }
 {
-    let files = files_in(alloc, value_in(matches, "pf"))?;
+    let folder = value_in(matches, "pf");
+    let files = folder
+        .map(|folder| TextFiles::new(alloc, folder))
+        .transpose()?;
     let is_guarded = !has_flag(matches, "no-member-guard");
     let Some(file) = value_in(matches, "interfaces") else {
         if has_flag(matches, "nft") || files.is_none() || !is_guarded {

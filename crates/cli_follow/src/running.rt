@@ -1,25 +1,24 @@
 //! A run of `follow`.
 
-ghost use Rattle.std.specs.Prelude.{◌≡◌, ◌+◌, ◌⊎◌, ◌&&◌, ℕ, Err, IfOk, IfErr, OnOk, OnErr, codes, map, option_map};
-ghost use Rattle.clap.specs.Words.{found_of, rows_of, one_of, kind_of};
+ghost use Rattle.std.specs.Prelude.{◌≡◌, ◌+◌, ◌&&◌, ℕ, Err, IfOk, IfErr, OnOk, OnErr, codes, map, option_map};
+ghost use Rattle.clap.specs.Words.{found_of, rows_of, one_of};
 ghost use Rattle.clap.specs.declared.error.kind.ErrorKind.TheVariants.{OutOfMemory};
-ghost use Rattle.cli_io.specs.Written.{IsMisused};
 ghost use Rattle.cli_follow.specs.Arguments.{given_of};
 ghost use Rattle.nft_rules.specs.Seen.{machine_of};
-ghost use Rattle.cli_follow.specs.Files.{Acted, FilesWritten, FilesWrittenIf, FilesLeft, FilesLeftIf, are_behind};
+ghost use Rattle.cli_follow.specs.Files.{Acted, FilesWritten, FilesWrittenIf, FilesLeft, are_behind};
 ghost use Rattle.cli_follow.specs.Output.{AsksEntries, wanted, is_again, Went, Stopped, TurnFiled, TurnLeft, Ends};
 ghost use Rattle.cli_follow.specs.inner.Seen.{follower_of, wanted_of, due_in, stage_in, stage_if, Leads, Fails};
 ghost use Rattle.cli_follow.specs.Output as code;
 ghost use Rattle.cli_follow.specs.Places.{AreTurns, IsEnding, IsNoEnding, FollowedBy};
-ghost use Rattle.cli_follow.specs.Running.{RanOut, Ran};
+ghost use Rattle.cli_follow.specs.Running.{Ran};
 
 use crate::control::{Control, ControlSockets};
 use crate::files::{Folders, Made, TextFiles, are_behind};
 use crate::follower::{Due, Follower, WriteFault, is_again};
 use crate::options::command;
 use crate::places::{Places, places_for};
+use clap::ArgMatches;
 use clap::error::ErrorKind;
-use clap::{ArgMatches, Error};
 use cli_ask::{AskFault, Pauses};
 use cli_io::{INVALID_ARGUMENTS, NOBODY_ANSWERS, Sources, Status, given_in, misused, value_in};
 use nft_rules::MachineInterface;
@@ -73,28 +72,8 @@ fn write_texts<F: Folders, E: Write>(
     }
 }
 
-/// Writes them again where one couldn't be written, in the first of some asks.
-fn write_again<F: Folders, E: Write>(
-    folders: &mut F,
-    asks: u64,
-    follower: &Follower,
-    files: &mut Option<TextFiles>,
-    errors: &mut E,
-) -> Result<(), AllocError>
-    ensures written { OnOk result (Acted (F.done folders.old) (F.done folders.new) (λ acts.
-        FilesWrittenIf (is_again asks && are_behind files.old) follower.now.followed.config
-        files.old acts files.new)) }
-    ensures left { OnErr result (Acted (F.done folders.old) (F.done folders.new) (λ acts.
-        FilesLeftIf (is_again asks && are_behind files.old) follower.now.followed.config
-        files.old acts)) }
-{
-    if is_again(asks) && are_behind(files) {
-        return write_texts(folders, follower, files, errors);
-    }
-    Ok(())
-}
-
-/// Asks once, after the given number of asks, and writes what is to be written.
+/// Asks once, after the given number of asks, and writes what is to be written; rulesets again where one couldn't be
+/// written, in the first of some asks.
 fn turn<F: Folders, C: Control, W: Write, E: Write>(
     folders: &mut F,
     alloc: Global,
@@ -132,10 +111,12 @@ fn turn<F: Folders, C: Control, W: Write, E: Write>(
             follower.write(writer, errors)?;
             Ok(due)
         }
-        Due::Rest => {
-            write_again(folders, asks, follower, files, errors)?;
+        Due::Rest if is_again(asks) && are_behind(files) => {
+            write_texts(folders, follower, files, errors)?;
             Ok(due)
         }
+        // no file is behind, or it isn't time to try again
+        Due::Rest => Ok(due),
         _ => Ok(due),
     }
 }
@@ -241,13 +222,6 @@ fn status_of<E: Write>(ended: Result<(), WriteFault>, errors: &mut E) -> Status
     }
 }
 
-/// How many times entries are asked for.
-fn turns_in(matches: &ArgMatches<'_>) -> u64
-    ensures { AreTurns (one_of (codes "turns") (rows_of (found_of matches.now))) result }
-{
-    matches.get_one::<u64>("turns").unwrap_or(u64::MAX)
-}
-
 /// Follows the log at a control socket as the matches ask for, and logs on standard error how that ended.
 fn followed<RT: Files + Pauses + Sources, F: Folders, C: Control, W: Write, E: Write>(
     rt: &RT,
@@ -263,7 +237,7 @@ fn followed<RT: Files + Pauses + Sources, F: Folders, C: Control, W: Write, E: W
         (F.done folders.old) (F.done folders.new) (RT.has rt.now) (rows_of (found_of matches.now))
         turns result (W.contents writer.old) (W.contents writer.new)) }
 {
-    let turns = turns_in(matches);
+    let turns = matches.get_one::<u64>("turns").unwrap_or(u64::MAX);
     let places = match places_for(rt, alloc, matches, errors) {
         Ok(Ok(places)) => places,
         Ok(Err(code)) => return refused(code, errors),
@@ -281,19 +255,6 @@ fn followed<RT: Files + Pauses + Sources, F: Folders, C: Control, W: Write, E: W
         rt, folders, alloc, control, turns, interfaces, is_guarded, files, writer, errors,
     );
     status_of(ended, errors)
-}
-
-/// What is wrong with the arguments, on the output; out of memory, on standard error.
-fn refuse<W: Write, E: Write>(alloc: Global, why: &Error, writer: &mut W, errors: &mut E) -> Status
-    ensures memory { kind_of why.now ≡ OutOfMemory →
-        RanOut result (W.contents writer.old) (W.contents writer.new) }
-    ensures ran { RanOut result (W.contents writer.old) (W.contents writer.new)
-        ⊎ IsMisused result (W.contents writer.old) (W.contents writer.new) }
-{
-    if why.kind() == ErrorKind::OutOfMemory {
-        return memory(errors);
-    }
-    misused(alloc, why, writer)
 }
 
 /// What the subcommand `follow` asks for, the program's name first: the rules of a running node's configuration, whole,
@@ -326,7 +287,8 @@ pub fn run_follow<
     };
     let matches = match command.try_get_matches_from(arguments) {
         Ok(matches) => matches,
-        Err(error) => return refuse(alloc, &error, writer, errors),
+        Err(error) if error.kind() == ErrorKind::OutOfMemory => return memory(errors),
+        Err(error) => return misused(alloc, &error, writer),
     };
     let Some(inner) = given_in(&matches, "follow") else {
         return Status::Usage;

@@ -1,5 +1,6 @@
 -- What a run has written, and how one ends whose arguments aren't understood.
-use Rattle.std.proofs.Common.{◌≡◌, ◌⊎◌, List, [], ℕ, Option, None, Some, true, inl, inr, refl, subst, codes}
+use Rattle.std.proofs.Common.{◌≡◌, ◌∙◌, ◌⊎◌, List, [], ℕ, Option, None, Some, true, false, inl, inr, refl, ap, subst, codes}
+use Rattle.std.specs.Prelude.{IfSome}
 use Rattle.std.specs.Io.KnownBytes.{Appends}
 use Rattle.clap.specs.Words.{App, Row, Text, HasMatchesOf, first_of, is_simple, kind_of, subcommand_rows_of}
 use Rattle.clap.specs.Faults.{fault_of, is_simple_and_free}
@@ -14,6 +15,7 @@ use Rattle.cli_io.specs.Written.{line, AppendsFront, IsMisused, RanOut}
 use Rattle.cli_io.specs.declared.status.Status.{Status}
 use Rattle.cli_io.specs.declared.status.Status.TheVariants as status
 use Rattle.cli_io.proofs.Given as parsed
+use Rattle.cli_nft.specs.Outputs.{Written, output}
 use Rattle.cli_nft.specs.Running.{Wrote, Ran}
 use Rattle.cli_nft.specs.Options.{nft_app, given_of, members_named, position_named}
 
@@ -61,3 +63,34 @@ ran_by has given rows file ms position s input old new g t e p w = rw g (inr (re
   there = t;
   wrote = subst (λ (m : Option (List Member)). Wrote file m (position_named rows) s input old new) e (subst (λ (n : ℕ). Wrote file ms n s input old new) p w);
 }))
+
+-- ---- what is written of the input
+
+-- what was read gives this output
+of_input : (file : Option (List ℕ)) (ms : Option (List Member)) (position : ℕ) (w : Written) (all bytes items : List ℕ) →
+    w ≡ output file ms position bytes → bytes ≡ items → items ≡ all → w ≡ output file ms position all
+of_input file ms position w all bytes items is e same = is ∙ ap (output file ms position) (e ∙ same)
+
+pub refused_written : (file : Option (List ℕ)) (ms : Option (List Member)) (position : ℕ) (w : Written) (input old new : Option (List ℕ)) (bytes items text : List ℕ) →
+    w ≡ output file ms position bytes → bytes ≡ items → IfSome input (λ all. items ≡ all) → text ≡ w.text → w.refused ≡ true → Appends old new text →
+    Wrote file ms position status.Refused input old new
+refused_written file ms position w None old new bytes items text is e same t r h = tt
+refused_written file ms position w (Some all) old new bytes items text is e same t r h =
+    let o = of_input file ms position w all bytes items is e same in
+    (subst (λ (v : Written). v.refused ≡ true) o r, subst (λ (v : Written). Appends old new v.text) o (subst (λ (b : List ℕ). Appends old new b) t h))
+
+pub lines_written : (file : Option (List ℕ)) (ms : Option (List Member)) (position : ℕ) (w : Written) (input old new : Option (List ℕ)) (bytes items text : List ℕ) →
+    w ≡ output file ms position bytes → bytes ≡ items → IfSome input (λ all. items ≡ all) → text ≡ w.text → w.refused ≡ false → Appends old new text →
+    Wrote file ms position status.Done input old new
+lines_written file ms position w None old new bytes items text is e same t r h = tt
+lines_written file ms position w (Some all) old new bytes items text is e same t r h =
+    let o = of_input file ms position w all bytes items is e same in
+    (subst (λ (v : Written). v.refused ≡ false) o r, subst (λ (v : Written). Appends old new v.text) o (subst (λ (b : List ℕ). Appends old new b) t h))
+
+pub front_written : (file : Option (List ℕ)) (ms : Option (List Member)) (position : ℕ) (w : Written) (input old new : Option (List ℕ)) (bytes items text : List ℕ) →
+    w ≡ output file ms position bytes → bytes ≡ items → IfSome input (λ all. items ≡ all) → text ≡ w.text → AppendsFront old new text →
+    Wrote file ms position status.Failed input old new
+front_written file ms position w None old new bytes items text is e same t h = inr tt
+front_written file ms position w (Some all) old new bytes items text is e same t h =
+    let o = of_input file ms position w all bytes items is e same in
+    inr (subst (λ (v : Written). AppendsFront old new v.text) o (subst (λ (b : List ℕ). AppendsFront old new b) t h))

@@ -30,10 +30,8 @@ fn refused(alloc: Global, code: u8) -> Result<Written, AllocError>
     ensures { IfOk result (λ w. written w ≡ refused (Some code)) }
 {
     let text = format!(in alloc; "refused {code}\n")?;
-    Ok(Written {
-        text,
-        refused: true,
-    })
+    let refused = true;
+    Ok(Written { text, refused })
 }
 
 /// The lines of a configuration.
@@ -51,10 +49,8 @@ fn written_lines(
         Ok(lines) => {
             let mut text = lines.load;
             text.push_str(lines.end.as_str())?;
-            Ok(Written {
-                text,
-                refused: false,
-            })
+            let refused = false;
+            Ok(Written { text, refused })
         }
         Err(fault) => refused(alloc, fault.code().ok_or(AllocError)?),
     }
@@ -87,10 +83,8 @@ pub fn nft_output(
         Err(ParseFault::Refused(refusal)) => {
             let (code, line) = (refusal.cause.code(), refusal.line);
             let text = format!(in alloc; "refused {code} line {line}\n")?;
-            return Ok(Written {
-                text,
-                refused: true,
-            });
+            let refused = true;
+            return Ok(Written { text, refused });
         }
     };
     let mut config = Config::new(alloc)?;

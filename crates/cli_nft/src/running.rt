@@ -5,7 +5,7 @@ ghost use Rattle.std.specs.List.{list_any};
 ghost use Rattle.clap.specs.Words.{found_of, rows_of, first_of};
 ghost use Rattle.cli_io.specs.Sources.{IsAt};
 ghost use Rattle.cli_nft.specs.Options.{given_of};
-ghost use Rattle.cli_nft.specs.Running.{asks_nft, Wrote, Ran};
+ghost use Rattle.cli_nft.specs.Running.{asks_nft, Ran};
 
 use crate::members::members_in;
 use crate::options::command;
@@ -15,7 +15,6 @@ use cli_io::{
     InputFault, Sources, Status, given_in, misused, number_in, out_of_memory, read_all, value_in,
     values_in, write_bytes,
 };
-use nft_rules::Member;
 use std::alloc::{AllocError, Global};
 use std::convert::AsStr;
 use std::io::{Read, Write};
@@ -59,33 +58,6 @@ pub fn read_file<T: Sources>(sources: &T, alloc: Global, path: &str) -> Contents
     }
 }
 
-/// Reads the input, and writes what a file of interfaces, members and a position make of it.
-fn answer<R: Read, W: Write>(
-    alloc: Global,
-    file: Option<&[u8]>,
-    members: Option<&[Member]>,
-    position: u32,
-    reader: &mut R,
-    writer: &mut W,
-) -> Status
-    ensures { Wrote (option_map (λ t. t.now) file.entry) (option_map (λ ms. ms.now) members.entry) position result
-        (R.remaining reader.old) (W.contents writer.old) (W.contents writer.new) }
-{
-    let input = match read_all(alloc, reader) {
-        Ok(input) => input,
-        Err(InputFault::Memory) => return out_of_memory(writer),
-        Err(InputFault::Failed | InputFault::TooLong) => return Status::Failed,
-    };
-    let Ok(output) = nft_output(alloc, file, members, position, &input) else {
-        return out_of_memory(writer);
-    };
-    match write_bytes(writer, output.text.as_bytes()) {
-        Ok(()) if output.refused => Status::Refused,
-        Ok(()) => Status::Done,
-        Err(_) => Status::Failed,
-    }
-}
-
 /// What the arguments `check --nft --interfaces FILE [--members ADDRESS:PORT..] [--position N]` ask for, the program's
 /// name first, over this input and output: the ruleset's rules behind the guard of these members as three lines for
 /// nft(8), or a refusal. Other arguments are refused.
@@ -117,5 +89,17 @@ pub fn run_nft<T: Sources, S: AsStr, R: Read, W: Write>(
     };
     let position = number_in(inner, "position").unwrap_or(0);
     let (file, members) = (file.as_deref(), members.as_deref());
-    answer(alloc, file, members, position, reader, writer)
+    let input = match read_all(alloc, reader) {
+        Ok(input) => input,
+        Err(InputFault::Memory) => return out_of_memory(writer),
+        Err(InputFault::Failed | InputFault::TooLong) => return Status::Failed,
+    };
+    let Ok(output) = nft_output(alloc, file, members, position, &input) else {
+        return out_of_memory(writer);
+    };
+    match write_bytes(writer, output.text.as_bytes()) {
+        Ok(()) if output.refused => Status::Refused,
+        Ok(()) => Status::Done,
+        Err(_) => Status::Failed,
+    }
 }

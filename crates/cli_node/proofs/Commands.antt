@@ -1,11 +1,9 @@
 -- The program's command, and what a run does whose arguments aren't understood, or that is out of memory.
-use Rattle.std.proofs.Common.{◌≡◌, ◌∙◌, ℕ, Bool, true, false, List, [], Option, Some, None, Result, Ok, Err, IfOk, inl, inr, refl, codes}
+use Rattle.std.proofs.Common.{◌≡◌, ℕ, Bool, true, false, List, [], Option, Some, None, inl, inr, refl, codes}
 use Rattle.std.specs.Prelude.{not}
-use Rattle.clap.specs.Words.{AddsSubcommand, App, HasMatchesOf, Row, Text, app_of, is_simple, kind_of, subcommand_rows_of, with_subcommand}
+use Rattle.clap.specs.Words.{App, HasMatchesOf, Row, Text, is_simple, kind_of, subcommand_rows_of, with_subcommand}
 use Rattle.clap.specs.Faults.{fault_of, is_simple_and_free}
 use Rattle.clap.specs.Kinds.{HasKind}
-use Rattle.clap.specs.declared.builder.command.Command.{Command}
-use Rattle.clap.specs.declared.builder.command.Command.TheViews.{out-Command}
 use Rattle.clap.specs.declared.error.Error.{Error}
 use Rattle.clap.specs.declared.error.kind.ErrorKind.TheVariants.{OutOfMemory}
 use Rattle.clap.specs.declared.parser.matches.ArgMatches.{ArgMatches}
@@ -22,11 +20,6 @@ use Rattle.cli_node.specs.declared.outcome.Outcome.{Outcome}
 
 pub with_sub : (a so_far s is : App) → a ≡ so_far → s ≡ is → with_subcommand a s.top ≡ with_subcommand so_far is.top
 with_sub a so_far s is e f = rw (e, f) refl
-
-pub sub_added : {E : Type 0} (r : Result Command E) (old sub : Command) (so_far is : App) → (out-Command sub).has_globals ≡ false → app_of old ≡ so_far → app_of sub ≡ is →
-    IfOk r (AddsSubcommand old sub) → IfOk r (λ c. app_of c ≡ with_subcommand so_far is.top)
-sub_added (Ok c) old sub so_far is local e f h = h.shape local ∙ with_sub (app_of old) so_far (app_of sub) is e f
-sub_added (Err e) old sub so_far is local f g h = tt
 
 simple_and_free : (is_needed : Bool) → is_simple_and_free (net_app is_needed) ≡ true
 simple_and_free true = refl

@@ -1,6 +1,6 @@
 -- With what a run ends: neither 93 nor 94, which are of a store before it is opened.
 use Rattle.std.proofs.Common.{◌≡◌, ◌∙◌, ◌⊎◌, ◌↔◌, ℕ, List, Result, Ok, Err, Bool, true, false, Option, Some, None, refl, sym, subst, ap, inl, inr, arith}
-use Rattle.std.specs.Prelude.{if◌then◌else◌, nat_lt, IfSome, IsSome, IsTrue, OnErr}
+use Rattle.std.specs.Prelude.{if◌then◌else◌, nat_lt, IfSome, IsSome, IsTrue, MatchOption, OnErr}
 use Rattle.px_records.specs.declared.records.Records.{Ghosts}
 use Rattle.px_wire.specs.declared.membership.Membership.{Membership}
 use Rattle.px_replica.specs.declared.fault.NodeFault.{NodeFault}
@@ -188,6 +188,15 @@ of_check file new place key other store starts addresses control p k q s t a c =
     (first P (first_of key other) _ (first P key other (of_key key k file new) (of_key other q file new))
     (first P store _ s (first P starts _ (of_starts starts t file new)
     (first P addresses control (of_addresses addresses a file new) (of_control control c file new)))))
+
+-- what holds of an option, by what holds of each kind
+pub none_matches : {X : Type 0} (m : Option X) (P : Type 0) (Q : X → Type 0) → m ≡ None → MatchOption m P Q → P
+none_matches None P Q e h = h
+none_matches (Some x) P Q e h = absurd cc
+
+pub some_matches : {X : Type 0} (m : Option X) (P : Type 0) (Q : X → Type 0) (R : Type 0) → (P → R) → ((x : X) → Q x → R) → MatchOption m P Q → R
+some_matches None P Q R f g h = f h
+some_matches (Some x) P Q R f g h = g x h
 
 pub none_of : {X : Type 0} (m : Option X) (b : Bool) → IsSome m ↔ IsTrue b → b ≡ false → m ≡ None
 none_of None b h e = refl

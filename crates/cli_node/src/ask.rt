@@ -13,7 +13,7 @@ ghost use Rattle.cli_node.specs.declared.outcome.Outcome.TheVariants.{Memory, Re
 ghost use Rattle.cli_node.specs.Places.{has_8_bits, has_place, waits_of};
 ghost use Rattle.cli_io.specs.Sources.{IsNamed, IsText};
 ghost use Rattle.cli_io.specs.Numbers.{number_at};
-ghost use Rattle.cli_node.specs.Asked.{AreAskArguments, AsksNode, HasNoText, IsAsked, IsRefusedWith, IsUnread};
+ghost use Rattle.cli_node.specs.Asked.{AreAskArguments, AsksNode, HasNoText, IsRefusedWith};
 ghost use Rattle.cli_node.specs.Doing.{Adds, IsLeft};
 ghost use Rattle.cli_node.specs.Asked.{is_wait, names_node, unasked_code};
 ghost use Rattle.cli_node.specs.declared.ask.TheConstants.{CLIENT};
@@ -86,18 +86,7 @@ impl<'a> AskArguments<'a> {
     }
 }
 
-/// What a source that can't be read gives: of a file 40.
-fn unread(name: &str, fault: InputFault) -> Outcome
-    ensures { IsUnread name.now result }
-{
-    match fault {
-        InputFault::Memory => Outcome::Memory,
-        InputFault::Failed | InputFault::TooLong if name == "-" => Outcome::Unread,
-        InputFault::Failed | InputFault::TooLong => Outcome::Refused(INVALID_ARGUMENTS),
-    }
-}
-
-/// The text that `-f` names; none without it.
+/// The text that `-f` names; none without it. A file that can't be read gives 40.
 fn text_for<T: Sources, R: Read>(
     sources: &T,
     alloc: Global,
@@ -111,7 +100,11 @@ fn text_for<T: Sources, R: Read>(
     let Some(name) = named else {
         return Ok(Vec::new(alloc));
     };
-    source_named(sources, alloc, name, reader).map_err(|fault| unread(name, fault))
+    source_named(sources, alloc, name, reader).map_err(|fault| match fault {
+        InputFault::Memory => Outcome::Memory,
+        _ if name == "-" => Outcome::Unread,
+        _ => Outcome::Refused(INVALID_ARGUMENTS),
+    })
 }
 
 /// The change that the arguments ask for.

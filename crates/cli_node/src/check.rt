@@ -2,7 +2,7 @@
 //! try that is removed.
 
 ghost use Rattle.std.specs.Prelude.{◌≡◌, ◌⊎◌, ℕ, Bool, List, Option, Err, None, Some, false, length, map, option_map};
-ghost use Rattle.std.specs.Prelude.{◌||◌, IfSome, is_some};
+ghost use Rattle.std.specs.Prelude.{◌||◌, is_some};
 ghost use Rattle.sqlite.specs.Held.{state};
 ghost use Rattle.sqlite.specs.State.{HasCleanDisk};
 ghost use Rattle.px_store.specs.Adopting.{Began, LeavesOld};
@@ -69,13 +69,11 @@ impl<F, D> NodeStart<'_, F, D> {
         ensures stop { HasCleanDisk (state S.Store conn.new) →
             LeavesOld (state S.Store conn.old) (state S.Store conn.new) }
     {
-        match examine(conn, identity_of(m)) {
-            Ok(()) => Outcome::Sound,
-            Err(fault) => {
-                log_judged(self.rt, self.arguments.store, m, fault, conn);
-                numbered(fault.code())
-            }
-        }
+        let Err(fault) = examine(conn, identity_of(m)) else {
+            return Outcome::Sound;
+        };
+        log_judged(self.rt, self.arguments.store, m, fault, conn);
+        numbered(fault.code())
     }
 
     /// What is refused of a store that is there; nothing of one that a node has open, nor of one without its log of
@@ -174,18 +172,6 @@ impl<F: NodeFiles, D> NodeStart<'_, F, D> {
     }
 }
 
-/// What is refused of the numbers that the arguments name.
-fn of_place(rt: &HostRuntime, arguments: NodeArguments<'_>, m: Option<Membership>) -> Outcome
-    ensures none { m ≡ None → result ≡ Refused 40 }
-    ensures some { (result ≡ Sound) ⊎ (result ≡ Refused 40) }
-{
-    if m.is_some() {
-        return Outcome::Sound;
-    }
-    log_place(rt, arguments);
-    Outcome::Refused(INVALID_ARGUMENTS)
-}
-
 /// What is refused of the addresses that the arguments name.
 fn of_addresses(rt: &HostRuntime, arguments: NodeArguments<'_>) -> Outcome
     ensures { (result ≡ Sound) ⊎ (result ≡ Refused 82) }
@@ -193,13 +179,11 @@ fn of_addresses(rt: &HostRuntime, arguments: NodeArguments<'_>) -> Outcome
     if !log_unknown(rt, arguments) {
         return Outcome::Refused(BAD_ADDRESS);
     }
-    match figures_at(arguments) {
-        Ok(_) => of_own_address(rt, arguments),
-        Err(outcome) => {
-            log_metrics(rt, arguments.metrics.unwrap_or(""));
-            outcome
-        }
-    }
+    let Err(outcome) = figures_at(arguments) else {
+        return of_own_address(rt, arguments);
+    };
+    log_metrics(rt, arguments.metrics.unwrap_or(""));
+    outcome
 }
 
 /// What a start with these arguments would be refused for, as far as settings, keys, addresses, sockets and store show:
@@ -237,7 +221,10 @@ pub fn check_node<F: NodeFiles, D: Databases, I: Inspection>(
         arguments,
     };
     let m = membership(arguments);
-    let place = of_place(rt, arguments, m);
+    if m.is_none() {
+        log_place(rt, arguments);
+    }
+    let place = m.map_or(Outcome::Refused(INVALID_ARGUMENTS), |_| Outcome::Sound);
     let key = start.of_key(arguments.key);
     let keys = first_of(key, start.of_key(arguments.other_key));
     let found = start.found_store();

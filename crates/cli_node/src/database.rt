@@ -2,10 +2,6 @@
 
 ghost use Rattle.std.specs.Prelude.{◌≡◌, ⊤, ℕ, Bool, List, [], IsTrue, IfOk, IfErr, Ok, Err, true, codes};
 ghost use Rattle.sqlite_trees.specs.Tree.{Trees};
-ghost use Rattle.sqlite_trees.specs.View.{IsClean};
-ghost use Rattle.sqlite_store.specs.FileStore.{view, is_shielded};
-ghost use Rattle.sqlite_store.specs.Unopened.{AreUsable, wanted_by};
-ghost use Rattle.sqlite.specs.Steps.{IsFresh};
 ghost use Rattle.sqlite.specs.Effect.{Database};
 ghost use Rattle.sqlite.specs.State.{State, HasCleanDisk};
 ghost use Rattle.sqlite.specs.Held.{IsNew};
@@ -56,43 +52,6 @@ fn make_error(error: OpenError) -> Error
     })
 }
 
-/// The store without tables, of pages of this size, that is to be made in the files.
-fn unmade<D: Disk + Drop>(
-    alloc: Global,
-    files: Files<D>,
-    size: PageSize,
-    options: Options,
-) -> Result<Unopened<D>, Error>
-    requires log { IsTrue (D.Disk.is_usable files.log) }
-    requires db { IsTrue (D.Disk.is_usable files.db) }
-    ensures named { IfErr result (λ e. IsTrue (is_open_error e)) }
-    ensures usable { IfOk result AreUsable }
-    ensures none { IfOk result (λ it. wanted_by it ≡ []) }
-{
-    let Ok(pager) = Pager::new(alloc, files, size, options) else {
-        return Err(NO_MEMORY);
-    };
-    let Ok(unmade) = Unopened::with_sums(alloc, pager, &[], false) else {
-        return Err(NO_MEMORY);
-    };
-    Ok(unmade)
-}
-
-/// Makes the store in its files.
-fn made<D: Disk + Drop>(files: Unopened<D>) -> Result<FileStore<D>, Error>
-    requires usable { AreUsable files }
-    requires none { wanted_by files ≡ [] }
-    ensures named { IfErr result (λ e. IsTrue (is_open_error e)) }
-    ensures fresh { IfOk result (λ store. IsClean (view store) → IsFresh (view store)) }
-    ensures empty { IfOk result (λ store. IsTrue (view store).is_clean → IsEmpty (view store).trees) }
-    ensures guarded { IfOk result (λ store. IsTrue (view store).is_clean → is_shielded store) }
-{
-    match files.create() {
-        Ok(store) => Ok(store),
-        Err((error, _files)) => Err(make_error(error)),
-    }
-}
-
 /// A database that is opened or made in files.
 type Made<D> = Result<Connection<FileStore<D>>, Error>;
 
@@ -106,8 +65,16 @@ fn make<D: Disk + Drop>(alloc: Global, files: Files<D>, size: PageSize, options:
     ensures fresh { IfOk result IsNew }
     ensures guarded { IfOk result (λ c. HasCleanDisk (file_state c) → (file_state c).IsShielded) }
 {
-    let files = unmade(alloc, files, size, options)?;
-    let store = made(files)?;
+    let Ok(pager) = Pager::new(alloc, files, size, options) else {
+        return Err(NO_MEMORY);
+    };
+    let Ok(files) = Unopened::with_sums(alloc, pager, &[], false) else {
+        return Err(NO_MEMORY);
+    };
+    let store = match files.create() {
+        Ok(store) => store,
+        Err((error, _files)) => return Err(make_error(error)),
+    };
     match Connection::over(alloc, store) {
         Ok(conn) => Ok(conn),
         Err((error, _store)) => Err(error),
@@ -133,25 +100,6 @@ fn open_files<D: Disk + Drop>(alloc: Global, mut files: Files<D>, options: Optio
     }
 }
 
-/// The database file at the path and its log, locked; those that are missing are made.
-fn files_at(rt: &HostRuntime, path: &str) -> Result<Files<File>, Error>
-    ensures memory { path.now ≡ codes ":memory:" → result ≡ Err (Error.SqliteFailure ErrorCode.CannotOpen) }
-    ensures named { IfErr result (λ e. IsTrue (is_open_error e)) }
-    ensures log { IfOk result (λ files. IsTrue (⟦<File as Disk>⟧.is_usable files.log)) }
-    ensures db { IfOk result (λ files. IsTrue (⟦<File as Disk>⟧.is_usable files.db)) }
-{
-    if path == ":memory:" || path.starts_with("file:") {
-        return Err(CANNOT_OPEN);
-    }
-    match sqlite_std_file::open(rt, path, Unknown) {
-        Ok(files) => Ok(files),
-        Err(PathError::OutOfMemory) => Err(NO_MEMORY),
-        Err(PathError::Busy) => Err(Error::SqliteFailure(ErrorCode::DatabaseBusy)),
-        Err(PathError::Io(error)) if error.kind() == ErrorKind::OutOfMemory => Err(NO_MEMORY),
-        Err(_) => Err(CANNOT_OPEN),
-    }
-}
-
 /// A database in its file.
 pub(crate) type Opened = Connection<FileStore<File>>;
 
@@ -163,7 +111,18 @@ pub(crate) fn open_database(rt: &HostRuntime, path: &str) -> Result<Opened, Erro
     ensures fresh { IfOk result IsNew }
     ensures guarded { IfOk result (λ c. HasCleanDisk (file_state c) → (file_state c).IsShielded) }
 {
-    let files = files_at(rt, path)?;
+    if path == ":memory:" || path.starts_with("file:") {
+        return Err(CANNOT_OPEN);
+    }
+    let files = match sqlite_std_file::open(rt, path, Unknown) {
+        Ok(files) => files,
+        Err(PathError::OutOfMemory) => return Err(NO_MEMORY),
+        Err(PathError::Busy) => return Err(Error::SqliteFailure(ErrorCode::DatabaseBusy)),
+        Err(PathError::Io(error)) if error.kind() == ErrorKind::OutOfMemory => {
+            return Err(NO_MEMORY);
+        }
+        Err(_) => return Err(CANNOT_OPEN),
+    };
     let keys = RandomState::new(rt).map_err(|_| CANNOT_OPEN)?;
     open_files(rt.alloc(), files, Options::new(keys.hash_one(&0u8)))
 }

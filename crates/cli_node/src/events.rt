@@ -7,10 +7,8 @@ use cli_io::Shown;
 
 /// Logs that a node begins, and with what.
 pub(crate) fn log_start(rt: &HostRuntime, arguments: NodeArguments<'_>) {
-    let me = arguments.me;
-    let n = arguments.members.len();
-    let cluster = arguments.cluster;
-    let store = Shown(arguments.store);
+    let (me, n) = (arguments.me, arguments.members.len());
+    let (cluster, store) = (arguments.cluster, Shown(arguments.store));
     if !arguments.is_quiet {
         let _logged = eprintln!(rt;
             "pfx: info: node {me} of {n}, cluster {cluster}, starts on {store}"

@@ -88,14 +88,11 @@ pub(crate) fn log_judged<RT: Eprint, S: Alter>(
     let shown = Shown(path);
     if fault == AdoptFault::WrongNode {
         if let Ok(owner) = owner_in(conn) {
+            let (node, members, cluster) = (owner.node, owner.members, owner.cluster);
+            let (me, n, own) = (m.me(), m.members(), m.cluster());
             let _logged = eprintln!(rt;
-                "pfx: error: store {shown} is of node {} of {}, cluster {}; this is node {} of {}, cluster {}",
-                owner.node,
-                owner.members,
-                owner.cluster,
-                m.me(),
-                m.members(),
-                m.cluster()
+                "pfx: error: store {shown} is of node {node} of {members}, cluster {cluster}; this is node {me} of {n}, \
+                 cluster {own}"
             );
             return;
         }
@@ -163,12 +160,6 @@ fn log_unbound(rt: &HostRuntime, arguments: NodeArguments<'_>) {
     }
 }
 
-/// Logs why no control socket is created at a path.
-fn log_uncontrolled(rt: &HostRuntime, path: &str) {
-    let tried = try_control(rt, path);
-    log_cause(rt, "control socket", path, tried, &"the system refused it");
-}
-
 /// Why a file of starts can't be read, or written beside its place, as the system reports it; none where it can.
 fn why_unusable(rt: &HostRuntime, path: &str, fault: RaiseFault) -> io::Result<()> {
     match fault {
@@ -185,12 +176,10 @@ fn why_unusable(rt: &HostRuntime, path: &str, fault: RaiseFault) -> io::Result<(
 
 /// Logs why a file of starts can't be used.
 pub(crate) fn log_unusable(rt: &HostRuntime, path: &str, fault: RaiseFault) {
-    match why_unusable(rt, path, fault) {
-        Ok(()) => log_error(rt, "starts", path, &fault),
-        Err(error) => {
-            let _logged = eprintln!(rt; "pfx: error: starts {}: {fault}: {error}", Shown(path));
-        }
-    }
+    let Err(error) = why_unusable(rt, path, fault) else {
+        return log_error(rt, "starts", path, &fault);
+    };
+    let _logged = eprintln!(rt; "pfx: error: starts {}: {fault}: {error}", Shown(path));
 }
 
 /// Logs of which file or address a refusal is that ends a run.
@@ -203,7 +192,14 @@ pub(crate) fn log_why(rt: &HostRuntime, arguments: NodeArguments<'_>, code: u8) 
             log_unbound(rt, arguments);
         },
         BAD_CONTROL_SOCKET => if let Some(control) = arguments.control {
-            log_uncontrolled(rt, control);
+            let tried = try_control(rt, control);
+            log_cause(
+                rt,
+                "control socket",
+                control,
+                tried,
+                &"the system refused it",
+            );
         },
         _ => {}
     }

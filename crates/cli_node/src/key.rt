@@ -2,15 +2,15 @@
 
 ghost use Rattle.std.specs.List.{All};
 ghost use Rattle.std.specs.Prelude.{◌≡◌, ◌⊎◌, ◌==◌, ◌/◌, ◌∷◌, List, [], Ok, Err, OnErr, IfOk, IfErr, option_map};
-ghost use Rattle.std.specs.Prelude.{OnOk, map, is_some, false};
+ghost use Rattle.std.specs.Prelude.{map, is_some, false};
 ghost use Rattle.cli_files.specs.KeyTexts.{key_text};
 ghost use Rattle.node_udp.specs.Addresses.{address_of};
 ghost use Rattle.cli_node.specs.declared.outcome.Outcome.TheVariants.{Memory, Refused};
 ghost use Rattle.cli_node.specs.Endings.{is_beyond};
 ghost use Rattle.cli_node.specs.Doing.{Adds, FileEvent, Written, Unwritten};
-ghost use Rattle.cli_node.specs.Keeping.{IsKeptKey, IsNewKey, IsWritten, IsWrittenIn};
-ghost use Rattle.cli_node.specs.Places.{is_loopback, is_loopback_ip};
-ghost use Rattle.cli_node.specs.Secrets.{IsNamed, AreNamed};
+ghost use Rattle.cli_node.specs.Keeping.{IsNewKey, IsWrittenIn};
+ghost use Rattle.cli_node.specs.Places.{is_loopback};
+ghost use Rattle.cli_node.specs.Secrets.{AreNamed};
 
 use crate::faults::{log_cause, log_error};
 use crate::files::NodeFiles;
@@ -149,14 +149,10 @@ pub(crate) fn key_outcome<R: RandomBytes + Eprint, F: NewFiles>(
     let Ok(text) = key_text(alloc, &key) else {
         return Outcome::Memory;
     };
-    match files.make(path, text.as_str()) {
-        Ok(()) => Outcome::Made,
-        Err(error) => {
-            log_error(rt, "key", path, &error);
-            Outcome::Refused(match error.kind() {
-                ErrorKind::AlreadyExists => FILE_EXISTS,
-                _ => BAD_KEY,
-            })
-        }
-    }
+    let Err(error) = files.make(path, text.as_str()) else {
+        return Outcome::Made;
+    };
+    log_error(rt, "key", path, &error);
+    let is_there = error.kind() == ErrorKind::AlreadyExists;
+    Outcome::Refused(if is_there { FILE_EXISTS } else { BAD_KEY })
 }

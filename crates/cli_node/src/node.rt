@@ -20,7 +20,7 @@ ghost use Rattle.cli_node.specs.Stores.{HasNone, IsClosedIn, IsFoundAt, IsKeptIn
 ghost use Rattle.cli_node.specs.Stores.{identity_at, is_made};
 ghost use Rattle.cli_node.specs.declared.store.Found.{Found};
 ghost use Rattle.cli_io.specs.declared.numbers.TheConstants.{NO_STORE};
-ghost use Rattle.cli_node.specs.Places.{is_count, has_place, turns_or_all};
+ghost use Rattle.cli_node.specs.Places.{has_place};
 
 use crate::database::Databases;
 use crate::events::{log_end, log_start};
@@ -326,47 +326,8 @@ impl<F: NodeFiles, D: Databases> MemberStart<'_, F, D> {
         (ended_outcome(ended, Outcome::Memory), records)
     }
 
-    /// The run of a member with a control socket at the path. What is asked by datagrams isn't heard.
-    fn run_with_control<R: Records, T: Timer>(
-        &self,
-        path: &str,
-        records: R,
-        sealing: Option<Sealing>,
-        timer: &mut T,
-    ) -> (Outcome, R)
-        requires members { R.members records ≡ self.now.m.members }
-        requires here { self.now.m.me < self.now.m.members }
-        requires is { self.now.m.me ≡ self.now.start.arguments.me }
-        requires failed { R.failed records ≡ 0 }
-        requires control { option_map (λ t. t.now) self.now.start.arguments.control ≡ Some path.now }
-        ensures hosted { ComesOpenOr R.Records self.now.m records result.0 result.1 }
-        ensures ran { IsUnrun R.Records self.now.m records result.0 result.1 ⊎
-            RunsHere R.Records self.now.m sealing
-            (hears_asks self.now.start.arguments.key self.now.start.arguments.control)
-            (map (λ t. t.now) self.now.start.arguments.members.now) records result.0 result.1
-            (MadeTurns self.now.start.arguments.turns (T.timer_events timer.old) (T.timer_events timer.new)) }
-    {
-        let wire = match bind(self.start.rt, self.start.arguments) {
-            Ok(wire) => wire,
-            Err(outcome) => return (outcome, records),
-        };
-        let figures = match figures_at(self.start.arguments) {
-            Ok(figures) => figures,
-            Err(outcome) => return (outcome, records),
-        };
-        let Ok(members) = addresses_text(self.start.rt.alloc(), wire.peers()) else {
-            return (Outcome::Memory, records);
-        };
-        let place = Some(ControlPlace {
-            path,
-            figures,
-            members: members.as_str(),
-            fd: wire.raw_fd(),
-        });
-        self.run_at(records, Ok(wire), sealing, timer, place)
-    }
-
-    /// The run of a member over its record and a socket.
+    /// The run of a member over its record and a socket, and a control socket if there is one: then what is asked by
+    /// datagrams isn't heard.
     fn run_member_in<R: Records, T: Timer>(
         &self,
         records: R,
@@ -387,13 +348,29 @@ impl<F: NodeFiles, D: Databases> MemberStart<'_, F, D> {
             (map (λ t. t.now) self.now.start.arguments.members.now) records result.0 result.1
             (MadeTurns self.now.start.arguments.turns (T.timer_events timer.old) (T.timer_events timer.new)) }
     {
-        match self.start.arguments.control {
-            Some(path) => self.run_with_control(path, records, sealing, timer),
-            None => {
-                let wire = bind(self.start.rt, self.start.arguments);
-                self.run_at(records, wire, sealing, timer, None)
-            }
-        }
+        let (rt, arguments) = (self.start.rt, self.start.arguments);
+        let wire = bind(rt, arguments);
+        let Some(path) = arguments.control else {
+            return self.run_at(records, wire, sealing, timer, None);
+        };
+        let wire = match wire {
+            Ok(wire) => wire,
+            Err(outcome) => return (outcome, records),
+        };
+        let figures = match figures_at(arguments) {
+            Ok(figures) => figures,
+            Err(outcome) => return (outcome, records),
+        };
+        let Ok(members) = addresses_text(rt.alloc(), wire.peers()) else {
+            return (Outcome::Memory, records);
+        };
+        let place = Some(ControlPlace {
+            path,
+            figures,
+            members: members.as_str(),
+            fd: wire.raw_fd(),
+        });
+        self.run_at(records, Ok(wire), sealing, timer, place)
     }
 
     /// The run of a member over its record, which is closed, whatever came of it; what a node has committed is kept also

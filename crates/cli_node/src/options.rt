@@ -3,7 +3,7 @@
 ghost use Rattle.std.specs.Prelude.{◌≡◌, IfOk, false, map};
 ghost use Rattle.clap.specs.Words.{app_of};
 ghost use Rattle.clap.specs.declared.builder.command.Command.TheViews.{out-Command};
-ghost use Rattle.cli_node.specs.Arguments.{node_app, ask_app, key_app, with_all, net_app};
+ghost use Rattle.cli_node.specs.Arguments.{node_app, ask_app, key_app, net_app};
 ghost use Rattle.cli_node.specs.Arguments.{is_config, names_config};
 
 use clap::Command;
@@ -133,23 +133,13 @@ fn key_command<'a>(alloc: Global) -> Result<Command<'a>, AllocError>
     with_options(alloc, key, &[file])
 }
 
-/// The program with these subcommands.
-fn with_all<'a>(alloc: Global, is_needed: bool) -> Result<Command<'a>, AllocError>
-    ensures { IfOk result (λ c. app_of c ≡ with_all is_needed) }
-{
-    let node = node_command(alloc, is_needed)?;
-    let command = Command::new(alloc, "pfx").subcommand(node)?;
-    let ask = ask_command(alloc)?;
-    let command = command.subcommand(ask)?;
-    let key = key_command(alloc)?;
-    command.subcommand(key)
-}
-
-/// The same, of which one has to be given.
+/// The program with these subcommands, of which one has to be given.
 pub(crate) fn command<'a>(alloc: Global, is_needed: bool) -> Result<Command<'a>, AllocError>
     ensures { IfOk result (λ c. app_of c ≡ net_app is_needed) }
 {
-    let command = with_all(alloc, is_needed)?;
+    let command = Command::new(alloc, "pfx").subcommand(node_command(alloc, is_needed)?)?;
+    let command = command.subcommand(ask_command(alloc)?)?;
+    let command = command.subcommand(key_command(alloc)?)?;
     Ok(command.subcommand_required(true))
 }
 

@@ -1,6 +1,6 @@
 //! How a node's packets are sealed: its keys, and this start of it.
 
-ghost use Rattle.std.specs.Prelude.{◌≡◌, ◌⊎◌, ◌||◌, ◌<◌, ◌++◌, Ok, Err, Some, true, codes};
+ghost use Rattle.std.specs.Prelude.{◌≡◌, ◌⊎◌, ◌||◌, ◌<◌, ◌++◌, Ok, Err, Some, codes};
 ghost use Rattle.std.specs.Prelude.{OnErr, IfErr, IfOk, IfSome, option_map, is_some, false};
 ghost use Rattle.cli_node.specs.declared.outcome.Outcome.TheVariants.{Memory, Refused, Sound};
 ghost use Rattle.cli_node.specs.Endings.{is_beyond};
@@ -79,12 +79,9 @@ impl<F, D> NodeStart<'_, F, D> {
         let Some(found) = found else {
             return Outcome::Memory;
         };
-        let Some(m) = m else {
+        let (Some(m), Some(_key)) = (m, self.arguments.key) else {
             return Outcome::Sound;
         };
-        if self.arguments.key.is_none() {
-            return Outcome::Sound;
-        }
         let Ok(path) = starts_path(rt.alloc(), self.arguments.store) else {
             return Outcome::Memory;
         };

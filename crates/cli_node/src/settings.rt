@@ -11,7 +11,7 @@ ghost use Rattle.cli_node.specs.Endings.{is_beyond};
 ghost use Rattle.cli_node.specs.Places.{has_place};
 ghost use Rattle.cli_node.specs.MemberRuns.{Anything, EndsNode, hears_asks};
 ghost use Rattle.cli_node.specs.Secrets.{AreNamed};
-ghost use Rattle.cli_node.specs.Settled.{AreOfText, AreSettings, IsNode, IsSettled, IsSettledOr, IsUnread};
+ghost use Rattle.cli_node.specs.Settled.{AreSettings, IsNode, IsSettled, IsSettledOr};
 ghost use Rattle.cli_node.specs.Settled.{IsUnsettled, members_for, settings_code, settings_outcome};
 ghost use Rattle.clap.specs.Words.{first_of, found_of, rows_of};
 ghost use Rattle.cli_node.specs.Stores.{IsStoreless};
@@ -54,17 +54,13 @@ fn file_refused<RT: Eprint>(rt: &RT, path: &str, fault: FileFault) -> Outcome
         return Outcome::Memory;
     }
     let path = Shown(path);
-    match fault.line() {
-        Some(line) => {
-            let _logged = eprintln!(rt; "pfx: error: {path}:{line}: {fault} ({BAD_SETTINGS})");
-            let code = BAD_SETTINGS;
-            Outcome::RefusedLine { code, line }
-        }
-        None => {
-            let _logged = eprintln!(rt; "pfx: error: {path}: {fault} ({BAD_SETTINGS})");
-            Outcome::Refused(BAD_SETTINGS)
-        }
-    }
+    let Some(line) = fault.line() else {
+        let _logged = eprintln!(rt; "pfx: error: {path}: {fault} ({BAD_SETTINGS})");
+        return Outcome::Refused(BAD_SETTINGS);
+    };
+    let _logged = eprintln!(rt; "pfx: error: {path}:{line}: {fault} ({BAD_SETTINGS})");
+    let code = BAD_SETTINGS;
+    Outcome::RefusedLine { code, line }
 }
 
 /// The settings of a file, or what it is refused for.

@@ -5,14 +5,14 @@ ghost use Rattle.sqlite.specs.Held.{state};
 ghost use Rattle.sqlite.specs.State.{HasCleanDisk};
 ghost use Rattle.px_store.specs.Tables.{no_schema};
 ghost use Rattle.px_store.specs.Formats.{record_at};
-ghost use Rattle.px_store.specs.Adopting.{Began, IsBrought, IsMade, IsVerdict, IsSame, LeavesOld, LeavesOr};
+ghost use Rattle.px_store.specs.Adopting.{Began, IsBrought, IsMade, IsVerdict, IsSame, LeavesOr};
 ghost use Rattle.px_store.specs.View.{connection_after, connection_of, IsOpened};
 ghost use Rattle.cli_node.specs.declared.outcome.Outcome.TheVariants.{Memory, Refused};
 ghost use Rattle.cli_io.specs.declared.numbers.TheConstants.{FILE_EXISTS, NO_STORE};
-ghost use Rattle.cli_node.specs.Endings.{adopt_outcome, is_beyond};
+ghost use Rattle.cli_node.specs.Endings.{is_beyond};
 ghost use Rattle.cli_node.specs.Stores.{identity_at, IsKeptIn, IsOpening, IsRefusal, IsStoreless, IsUnmade};
 ghost use Rattle.cli_node.specs.Stores.{MayRun, is_made, refusal_at};
-ghost use Rattle.cli_node.specs.Stores.{IsFoundAt, IsNone, found_by, has_no_byte};
+ghost use Rattle.cli_node.specs.Stores.{IsFoundAt, IsNone, found_by};
 
 use crate::database::{Databases, Opened, Seen};
 use crate::faults::{log_closed, log_judged, log_storeless, why_closed};
@@ -68,25 +68,16 @@ pub(crate) fn opening_of(is_from_file: bool, is_new: bool, found: Found) -> Open
     }
 }
 
-/// Whether a file has no byte, or isn't there.
-fn has_no_byte(seen: Seen) -> bool
-    ensures { result ≡ has_no_byte seen }
-{
-    match seen {
-        Seen::File(size) | Seen::Another(size) => size == 0,
-        Seen::Nothing | Seen::Unknown => true,
-    }
-}
-
 /// What is found of a store, by what is seen of its file and of its log of writes.
 fn found_by(file: Seen, log: Seen) -> Found
     ensures { result ≡ found_by file log }
 {
-    match file {
-        Seen::File(size) if size == 0 && has_no_byte(log) => Found::Empty,
-        Seen::File(_) => Found::Store,
-        Seen::Nothing => Found::Nothing,
-        Seen::Another(_) | Seen::Unknown => Found::Other,
+    match (file, log) {
+        (Seen::File(0), Seen::File(0) | Seen::Another(0)) => Found::Empty,
+        (Seen::File(0), Seen::Nothing | Seen::Unknown) => Found::Empty,
+        (Seen::File(_), _) => Found::Store,
+        (Seen::Nothing, _) => Found::Nothing,
+        (Seen::Another(_) | Seen::Unknown, _) => Found::Other,
     }
 }
 
@@ -117,13 +108,11 @@ pub(crate) fn identity_of(m: Membership) -> Identity
 pub(crate) fn failed_outcome<RT: Files + Eprint>(rt: &RT, path: &str, error: Error) -> Outcome
     ensures { (result ≡ Memory) ⊎ (result ≡ Refused 70) }
 {
-    match error {
-        Error::SqliteFailure(ErrorCode::OutOfMemory) => Outcome::Memory,
-        _ => {
-            log_closed(rt, path, &error);
-            Outcome::Refused(STORE_FAILED)
-        }
+    if matches!(error, Error::SqliteFailure(ErrorCode::OutOfMemory)) {
+        return Outcome::Memory;
     }
+    log_closed(rt, path, &error);
+    Outcome::Refused(STORE_FAILED)
 }
 
 /// Whether a start makes a store there, of nothing or of a file without a byte.

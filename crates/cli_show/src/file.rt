@@ -1,11 +1,11 @@
 //! The store of a node is opened, as far as that changes nothing.
 
-ghost use Rattle.std.specs.Prelude.{◌⊎◌, ⊤, ℕ, Bool, List, Result, IfOk, IfErr};
+ghost use Rattle.std.specs.Prelude.{⊤, ℕ, Bool, List, Result, IfOk, IfErr};
 ghost use Rattle.sqlite.specs.Effect.{Database};
 ghost use Rattle.sqlite.specs.Files.{file_state};
 ghost use Rattle.sqlite.specs.Held.{IsNew};
 ghost use Rattle.sqlite.specs.State.{State};
-ghost use Rattle.cli_show.specs.Stores.{AnswersIn, RefusesFile, ShowsFile};
+ghost use Rattle.cli_show.specs.Stores.{AnswersIn};
 ghost use Rattle.cli_show.specs.declared.shown.Shown.{Shown};
 ghost use Rattle.cli_show.specs.declared.shown.Wanted.{Wanted};
 ghost use Rattle.cli_show.specs.declared.store.Closed.{Closed};
@@ -86,32 +86,6 @@ impl Databases for HostRuntime {
     }
 }
 
-/// What is shown of a store, or why nothing is.
-type Answer = Result<Shown, Closed>;
-
-/// What is shown of the store in a file.
-fn show_file<D: Databases>(dbs: &D, alloc: Global, path: &str, wanted: Wanted<'_>) -> Answer
-    ensures shown { IfOk result (λ shown. ShowsFile ⟦<FileStore<File> as Store>⟧
-        ⟦<SqlRecords<FileStore<File>> as Records>⟧ (D.holds dbs.now path.now) (D.closed dbs.now) wanted.entry shown) }
-    ensures refused { IfErr result (λ c. D.refuses dbs.now path.now c ⊎ RefusesFile ⟦<FileStore<File> as Store>⟧
-        ⟦<SqlRecords<FileStore<File>> as Records>⟧ (D.holds dbs.now path.now) (D.closed dbs.now) c) }
-{
-    let conn = match dbs.open(path) {
-        Ok(conn) => conn,
-        Err(closed) => return Err(closed),
-    };
-    match show_store(alloc, conn, wanted) {
-        Ok((shown, records)) => {
-            dbs.close(records.release());
-            Ok(shown)
-        }
-        Err((closed, conn)) => {
-            dbs.close(conn);
-            Err(closed)
-        }
-    }
-}
-
 /// Where stores are shown.
 pub trait Stores {
     // this is shown of the store at a path, or it is refused
@@ -127,6 +101,16 @@ impl<D: Databases> Stores for D {
         (D.holds dbs) (D.refuses dbs) (D.closed dbs) };
 
     fn show_at(&self, alloc: Global, path: &str, wanted: Wanted<'_>) -> Result<Shown, Closed> {
-        show_file(self, alloc, path, wanted)
+        let conn = self.open(path)?;
+        match show_store(alloc, conn, wanted) {
+            Ok((shown, records)) => {
+                self.close(records.release());
+                Ok(shown)
+            }
+            Err((closed, conn)) => {
+                self.close(conn);
+                Err(closed)
+            }
+        }
     }
 }

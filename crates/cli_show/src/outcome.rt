@@ -1,7 +1,6 @@
 //! What a run gives, and what is written of it.
 
-ghost use Rattle.std.specs.Prelude.{◌≡◌};
-ghost use Rattle.cli_show.specs.Outcomes.{Wrote, status_of};
+ghost use Rattle.cli_show.specs.Outcomes.{Wrote};
 
 use crate::shown::Shown;
 use cli_io::{Status, out_of_memory, write_bytes};
@@ -19,24 +18,14 @@ pub(crate) enum Outcome {
     Memory,
 }
 
-/// How a run ends that shows this.
-fn status_of(refused: bool) -> Status
-    ensures { result ≡ status_of refused }
-{
-    if refused {
-        Status::Refused
-    } else {
-        Status::Done
-    }
-}
-
 /// Writes what a run gives.
 pub(crate) fn write_outcome<W: Write>(alloc: Global, outcome: Outcome, writer: &mut W) -> Status
     ensures { Wrote result outcome (W.contents writer.old) (W.contents writer.new) }
 {
     match outcome {
         Outcome::Shown(shown) => match write_bytes(writer, shown.bytes.as_slice()) {
-            Ok(()) => status_of(shown.refused),
+            Ok(()) if shown.refused => Status::Refused,
+            Ok(()) => Status::Done,
             Err(_) => Status::Failed,
         },
         Outcome::Refused(code) => {

@@ -12,22 +12,13 @@ use pf_eval::verdict_for;
 use pf_scripts::{list, push_line, push_refusal};
 use std::alloc::Global;
 
-/// A text as it is shown.
-pub(crate) fn as_shown(alloc: Global, text: &str, refused: bool) -> Made<Shown>
-    ensures bytes { IfOk result (λ s. s.bytes.items ≡ text.now) }
-    ensures refused { IfOk result (λ s. s.refused ≡ refused) }
-{
-    let bytes = Vec::from_slice(alloc, text.as_bytes())?;
-    Ok(Shown { bytes, refused })
-}
-
-/// A refusal, with the line of a refused text, else 0.
-pub(crate) fn refused(alloc: Global, code: u8, at: u64) -> Made<Shown>
-    ensures { IfOk result (λ s. shown_value s ≡ refused code at) }
+/// A refusal.
+pub(crate) fn refused(alloc: Global, code: u8) -> Made<Shown>
+    ensures { IfOk result (λ s. shown_value s ≡ refused code 0) }
 {
     let mut text = String::new(alloc);
-    push_refusal(&mut text, code, at)?;
-    as_shown(alloc, text.as_str(), true)
+    push_refusal(&mut text, code, 0)?;
+    Ok(Shown::new(text.into_bytes(), true))
 }
 
 /// What an action lists, or its refusal.
@@ -35,8 +26,8 @@ pub(crate) fn show_listing(alloc: Global, config: &Config, action: &Action) -> M
     ensures { IfOk result (λ s. shown_value s ≡ answered (listed config.now (action_value action.now))) }
 {
     match list(alloc, config, action)? {
-        Ok(text) => as_shown(alloc, text.as_str(), false),
-        Err(code) => refused(alloc, code, 0),
+        Ok(text) => Ok(Shown::new(text.into_bytes(), false)),
+        Err(code) => refused(alloc, code),
     }
 }
 
@@ -50,9 +41,9 @@ pub(crate) fn show_verdicts(alloc: Global, config: &Config, packets: &[&str]) ->
             Some(shown) => push_line(&mut text, shown.as_str())?,
             None => {
                 push_refusal(&mut text, 30, 0)?;
-                return as_shown(alloc, text.as_str(), true);
+                return Ok(Shown::new(text.into_bytes(), true));
             }
         }
     }
-    as_shown(alloc, text.as_str(), false)
+    Ok(Shown::new(text.into_bytes(), false))
 }

@@ -3,7 +3,7 @@
 ghost use Rattle.std.specs.Prelude.{map};
 ghost use Rattle.clap.specs.Words.{found_of, rows_of};
 ghost use Rattle.cli_show.specs.Arguments.{given_of};
-ghost use Rattle.cli_show.specs.Running.{Asks, Gives, Ran, result_of};
+ghost use Rattle.cli_show.specs.Running.{Asks, Ran, result_of};
 ghost use Rattle.cli_show.specs.declared.wanted.Kind.TheVariants as kind;
 
 use crate::arguments::command;
@@ -20,78 +20,18 @@ use std::alloc::Global;
 use std::convert::AsStr;
 use std::io::Write;
 
-/// What is asked of a store, by whom it is shown.
-#[derive(Drop)]
-struct Request<'a, 'm, 'g, RT> {
-    rt: &'a RT,
-    alloc: Global,
-    store: &'g str,
-    matches: &'m ArgMatches<'g>,
-}
-
-impl<RT: Stores + Sources> Request<'_, '_, '_, RT> {
-    /// What is shown of the store.
-    fn shown(&self, wanted: Wanted<'_>) -> Outcome
-        ensures { RT.answers self.now.rt.now self.now.store.now wanted.entry (result_of result) }
-    {
-        match self.rt.show_at(self.alloc, self.store, wanted) {
-            Ok(shown) => Outcome::Shown(shown),
-            Err(Closed::Memory) => Outcome::Memory,
-            Err(Closed::Refused(code)) => Outcome::Refused(code),
-        }
-    }
-
-    /// What the store is as what nft(8) loads: 40 where no file of interfaces is named.
-    fn nft_outcome(&self) -> Outcome
-        ensures { Gives (RT.answers self.now.rt.now) (RT.has self.now.rt.now)
-            (rows_of (found_of self.now.matches.now)) kind.Nft self.now.store.now result }
-    {
-        let Some(file) = value_in(self.matches, "interfaces") else {
-            return Outcome::Refused(USAGE);
-        };
-        let Ok(text) = read_file(self.rt, self.alloc, file) else {
-            return Outcome::Memory;
-        };
-        let interfaces = text.as_deref();
-        self.shown(Wanted::Nft { interfaces })
-    }
-
-    /// The lines of the log that the arguments ask for.
-    fn log_outcome(&self) -> Outcome
-        ensures { Gives (RT.answers self.now.rt.now) (RT.has self.now.rt.now)
-            (rows_of (found_of self.now.matches.now)) kind.Log self.now.store.now result }
-    {
-        let from = number_in(self.matches, "from");
-        let count = number_in(self.matches, "count");
-        self.shown(Wanted::Log { from, count })
-    }
-
-    /// The verdicts for the packets behind the argument `test`.
-    fn packets_outcome(&self) -> Outcome
-        ensures { Gives (RT.answers self.now.rt.now) (RT.has self.now.rt.now)
-            (rows_of (found_of self.now.matches.now)) kind.Packets self.now.store.now result }
-    {
-        match rest_of(self.matches) {
-            [_, packets @ ..] => self.shown(Wanted::Packets(packets)),
-            [] => Outcome::Refused(USAGE),
-        }
-    }
-
-    /// What pfctl's options list.
-    fn listing_outcome(&self) -> Outcome
-        ensures { Gives (RT.answers self.now.rt.now) (RT.has self.now.rt.now)
-            (rows_of (found_of self.now.matches.now)) kind.Listing self.now.store.now result }
-    {
-        match from_matches(self.alloc, self.matches, &[]) {
-            Ok(action) => self.shown(Wanted::Listing(&action)),
-            Err(fault) => fault
-                .code()
-                .map_or(Outcome::Memory, |code| Outcome::Refused(code)),
-        }
+/// What is shown of a store.
+fn shown<RT: Stores>(rt: &RT, alloc: Global, store: &str, wanted: Wanted<'_>) -> Outcome
+    ensures { RT.answers rt.now store.now wanted.entry (result_of result) }
+{
+    match rt.show_at(alloc, store, wanted) {
+        Ok(shown) => Outcome::Shown(shown),
+        Err(Closed::Memory) => Outcome::Memory,
+        Err(Closed::Refused(code)) => Outcome::Refused(code),
     }
 }
 
-/// What the arguments give.
+/// What the arguments give; 40 without packets, and where no file of interfaces is named.
 fn outcome_of<RT: Stores + Sources>(rt: &RT, alloc: Global, matches: &ArgMatches<'_>) -> Outcome
     ensures { Asks (RT.answers rt.now) (RT.has rt.now) (rows_of (found_of matches.now)) result }
 {
@@ -101,20 +41,33 @@ fn outcome_of<RT: Stores + Sources>(rt: &RT, alloc: Global, matches: &ArgMatches
     let Some(store) = value_in(matches, "store") else {
         return Outcome::Refused(USAGE);
     };
-    let request = Request {
-        rt,
-        alloc,
-        store,
-        matches,
-    };
     match kind {
-        Kind::Nft => request.nft_outcome(),
-        Kind::Texts => request.shown(Wanted::Texts),
-        Kind::Script => request.shown(Wanted::Script),
-        Kind::Figures => request.shown(Wanted::Figures),
-        Kind::Log => request.log_outcome(),
-        Kind::Packets => request.packets_outcome(),
-        Kind::Listing => request.listing_outcome(),
+        Kind::Nft => {
+            let Some(file) = value_in(matches, "interfaces") else {
+                return Outcome::Refused(USAGE);
+            };
+            let Ok(text) = read_file(rt, alloc, file) else {
+                return Outcome::Memory;
+            };
+            let interfaces = text.as_deref();
+            shown(rt, alloc, store, Wanted::Nft { interfaces })
+        }
+        Kind::Texts => shown(rt, alloc, store, Wanted::Texts),
+        Kind::Script => shown(rt, alloc, store, Wanted::Script),
+        Kind::Figures => shown(rt, alloc, store, Wanted::Figures),
+        Kind::Log => {
+            let from = number_in(matches, "from");
+            let count = number_in(matches, "count");
+            shown(rt, alloc, store, Wanted::Log { from, count })
+        }
+        Kind::Packets => match rest_of(matches) {
+            [_, packets @ ..] => shown(rt, alloc, store, Wanted::Packets(packets)),
+            [] => Outcome::Refused(USAGE),
+        },
+        Kind::Listing => match from_matches(alloc, matches, &[]) {
+            Ok(action) => shown(rt, alloc, store, Wanted::Listing(&action)),
+            Err(fault) => fault.code().map_or(Outcome::Memory, Outcome::Refused),
+        },
     }
 }
 

@@ -1,8 +1,7 @@
 //! A script that gives a configuration.
 
-ghost use Rattle.std.specs.Prelude.{◌≡◌, ◌++◌, IfOk, IfSome, IfNone, OnOk};
+ghost use Rattle.std.specs.Prelude.{◌≡◌, ◌++◌, IfOk, OnOk};
 ghost use Rattle.pf_entry.specs.Reading.{reading};
-ghost use Rattle.pf_dump.specs.Done.{IsDoneTo};
 ghost use Rattle.pf_node.specs.Applied.{after_read};
 ghost use Rattle.pf_node.specs.Nodes.{learned_by, applied_of, config_of};
 ghost use Rattle.cli_show.specs.Scripts.{lines_read, log_script, ShowsScript, HasScript};
@@ -51,18 +50,6 @@ fn log_script<R: Records>(alloc: Global, node: &Node<R>) -> Made<Vec<u8>>
     Ok(script)
 }
 
-/// The same, if it gives this configuration.
-fn log_dump<R: Records>(alloc: Global, node: &Node<R>, config: &Config) -> Made<Option<Vec<u8>>>
-    ensures script { IfOk result (λ o. IfSome o
-        (λ s. s.items ≡ log_script (learned_by node.now) (applied_of node.now))) }
-    ensures done { IfOk result (λ o. IfSome o (λ s. IsDoneTo s.items config.now)) }
-    ensures none { IfOk result (λ o. IfNone o
-        (IsDoneTo (log_script (learned_by node.now) (applied_of node.now)) config.now → ⊥)) }
-{
-    let script = log_script(alloc, node)?;
-    Ok(gives(alloc, &script, config)?.then_some(script))
-}
-
 /// A script that gives the node's configuration: one load a path, and where a path's rules are too long for that the
 /// commands of the log that weren't refused. 91 where neither gives it.
 pub(crate) fn show_script<R: Records>(alloc: Global, node: &Node<R>) -> Made<Shown>
@@ -72,16 +59,11 @@ pub(crate) fn show_script<R: Records>(alloc: Global, node: &Node<R>) -> Made<Sho
 {
     let config = node.config();
     if let Some(bytes) = dump(alloc, config)? {
-        return Ok(Shown {
-            bytes,
-            refused: false,
-        });
+        return Ok(Shown::new(bytes, false));
     }
-    match log_dump(alloc, node, config)? {
-        Some(bytes) => Ok(Shown {
-            bytes,
-            refused: false,
-        }),
-        None => refused(alloc, NO_SCRIPT, 0),
+    let script = log_script(alloc, node)?;
+    if gives(alloc, &script, config)? {
+        return Ok(Shown::new(script, false));
     }
+    refused(alloc, NO_SCRIPT)
 }

@@ -1,36 +1,26 @@
 //! What is shown of a record.
 
-ghost use Rattle.std.specs.Prelude.{◌≡◌, ◌<◌, [], IfOk, IfErr, option_map};
+ghost use Rattle.std.specs.Prelude.{◌≡◌, ◌<◌, [], IfOk, IfErr};
 ghost use Rattle.px_model.specs.Node.{Record};
 ghost use Rattle.px_model.specs.Spelling.{Bytes};
 ghost use Rattle.pf_node.specs.Nodes.{learned_by, applied_of, kept_of, config_of};
 ghost use Rattle.cli_nft.specs.Outputs.{config_output};
-ghost use Rattle.cli_show.specs.Writing.{of_kernel, shown_value};
 ghost use Rattle.cli_show.specs.Showing.{Shows, ShowsRecord, IsRefused};
 
 use crate::figures::show_figures;
 use crate::logged::show_log;
-use crate::pfctl::{as_shown, show_listing, show_verdicts};
+use crate::pfctl::{show_listing, show_verdicts};
 use crate::scripts::show_script;
 use crate::shown::{Made, Shown, Wanted};
 use crate::texts::show_texts;
 use cli_nft::config_output;
-use pf_config::Config;
 use pf_node::Node;
 use px_records::Records;
 use px_replica::{Membership, NodeFault};
 use std::alloc::{AllocError, Global};
 
-/// The configuration as what nft(8) loads; a store knows no addresses of members, so there is no guard.
-fn show_nft(alloc: Global, file: Option<&[u8]>, config: &Config, position: u32) -> Made<Shown>
-    ensures { IfOk result (λ s. shown_value s
-        ≡ of_kernel (config_output (option_map (λ t. t.now) file.entry) [] position config.now)) }
-{
-    let written = config_output(alloc, file, config, &[], position)?;
-    as_shown(alloc, written.text.as_str(), written.refused)
-}
-
-/// What is shown of a node's configuration and log.
+/// What is shown of a node's configuration and log. A store knows no addresses of members, so for nft(8) there is no
+/// guard.
 pub fn show_node<R: Records>(alloc: Global, node: &Node<R>, wanted: Wanted<'_>) -> Made<Shown>
     ensures { IfOk result (λ s. Shows (learned_by node.now) (applied_of node.now) (kept_of node.now)
         (config_of node.now) wanted.entry s) }
@@ -39,7 +29,10 @@ pub fn show_node<R: Records>(alloc: Global, node: &Node<R>, wanted: Wanted<'_>) 
         Wanted::Listing(action) => show_listing(alloc, node.config(), action),
         Wanted::Packets(packets) => show_verdicts(alloc, node.config(), packets),
         Wanted::Log { from, count } => show_log(alloc, node, from, count),
-        Wanted::Nft { interfaces } => show_nft(alloc, interfaces, node.config(), node.applied()),
+        Wanted::Nft { interfaces } => {
+            let written = config_output(alloc, interfaces, node.config(), &[], node.applied())?;
+            Ok(Shown::new(written.text.into_bytes(), written.refused))
+        }
         Wanted::Texts => show_texts(alloc, node.config()),
         Wanted::Script => show_script(alloc, node),
         Wanted::Figures => show_figures(alloc, node.applied()),

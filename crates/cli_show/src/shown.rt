@@ -1,5 +1,7 @@
 //! What is to be shown of a record, and what is shown.
 
+ghost use Rattle.std.specs.Prelude.{◌≡◌};
+
 use pf_arguments::Action;
 use std::alloc::AllocError;
 
@@ -38,4 +40,13 @@ pub struct Shown {
     pub bytes: Vec<u8>,
     /// Whether it is a refusal.
     pub refused: bool,
+}
+
+impl Shown {
+    /// A text, and whether it is a refusal.
+    pub(crate) fn new(bytes: Vec<u8>, refused: bool) -> Shown
+        ensures { result ≡ record { bytes = bytes; refused = refused } }
+    {
+        Shown { bytes, refused }
+    }
 }

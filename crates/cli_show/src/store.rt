@@ -3,14 +3,13 @@
 ghost use Rattle.std.specs.Prelude.{◌≡◌, ◌<◌, ◌↔◌, Ok, IfOk, IfErr, IsTrue, OnOk};
 ghost use Rattle.sqlite.specs.Held.{state};
 ghost use Rattle.sqlite.specs.State.{HasCleanDisk};
-ghost use Rattle.px_store.specs.Adopting.{Began, IsBrought, IsSame, LeavesOld, LeavesOr};
-ghost use Rattle.px_store.specs.Formats.{record_at};
+ghost use Rattle.px_store.specs.Adopting.{Began, IsSame, LeavesOld};
 ghost use Rattle.px_store.specs.Judging.{owner_in};
 ghost use Rattle.px_store.specs.Tables.{schema_3};
 ghost use Rattle.px_store.specs.View.{connection_of};
 ghost use Rattle.px_store.specs.declared.formats.Format.TheVariants.{Three};
 ghost use Rattle.cli_show.specs.Stores.{identity_of, ShowsStore, LeavesRecord, closed_by};
-ghost use Rattle.cli_show.specs.Stores.{IsClosed, IsOwned, IsRefusedTo, IsUnowned};
+ghost use Rattle.cli_show.specs.Stores.{IsClosed, IsOwned, IsUnowned};
 
 use crate::showing::show_record;
 use crate::shown::{Shown, Wanted};
@@ -75,36 +74,8 @@ fn member_in<S: Alter>(conn: &mut Connection<S>) -> Result<Membership, Closed>
         Ok(owner) => owner,
         Err(fault) => return Err(closed_by(fault.code())),
     };
-    match Membership::new(owner.cluster, owner.members, owner.node) {
-        Some(m) => Ok(m),
-        None => Err(closed_by(AdoptFault::BadStore.code())),
-    }
-}
-
-/// The record in a store: that of the rows that are there. A refusal gives the connection back.
-fn adopted<S: Alter + Drop>(
-    alloc: Global,
-    conn: Connection<S>,
-    identity: Identity,
-) -> Result<SqlRecords<S>, (Closed, Connection<S>)>
-    ensures members { IfOk result (λ r. ⟦<SqlRecords<S> as Records>⟧.members r ≡ identity.members) }
-    ensures clean { IfOk result (λ r. ⟦<SqlRecords<S> as Records>⟧.is_honest r →
-        HasCleanDisk (state S.Store conn)) }
-    ensures rows { IfOk result (λ r. ⟦<SqlRecords<S> as Records>⟧.is_honest r → Began Three (state S.Store conn) →
-        ⟦<SqlRecords<S> as Records>⟧.stored r ≡ record_at Three (state S.Store conn).now.trees) }
-    ensures stop { IfOk result (λ r. ⟦<SqlRecords<S> as Records>⟧.is_honest r → Began Three (state S.Store conn) →
-        LeavesOr (IsBrought Three identity (state S.Store conn).now.trees) (state S.Store conn)
-        (state S.Store (connection_of r))) }
-    ensures left { IfErr result (λ e. HasCleanDisk (state S.Store e.1) → Began Three (state S.Store conn) →
-        LeavesOr (IsBrought Three identity (state S.Store conn).now.trees) (state S.Store conn)
-        (state S.Store e.1)) }
-    ensures refused { IfErr result (λ e. HasCleanDisk (state S.Store e.1) → HasCleanDisk (state S.Store conn)
-        × (Began Three (state S.Store conn) → IsRefusedTo identity (state S.Store conn) e.0)) }
-{
-    match SqlRecords::reopen(alloc, conn, identity) {
-        Ok(records) => Ok(records),
-        Err((fault, conn)) => Err((closed_by(fault.code()), conn)),
-    }
+    let m = Membership::new(owner.cluster, owner.members, owner.node);
+    m.ok_or(closed_by(AdoptFault::BadStore.code()))
 }
 
 /// What is shown of the record in a store of format 3, and the record, which is as it was: of the configuration after
@@ -131,9 +102,9 @@ pub fn show_store<S: Alter + Drop>(
         Ok(m) => m,
         Err(closed) => return Err((closed, conn)),
     };
-    let records = match adopted(alloc, conn, identity_of(m)) {
+    let records = match SqlRecords::reopen(alloc, conn, identity_of(m)) {
         Ok(records) => records,
-        Err(refused) => return Err(refused),
+        Err((fault, conn)) => return Err((closed_by(fault.code()), conn)),
     };
     let (shown, records) = show_record(alloc, m, records, wanted);
     match shown {

@@ -3,7 +3,7 @@
 ghost use Rattle.std.specs.Prelude.{◌≡◌, is_some, map};
 ghost use Rattle.clap.specs.Words.{first_of, found_of, rows_of};
 ghost use Rattle.cli_show.specs.Running.{has_listing, rest_of, kind_behind};
-ghost use Rattle.cli_show.specs.Running.{alone, kind_by, kind_given, has_window, if_together, kind_of};
+ghost use Rattle.cli_show.specs.Running.{kind_given, kind_of};
 
 use clap::ArgMatches;
 use cli_io::{has_flag, value_in, values_in};
@@ -66,67 +66,36 @@ fn kind_behind(rest: &[&str]) -> Option<Kind>
     }
 }
 
-/// What an option asks for that goes with no argument.
-fn alone(kind: Kind, rest: &[&str]) -> Option<Kind>
-    ensures { result ≡ alone kind (map (λ w. w.now) rest.now) }
+/// What `--nft`, `--pf`, `--script` and the arguments ask for; none where they don't go together.
+fn kind_given(matches: &ArgMatches<'_>) -> Option<Kind>
+    ensures { result ≡ kind_given (rows_of (found_of matches.now)) }
 {
-    rest.is_empty().then_some(kind)
-}
-
-/// What is asked for by these options and the arguments behind them; none where they don't go together.
-fn kind_by(nft: bool, pf: bool, script: bool, listing: bool, rest: &[&str]) -> Option<Kind>
-    ensures { result ≡ kind_by nft pf script listing (map (λ w. w.now) rest.now) }
-{
-    match (nft, pf, script, listing) {
-        (true, false, false, false) => alone(Kind::Nft, rest),
-        (false, true, false, false) => alone(Kind::Texts, rest),
-        (false, false, true, false) => alone(Kind::Script, rest),
+    let rest = rest_of(matches);
+    let nft = has_flag(matches, "nft");
+    let pf = has_flag(matches, "pf");
+    let script = has_flag(matches, "script");
+    match (nft, pf, script, has_listing(matches)) {
+        (true, false, false, false) => rest.is_empty().then_some(Kind::Nft),
+        (false, true, false, false) => rest.is_empty().then_some(Kind::Texts),
+        (false, false, true, false) => rest.is_empty().then_some(Kind::Script),
         (false, false, false, true) => Some(Kind::Listing),
         (false, false, false, false) => kind_behind(rest),
         _ => None,
     }
 }
 
-/// What is asked for where these options go with it: `--interfaces` with `--nft`, `--from` and `--count` with the log.
-fn if_together(interfaces: bool, window: bool, kind: Option<Kind>) -> Option<Kind>
-    ensures { result ≡ if_together interfaces window kind }
+/// What the matches ask for; none where arguments don't go together: `--interfaces` goes with `--nft`, `--from` and
+/// `--count` with the log.
+pub(crate) fn kind_of(matches: &ArgMatches<'_>) -> Option<Kind>
+    ensures { result ≡ kind_of (rows_of (found_of matches.now)) }
 {
-    let kind = kind?;
+    let kind = kind_given(matches)?;
+    let interfaces = has_option(matches, "interfaces");
+    let window = has_option(matches, "from") || has_option(matches, "count");
     let goes_with = match kind {
         Kind::Nft => !window,
         Kind::Log => !interfaces,
         _ => !interfaces && !window,
     };
     goes_with.then_some(kind)
-}
-
-/// What `--nft`, `--pf`, `--script` and the arguments ask for.
-fn kind_given(matches: &ArgMatches<'_>) -> Option<Kind>
-    ensures { result ≡ kind_given (rows_of (found_of matches.now)) }
-{
-    kind_by(
-        has_flag(matches, "nft"),
-        has_flag(matches, "pf"),
-        has_flag(matches, "script"),
-        has_listing(matches),
-        rest_of(matches),
-    )
-}
-
-/// Whether `--from` or `--count` is there.
-fn has_window(matches: &ArgMatches<'_>) -> bool
-    ensures { result ≡ has_window (rows_of (found_of matches.now)) }
-{
-    has_option(matches, "from") || has_option(matches, "count")
-}
-
-/// What the matches ask for; none where arguments don't go together.
-pub(crate) fn kind_of(matches: &ArgMatches<'_>) -> Option<Kind>
-    ensures { result ≡ kind_of (rows_of (found_of matches.now)) }
-{
-    if_together(
-        has_option(matches, "interfaces"),
-        has_window(matches),
-        kind_given(matches),
-    )
 }

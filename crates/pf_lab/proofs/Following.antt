@@ -144,18 +144,6 @@ module _ {M : Type 0} (members : List M) (state_of : M → NodeState Bytes) (gro
       slice_get members m ≡ Some x → m < g.members
   inside m w x sent world at = let within = slice_get_within members m x at in omega (arith, within, world.count)
 
-  -- nothing arrives at a member that is stopped, and the lab stays
-  pub lab_stopped : (m : ℕ) (w : World Bytes) (a : Action Bytes) (x : Input Bytes) (y : M) (sent out : List Datagram) →
-      AreWorld members state_of group_of g sent w → slice_get members m ≡ Some y → (state_of y).is_up ≡ false →
-      comes_to w a ≡ Some (m, x) → out ≡ [] →
-      AreWorld members state_of group_of g (sent ++ for_members out) (happens same g.members w (Runs a))
-  lab_stopped m w a x y sent out world at down come none =
-      let host = world.hosts m y at in
-      let e = stopped g.members m w a x come (ap (λ (z : NodeState Bytes). z.is_up) host.here ∙ down) in
-      let P : World Bytes → Type 0 = λ z. AreWorld members state_of group_of g (sent ++ for_members out) z in
-      let Q : List Datagram → Type 0 = λ z. AreWorld members state_of group_of g z w in
-      subst P (sym e) (subst Q (sym (ap (λ (z : List Datagram). sent ++ for_members z) none ∙ append-nil sent)) world)
-
   -- what is answered is answered as the m-th member
   answered_at : (m : ℕ) (p : Membership) (x : Input Bytes) (s t : NodeState Bytes) (out : List Datagram) →
       group p ≡ g → p.me ≡ m → IsAnswered (group p) (answer p.members p.me s x) s t out →

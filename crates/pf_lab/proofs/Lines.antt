@@ -1,5 +1,5 @@
 -- What the lines of a script do.
-use Rattle.std.proofs.Common.{◌≡◌, ◌≢◌, ◌∙◌, sym, ap, subst, refl, ℕ, zero, suc, ◌<◌, ◌≤◌, ◌+◌, Bool, true, false, cond, ◌&&◌, ◌||◌, nat_lt, nat_eq, List, [], ◌∷◌, ◌++◌, Option, Some, Result, Ok, Err, length, slice_get, arith, unwrap_or}
+use Rattle.std.proofs.Common.{◌≡◌, ◌≢◌, ◌∙◌, sym, ap, subst, refl, ℕ, zero, suc, ◌≤◌, ◌+◌, Bool, true, false, cond, ◌||◌, nat_lt, nat_eq, List, [], ◌∷◌, ◌++◌, Option, Some, Result, Ok, Err, length, slice_get, arith, unwrap_or}
 use Rattle.std.specs.List.{list_any}
 use Rattle.std.proofs.lemmas.Bool.{lt-ltb, le-ltb, cond-true, cond-false}
 use Rattle.std.proofs.lemmas.List.{append-nil, append_assoc}
@@ -26,7 +26,7 @@ use Rattle.pf_lab.specs.declared.event.LabEvent.TheVariants as event
 use Rattle.pf_lab.specs.declared.event.Outcome.{Outcome}
 use Rattle.pf_lab.specs.Scripts.{LabValue, with_world, world_action, world_event, world_events, asks_too_much, is_too_long, is_delivered, delivered_below, sent_line, sent_lines}
 use Rattle.pf_lab.specs.inner.Seen.{action_value, event_value}
-use Rattle.pf_lab.specs.Scripts.{prints, happened}
+use Rattle.pf_lab.specs.Scripts.{happened}
 use Rattle.pf_lab.specs.inner.Benches.{IsBench, Does}
 use Rattle.pf_lab.specs.Labs.{IsWorld, cluster_of}
 use Rattle.pf_lab.specs.declared.bench.Bench.{Bench}
@@ -35,10 +35,7 @@ use Rattle.px_replica.proofs.Sending.{are_length}
 use Rattle.px_replica.proofs.Messages.{sent_at}
 use Rattle.pf_scripts.specs.declared.waiting.Waiting.{Waiting}
 use Rattle.pf_scripts.specs.inner.Seen.{waiting_of}
-use Rattle.pf_lab.specs.declared.reading.LabLine.{LabLine}
-use Rattle.pf_lab.specs.declared.reading.LabLine.TheVariants as line_of_code
-use Rattle.pf_lab.specs.inner.Seen.{line_value}
-use Rattle.pf_lab.specs.Scripts.{run_all, done, words_done, at_end, all_shown}
+use Rattle.pf_lab.specs.Scripts.{words_done, at_end, all_shown}
 use Rattle.std.specs.Prelude.{option_map}
 use Rattle.pf_lab.proofs.Outcomes.{unknown_stays}
 use Rattle.std.proofs.Common.{codes, Vec, Global}
@@ -283,12 +280,6 @@ shows_all b v n is all = record {
 }
 
 -- ---- lines
-
--- a run prints nothing
-pub ran : {E : Type 0} (v : LabValue) (r : Result (Unit {0}) E) (l : LabLine) (b : Bench) (out : List ℕ) → l ≡ line_of_code.Run →
-    OnOk r (IsBench b (run_all v)) → OnOk r (Does (done v (line_value l)) b out out)
-ran v (Ok u) l b out is h = subst (λ (x : LabLine). Does (done v (line_value x)) b out out) (sym is) (h, sym (append-nil out))
-ran v (Err e) l b out is h = tt
 
 -- the end of a script ends a ruleset
 pub ended : {E : Type 0} (v : LabValue) (r : Result (Unit {0}) E) (o : Option Waiting) (w : Waiting) (words : List Text) (text : List ℕ) (b : Bench) (before after : List ℕ) →

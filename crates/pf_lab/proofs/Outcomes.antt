@@ -1,5 +1,5 @@
 -- What becomes of an event.
-use Rattle.std.proofs.Common.{◌≡◌, ◌∙◌, ap, sym, subst, refl, ℕ, ◌<◌, ◌≤◌, Bool, true, false, nat_lt, Option, Some, None, Result, Ok, Err, OnErr, IfOk, ◌&&◌, List, slice_get, arith}
+use Rattle.std.proofs.Common.{◌≡◌, ◌∙◌, ap, sym, subst, refl, ℕ, ◌<◌, Bool, true, false, nat_lt, Option, Some, None, Result, Ok, Err, OnErr, IfOk, ◌&&◌, List, slice_get, arith}
 use Rattle.std.proofs.lemmas.Bool.{lt-leb, le-ltb, leb-true, cond-true, cond-false}
 use Rattle.std.proofs.lemmas.Option.{slice_get_within}
 use Rattle.px_model.specs.Node.{Input}
@@ -13,14 +13,13 @@ use Rattle.pf_node.specs.Nodes.{state_in}
 use Rattle.pf_lab.specs.inner.Coming.{Came, IsInput}
 use Rattle.pf_lab.specs.Labs.{HostsAre, state_of, group_of}
 use Rattle.pf_lab.specs.declared.coming.What.{What}
-use Rattle.pf_lab.specs.declared.event.LabEvent.TheVariants as event
 use Rattle.pf_lab.specs.declared.host.Host.{Host}
 use Rattle.pf_lab.proofs.Taking.{input_here}
 use Rattle.pf_lab.specs.declared.event.LabFault.{LabFault}
 use Rattle.pf_lab.specs.declared.event.LabFault.TheVariants as fault
 use Rattle.pf_lab.specs.declared.event.Outcome.{Outcome}
 use Rattle.pf_lab.specs.declared.event.Outcome.TheVariants as outcome
-use Rattle.pf_lab.specs.Outcomes.{is_nobodys, is_unknown, outcome_of, outcome_at, outcome_in, becomes, Reports}
+use Rattle.pf_lab.specs.Outcomes.{is_nobodys, is_unknown, outcome_of, outcome_at, outcome_in, Reports}
 
 -- somebody is addressed
 pub addressed : (n m : ℕ) (w : World Bytes) (a : Action Bytes) (x : Input Bytes) → comes_to w a ≡ Some (m, x) → m < n → is_nobodys n (comes_to w a) ≡ false
@@ -98,9 +97,12 @@ restart_reported n m w below = (lt-leb n m below, refl)
 
 -- ---- in the lab
 
-pub err_reported : (e : LabFault) (bad : Bool) (o : Outcome) → ◌≡◌ {A = Result Outcome LabFault} (Err e) (Err fault.Memory) → Reports (Err e) bad o
-err_reported fault.Memory bad o h = tt
-err_reported fault.BadEvent bad o h = absurd cc
+pub err_reported : (r : Result Outcome LabFault) (bad : Bool) (o : Outcome) → r ≡ Err fault.Memory → Reports r bad o
+err_reported r bad o is = subst (λ (q : Result Outcome LabFault). Reports q bad o) (sym is) tt
+
+-- nobody is addressed
+pub none_reported : (r : Result Outcome LabFault) (bad : Bool) (o : Outcome) → r ≡ Err fault.BadEvent → bad ≡ true → Reports r bad o
+none_reported r bad o is h = subst (λ (q : Result Outcome LabFault). Reports q bad o) (sym is) h
 
 -- what arrives at one of the members that runs
 pub takes_at : (r : Result Outcome LabFault) (hosts : List Host) (g : Group) (m : ℕ) (w : World Bytes) (a : Action Bytes) (what : What) (y : Host) (sent : List Datagram) →

@@ -1,13 +1,17 @@
 -- What arrives at one member of a lab happens in the world.
-use Rattle.std.proofs.Common.{◌≡◌, ◌≢◌, ◌∙◌, sym, ap, subst, refl, ℕ, zero, suc, ◌⊎◌, inl, inr, Bool, true, false, cond, List, [], ◌∷◌, ◌++◌, Option, Some, Result, Ok, Err, OnOk, OnErr, slice_get, length, take, drop, get_or, ◌<◌, ◌+◌}
+use Rattle.std.proofs.Common.{◌≡◌, ◌≢◌, ◌∙◌, sym, ap, subst, refl, ℕ, zero, suc, ◌⊎◌, inl, inr, Bool, true, false, cond, List, [], ◌∷◌, ◌++◌, Option, Some, Result, Ok, Err, OnOk, OnErr, slice_get, length, take, drop, get_or, ◌<◌, ◌≤◌, ◌+◌, None, IfSome, nat_le, arith}
 use Rattle.std.proofs.Math.ListN.{set}
 use Rattle.std.proofs.lemmas.Bool.{false_from_ne_true}
+use Rattle.std.proofs.lemmas.Bool.Decides.{nat_tests}
+use Rattle.std.proofs.lemmas.Option.{slice_get_read, slice_get_within}
+use Rattle.std.specs.Borrow.{MutBor}
+use Rattle.std.specs.List.{IsItemAtMut}
 use Rattle.std.proofs.lemmas.List.{append-nil, drop_more, take-append-drop}
 use Rattle.std.specs.List.{flat_map}
 use Rattle.px_model.specs.Node as node
 use Rattle.px_model.specs.Node.{Input, Answer}
 use Rattle.px_model.specs.Node.Input.{Comes}
-use Rattle.px_model.specs.World.{World, NodeState, Action, Event, happens, run, start, started, nothing_stored}
+use Rattle.px_model.specs.World.{World, NodeState, Action, Event, comes_to, happens, run, start, started, nothing_stored}
 use Rattle.px_model.specs.World.Event.{Runs, StopAfter}
 use Rattle.px_model.specs.Spelling.{Bytes}
 use Rattle.px_model.proofs.AlwaysFits.{nothing_fits}
@@ -32,7 +36,7 @@ use Rattle.px_replica.specs.declared.receiving.Received.{Received}
 use Rattle.pf_node.specs.Nodes.{state_in}
 use Rattle.pf_lab.specs.Coming.{model_events}
 use Rattle.pf_lab.specs.inner.Coming.{IsInput, Came}
-use Rattle.pf_lab.specs.Outcomes.{are_known, is_bad, Reports}
+use Rattle.pf_lab.specs.Outcomes.{are_known, is_bad, is_nobodys, Reports}
 use Rattle.pf_lab.specs.declared.event.LabFault.{LabFault}
 use Rattle.pf_lab.specs.declared.event.LabFault.TheVariants as fault
 use Rattle.pf_lab.specs.declared.event.Outcome.{Outcome}
@@ -180,6 +184,53 @@ stops_at hosts g m w a what y z q sent out world at up kept same_group still aft
     lab_stops_after hosts state_of group_of g m w a x y z q sent out world at up after (still ∙ same_group) came.comes
     (answered_up (group p) y z (λ s. answer p.members p.me s x) out up kept
     (went x (input_here g m p what x host.group host.me came.is_spelled)))
+
+-- ---- the member that an action is for
+
+-- a member that is lent is there
+pub lent : {X : Type 0} (xs : List X) (i : ℕ) (x : MutBor X) (r : Option (MutBor X)) → Some x ≡ r → IsItemAtMut xs i r → slice_get xs i ≡ Some x.now
+lent {X} xs i x r is item =
+    let at = subst (λ (o : Option (MutBor X)). IsItemAtMut xs i o) (sym is) item in
+    slice_get_read xs (length xs) i x.now refl at.3.0 at.1
+
+-- where none is lent there are no more
+pub none_lent : {X : Type 0} (xs : List X) (i : ℕ) (r : Option (MutBor X)) → None ≡ r → IsItemAtMut xs i r → length xs ≤ i
+none_lent {X} xs i r is item = (subst (λ (o : Option (MutBor X)). IsItemAtMut xs i o) (sym is) item).3
+
+pub came_as : (g : Group) (w : World Bytes) (a : Action Bytes) (r : Option (ℕ × What)) (m : ℕ) (what : What) → Some (m, what) ≡ r →
+    IfSome r (λ p. Came g w a p.0 p.1) → Came g w a m what
+came_as g w a r m what is came = subst (λ (o : Option (ℕ × What)). IfSome o (λ p. Came g w a p.0 p.1)) (sym is) came
+
+pub inside : (hosts : List Host) (g : Group) (m : ℕ) (w : World Bytes) (y : Host) (sent : List Datagram) → HostsAre hosts g sent w →
+    slice_get hosts m ≡ Some y → m < g.members
+inside hosts g m w y sent world at = let within = slice_get_within hosts m y at in omega (arith, within, world.count)
+
+-- the member of the world that a host is runs, or is stopped, as the host
+pub is_up_at : (hosts : List Host) (g : Group) (m : ℕ) (w : World Bytes) (y : Host) (sent : List Datagram) (b : Bool) → HostsAre hosts g sent w →
+    slice_get hosts m ≡ Some y → y.is_up ≡ b → (w.nodes m).is_up ≡ b
+is_up_at hosts g m w y sent b world at up = ap (λ (s : NodeState Bytes). s.is_up) (world.hosts m y at).here ∙ up
+
+-- a member that is lent and stays as it is leaves the world as it is
+pub stays_at : (hosts : List Host) (g : Group) (m : ℕ) (w v : World Bytes) (y : Host) (sent : List Datagram) → HostsAre hosts g sent w →
+    slice_get hosts m ≡ Some y → v ≡ w → HostsAre (set hosts m y) g sent v
+stays_at hosts g m w v y sent world at is =
+    subst (λ (z : World Bytes). HostsAre (set hosts m y) g sent z) (sym is)
+    (lab_same hosts state_of group_of g m w y y sent world at refl refl)
+
+-- what holds is there of a refusal
+pub held : {X A E : Type 0} (r : Result A E) → X → OnErr r X
+held (Ok v) x = tt
+held (Err e) x = x
+
+pub past_at : (hosts : List Host) (g : Group) (m : ℕ) (w : World Bytes) (sent : List Datagram) → HostsAre hosts g sent w → length hosts ≤ m →
+    nat_le g.members m ≡ true
+past_at hosts g m w sent world over = let past : g.members ≤ m = omega (arith, over, world.count) in grind (arith, nat_tests)
+
+-- nobody is there for what comes past the last member
+pub nobody_at : (hosts : List Host) (g : Group) (m : ℕ) (w : World Bytes) (a : Action Bytes) (what : What) (sent : List Datagram) →
+    HostsAre hosts g sent w → Came g w a m what → length hosts ≤ m → is_nobodys g.members (comes_to w a) ≡ true
+nobody_at hosts g m w a what sent world came over =
+    ap (is_nobodys g.members) came.comes ∙ past_at hosts g m w sent world over
 
 -- ---- the beginning
 

@@ -2,32 +2,14 @@
 
 ghost use Rattle.std.specs.Prelude.{◌≡◌, map};
 ghost use Rattle.std.specs.Option.{option_copied};
-ghost use Rattle.clap.specs.Words.{found_of, rows_of};
-ghost use Rattle.pf_arguments.specs.Asked.{given_in, asked};
-ghost use Rattle.pf_lab.specs.Asking.{change_in, is_allowed, change_of};
+ghost use Rattle.pf_lab.specs.Asking.{is_allowed, change_of};
 ghost use Rattle.pf_lab.specs.inner.Seen.{Reads};
 ghost use Rattle.pf_entry.specs.Owned.{command_value};
 
 use crate::fault::{LineFault, Read, UNKNOWN};
-use clap::ArgMatches;
 use pf_arguments::{Action, Command, from_matches};
 use pf_scripts::{file_in, is_standard, matches_in};
 use std::alloc::Global;
-
-/// The change that matches ask for; any other action is 40, after the faults of the arguments.
-fn change_in(alloc: Global, matches: &ArgMatches<'_>, text: &[u8]) -> Read<Command>
-    ensures { Reads command_value result (change_in (asked (given_in (rows_of (found_of matches.now))) text.now)) }
-{
-    match from_matches(alloc, matches, text) {
-        Ok(Action::Change(command)) => Ok(command),
-        Ok(_) => Err(UNKNOWN),
-        Err(fault) => Err(
-            fault
-                .code()
-                .map_or(LineFault::Memory, |code| LineFault::Refused(code)),
-        ),
-    }
-}
 
 /// Whether a file may be named so: standard input where a ruleset may be behind the line, else none.
 fn is_allowed(file: Option<&str>, text: Option<&[u8]>) -> bool
@@ -40,7 +22,7 @@ fn is_allowed(file: Option<&str>, text: Option<&[u8]>) -> bool
 }
 
 /// The change that pfctl's arguments ask for; the first argument stands for pfctl itself. `text` is what follows the
-/// line, none where no text may.
+/// line, none where no text may. Any action that is no change is 40, after the faults of the arguments.
 pub(crate) fn command_in(alloc: Global, words: &[&str], text: Option<&[u8]>) -> Read<Command>
     ensures { Reads command_value result (change_of (map (λ w. w.now) words.now) (option_copied text.entry)) }
 {
@@ -50,5 +32,9 @@ pub(crate) fn command_in(alloc: Global, words: &[&str], text: Option<&[u8]>) -> 
     if !is_allowed(file_in(&matches), text) {
         return Err(UNKNOWN);
     }
-    change_in(alloc, &matches, text.unwrap_or(&[]))
+    match from_matches(alloc, &matches, text.unwrap_or(&[])) {
+        Ok(Action::Change(command)) => Ok(command),
+        Ok(_) => Err(UNKNOWN),
+        Err(fault) => Err(fault.code().map_or(LineFault::Memory, LineFault::Refused)),
+    }
 }

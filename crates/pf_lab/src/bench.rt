@@ -1,11 +1,8 @@
 //! A lab with what was delivered and shown of its messages.
 
-ghost use Rattle.std.specs.Prelude.{◌≡◌, ◌||◌, OnOk, Option, nat_lt, nat_eq};
+ghost use Rattle.std.specs.Prelude.{◌≡◌, ◌||◌, nat_lt, nat_eq};
 ghost use Rattle.std.specs.List.{list_any};
-ghost use Rattle.pf_lab.specs.Scripts.{LabValue, marked};
-ghost use Rattle.pf_lab.specs.inner.Benches.{IsBench};
 
-use crate::fault::Pushed;
 use crate::state::Lab;
 
 /// A lab, and of its messages what was delivered and what was shown.
@@ -35,15 +32,5 @@ impl Bench {
         ensures { result ≡ (nat_lt k self.now.passed || list_any (λ j. nat_eq j k) self.now.delivered.items) }
     {
         k < self.passed || has(&self.delivered, k)
-    }
-
-    /// The message counts as delivered, if there is one.
-    pub(crate) fn mark(&mut self, message: Option<usize>) -> Pushed
-        ensures { (v : LabValue) → IsBench self.old v → OnOk result (IsBench self.new (marked message v)) }
-    {
-        match message {
-            Some(k) => Ok(self.delivered.push(k)?),
-            None => Ok(()),
-        }
     }
 }

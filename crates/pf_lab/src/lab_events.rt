@@ -1,12 +1,14 @@
 //! A lab's steps: what each event does.
 
-ghost use Rattle.std.specs.Prelude.{◌≡◌, ◌≤◌, ◌<◌, IfOk, OnOk, OnErr, Err, true, false};
+ghost use Rattle.std.specs.Prelude.{◌≡◌, ◌≤◌, ◌<◌, ◌+◌, ◌++◌, IfOk, OnOk, OnErr, Err, true, false};
 ghost use Rattle.std.specs.List.{flat_map};
+ghost use Rattle.std.specs.Vec.{vec_len, vec_capacity};
 ghost use Rattle.px_model.specs.Spelling.{Bytes};
 ghost use Rattle.px_model.specs.World.{World, happens, run, start};
 ghost use Rattle.px_model.specs.World.Event.{Runs, StopBefore, StopAfter, Restart};
 ghost use Rattle.px_wire.specs.Message.{Group};
 ghost use Rattle.px_replica.specs.Made.{same};
+ghost use Rattle.px_replica.specs.Spelled.{for_members};
 ghost use Rattle.pf_lab.specs.Coming.{action_of, model_events};
 ghost use Rattle.pf_lab.specs.inner.Coming.{IsNamed, IsOf};
 ghost use Rattle.pf_lab.specs.Outcomes.{Reports, is_unknown, outcome_in, is_bad, becomes, are_known};
@@ -18,14 +20,24 @@ ghost use Rattle.px_core.specs.declared.limits.TheConstants.{MEMBERS};
 use crate::coming::{named, what_comes};
 use crate::event::{LabAction, LabEvent, LabFault, Outcome, Stepped};
 use crate::host::Host;
-use crate::hosts::{empty_at, run_at, send_on, stop_after_at, stop_before_at};
 use crate::state::Lab;
+use pf_entry::CLIENT;
 use pf_node::{Membership, Node};
 use px_records::MemoryRecords;
+use px_replica::Datagram;
 use std::alloc::Global;
 
 /// How many messages a member sends in a step at most.
 const MESSAGES: usize = px_core::MEMBERS as usize;
+
+/// What goes to members joins what was sent, where there is room.
+fn send_on(sent: &mut Vec<Datagram>, out: &mut Vec<Datagram>)
+    requires { vec_len sent.old + vec_len out.old ≤ vec_capacity sent.old }
+    ensures { sent.new.items ≡ sent.old.items ++ for_members out.old.items }
+{
+    out.retain(|d| d.to != CLIENT);
+    let _moved = sent.append(out);
+}
 
 impl Lab {
     /// The action happens in the world.
@@ -39,11 +51,13 @@ impl Lab {
         ensures stays { (g : Group) (w : World Bytes) → IsWorld self.old g w → OnErr result (IsWorld self.new g w) }
     {
         self.sent.reserve(MESSAGES).map_err(|_| LabFault::Memory)?;
+        let (m, what) = what_comes(self.sent.as_slice(), action, bytes).ok_or(LabFault::BadEvent)?;
+        let host = self.hosts.get_mut(m as usize).ok_or(LabFault::BadEvent)?;
+        if !host.is_up {
+            return Ok(Outcome::Stopped);
+        }
         let mut out = Vec::new(self.alloc);
-        let Some((m, what)) = what_comes(self.sent.as_slice(), action, bytes) else {
-            return Err(LabFault::BadEvent);
-        };
-        let outcome = run_at(&mut self.hosts, m, what, &mut out)?;
+        let outcome = host.take(what, &mut out)?;
         send_on(&mut self.sent, &mut out);
         Ok(outcome)
     }
@@ -59,7 +73,12 @@ impl Lab {
         ensures stays { (g : Group) (w : World Bytes) → IsWorld self.old g w → OnErr result (IsWorld self.new g w) }
     {
         let (m, _) = what_comes(self.sent.as_slice(), action, bytes).ok_or(LabFault::BadEvent)?;
-        stop_before_at(&mut self.hosts, m)
+        let host = self.hosts.get_mut(m as usize).ok_or(LabFault::BadEvent)?;
+        if !host.is_up {
+            return Ok(Outcome::Stopped);
+        }
+        host.empty(false);
+        Ok(Outcome::Nothing)
     }
 
     /// A member stops after the action's change is recorded.
@@ -73,7 +92,14 @@ impl Lab {
         ensures stays { (g : Group) (w : World Bytes) → IsWorld self.old g w → OnErr result (IsWorld self.new g w) }
     {
         let (m, what) = what_comes(self.sent.as_slice(), action, bytes).ok_or(LabFault::BadEvent)?;
-        stop_after_at(&mut self.hosts, m, what)
+        let host = self.hosts.get_mut(m as usize).ok_or(LabFault::BadEvent)?;
+        if !host.is_up {
+            return Ok(Outcome::Stopped);
+        }
+        let mut lost = Vec::new(self.alloc);
+        let _outcome = host.take(what, &mut lost)?;
+        host.empty(false);
+        Ok(Outcome::Nothing)
     }
 
     /// A member starts anew, with its record alone.
@@ -84,11 +110,8 @@ impl Lab {
             Reports result (is_unknown g.members w (Restart m)) (outcome_in g.members w (Restart m)) }
         ensures stays { (g : Group) (w : World Bytes) → IsWorld self.old g w → OnErr result (IsWorld self.new g w) }
     {
-        let m = m as usize;
-        if m >= self.hosts.len() {
-            return Err(LabFault::BadEvent);
-        }
-        empty_at(&mut self.hosts, m, true);
+        let host = self.hosts.get_mut(m as usize).ok_or(LabFault::BadEvent)?;
+        host.empty(true);
         Ok(Outcome::Nothing)
     }
 
@@ -101,14 +124,13 @@ impl Lab {
             Reports result (is_bad g.members w event.now) (becomes g.members w event.now) }
         ensures stays { (g : Group) (w : World Bytes) → IsWorld self.old g w → OnErr result (IsWorld self.new g w) }
     {
-        let bytes = named(self.alloc, action).map_err(|_| LabFault::Memory)?;
-        let Some(bytes) = bytes else {
+        let Some(bytes) = named(self.alloc, action)? else {
             return Ok(Outcome::Refused(41));
         };
         match event {
-            LabEvent::Runs(_) => self.run(action, bytes.as_slice()),
-            LabEvent::StopBefore(_) => self.stop_before(action, bytes.as_slice()),
-            LabEvent::StopAfter(_) => self.stop_after(action, bytes.as_slice()),
+            LabEvent::Runs(_) => self.run(action, &bytes),
+            LabEvent::StopBefore(_) => self.stop_before(action, &bytes),
+            LabEvent::StopAfter(_) => self.stop_after(action, &bytes),
             LabEvent::Restart(_) => unreachable!(),
         }
     }

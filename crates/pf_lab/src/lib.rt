@@ -10,10 +10,10 @@
 //! - [`laws`]: what holds of every lab.
 //!
 //! Within: `state` and `host` are the lab and one of its members; `event` has its events as values, which `lab_events`
-//! does: `coming` is what an event brings to a member, `hosts` finds the member, `running` makes the call of its node;
-//! `showing` and `ever` are what a lab shows. Of scripts, `numbers`, `asking` and `reading` read a line, `fault` is why
-//! one is refused, `bench` is the lab with what was delivered and shown, `events` does an event and prints what came of
-//! it, `passes` delivers what waits, `messages` and `shown` print, `stepping` does a line, `script` all.
+//! does: `coming` is what an event brings to a member, `running` makes the call of its node; `showing` and `ever` are
+//! what a lab shows. Of scripts, `numbers`, `asking` and `reading` read a line, `fault` is why one is refused, `bench`
+//! is the lab with what was delivered and shown, `events` does an event and prints what came of it, `passes` delivers
+//! what waits, `messages` and `shown` print, `stepping` does a line, `script` all.
 //!
 //! # Why
 //!
@@ -75,7 +75,6 @@ mod events;
 mod ever;
 mod fault;
 mod host;
-mod hosts;
 mod lab_events;
 pub mod laws;
 mod messages;

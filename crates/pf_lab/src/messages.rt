@@ -22,18 +22,18 @@ fn kind_of(message: &MessageView<'_>) -> &'static str
     ensures { result.now ≡ kind_word (message_of message.now) }
 {
     match message {
-        Message::Prepare { .. } => "prepare",
-        Message::Promise { .. } => "promise",
-        Message::PrepareAll { .. } => "prepareall",
-        Message::PromiseAll { .. } => "promiseall",
-        Message::Accept { .. } => "accept",
-        Message::Vote { .. } => "vote",
-        Message::Nack { .. } => "nack",
-        Message::Need { .. } => "need",
-        Message::Learned { .. } => "learned",
-        Message::Ask { .. } => "ask",
-        Message::Asked { .. } => "asked",
-        Message::AskRefused { .. } => "askrefused",
+        Message::Prepare(..) => "prepare",
+        Message::Promise(..) => "promise",
+        Message::PrepareAll(..) => "prepareall",
+        Message::PromiseAll(..) => "promiseall",
+        Message::Accept(..) => "accept",
+        Message::Vote(..) => "vote",
+        Message::Nack(..) => "nack",
+        Message::Need(..) => "need",
+        Message::Learned(..) => "learned",
+        Message::Ask(..) => "ask",
+        Message::Asked(..) => "asked",
+        Message::AskRefused(..) => "askrefused",
     }
 }
 
@@ -79,54 +79,32 @@ fn push_parts(out: &mut String, message: &MessageView<'_>) -> Pushed
     ensures { OnOk result (string_bytes out.new ≡ string_bytes out.old ++ message_parts (message_of message.now)) }
 {
     match message {
-        Message::Prepare { ballot, position } => push_place(out, *ballot, *position),
-        Message::PrepareAll { ballot, position } => push_place(out, *ballot, *position),
-        Message::Promise {
-            ballot,
-            position,
-            accepted,
-        } => {
+        Message::Prepare(ballot, position) => push_place(out, *ballot, *position),
+        Message::PrepareAll(ballot, position) => push_place(out, *ballot, *position),
+        Message::Promise(ballot, position, accepted) => {
             push_place(out, *ballot, *position)?;
             push_accepted(out, accepted)
         }
-        Message::PromiseAll {
-            ballot,
-            position,
-            top,
-            accepted,
-        } => {
+        Message::PromiseAll(ballot, position, top, accepted) => {
             push_place(out, *ballot, *position)?;
             push_accepted(out, accepted)?;
             write!(out, " t{top}")
         }
-        Message::Accept {
-            ballot,
-            position,
-            entry,
-        }
-        | Message::Vote {
-            ballot,
-            position,
-            entry,
-        } => {
+        Message::Accept(ballot, position, entry) | Message::Vote(ballot, position, entry) => {
             push_place(out, *ballot, *position)?;
             push_entry(out, entry)
         }
-        Message::Nack {
-            ballot,
-            position,
-            promised,
-        } => {
+        Message::Nack(ballot, position, promised) => {
             push_place(out, *ballot, *position)?;
             push_ballot(out, *promised)
         }
-        Message::Need { position } => write!(out, " p{position}"),
-        Message::Learned { position, entry } => {
+        Message::Need(position) => write!(out, " p{position}"),
+        Message::Learned(position, entry) => {
             write!(out, " p{position}")?;
             push_entry(out, entry)
         }
-        Message::Ask { entry } => push_entry(out, entry),
-        Message::Asked { .. } | Message::AskRefused { .. } => Ok(()),
+        Message::Ask(entry) => push_entry(out, entry),
+        Message::Asked(..) | Message::AskRefused(..) => Ok(()),
     }
 }
 

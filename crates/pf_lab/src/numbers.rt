@@ -3,7 +3,7 @@
 ghost use Rattle.std.specs.Prelude.{◌≡◌};
 ghost use Rattle.std.specs.List.{list_all};
 ghost use Rattle.std.specs.Char.{is_ascii_digit};
-ghost use Rattle.pf_lab.specs.Numbers.{is_number, number_of};
+ghost use Rattle.pf_lab.specs.Numbers.{number_of};
 ghost use Rattle.pf_lab.specs.LabLines.{node_of, message_of};
 ghost use Rattle.pf_lab.specs.inner.Seen.{Reads};
 
@@ -16,21 +16,13 @@ fn are_digits(text: &[u8]) -> bool
     text.iter().all(|b| b.is_ascii_digit())
 }
 
-/// Whether the argument is decimal digits.
-#[tactic(auto, using(crate::proofs::Digits::digits_all))]
-fn is_number(word: &str) -> bool
-    ensures { result ≡ is_number word.now }
-{
-    !word.is_empty() && are_digits(word.as_bytes())
-}
-
 /// The number that the argument spells, leading zeros read; none where it is no number. One past 2^64-1 is read as
 /// that, which no message has.
-#[tactic(auto, unfolding(crate::specs::Numbers::number_of))]
+#[tactic(auto, unfolding(crate::specs::Numbers::number_of), using(crate::proofs::Digits::digits_all))]
 pub(crate) fn number_in(word: &str) -> Option<u64>
     ensures { result ≡ number_of word.now }
 {
-    if !is_number(word) {
+    if word.is_empty() || !are_digits(word.as_bytes()) {
         return None;
     }
     match word.parse::<u64>() {

@@ -1,6 +1,6 @@
 //! What waits is delivered.
 
-ghost use Rattle.std.specs.Prelude.{◌≡◌, ◌≢◌, OnOk, Err};
+ghost use Rattle.std.specs.Prelude.{◌≢◌, OnOk, Err};
 ghost use Rattle.px_model.specs.World.{happens};
 ghost use Rattle.px_model.specs.World as worlds;
 ghost use Rattle.px_replica.specs.Made.{same};

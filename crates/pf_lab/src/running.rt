@@ -1,7 +1,6 @@
 //! A call of a member's node for what an event brings, and its stop or restart.
 
-ghost use Rattle.std.specs.Prelude.{◌≡◌, ◌≤◌, ℕ, [], length, false, Err, IfOk, OnOk, OnErr, true};
-ghost use Rattle.px_model.specs.Entries.{view_of};
+ghost use Rattle.std.specs.Prelude.{◌≡◌, ◌≤◌, ℕ, [], length, false, Err, IfOk, OnOk, OnErr};
 ghost use Rattle.px_model.specs.Node.{Answer, Input, Message, Meta};
 ghost use Rattle.px_model.specs.Node.Answer.{Refused};
 ghost use Rattle.px_model.specs.Node.Input.{Asks, Ticks, Comes};
@@ -9,7 +8,6 @@ ghost use Rattle.px_model.specs.Spelling.{Bytes};
 ghost use Rattle.px_model.specs.Step.{nothing_volatile};
 ghost use Rattle.px_wire.specs.Members.{as_sent, Passing};
 ghost use Rattle.px_wire.specs.Message.{group, DatagramBytes};
-ghost use Rattle.px_wire.specs.Sent.{is_command};
 ghost use Rattle.px_replica.specs.Faults.{IsRefusedBy};
 ghost use Rattle.px_replica.specs.Made.{answer};
 ghost use Rattle.px_replica.specs.Seen.{IsSound};
@@ -24,7 +22,6 @@ use crate::coming::What;
 use crate::event::{LabFault, Outcome, Stepped};
 use crate::host::Host;
 use pf_node::Node;
-use px_model::EntryView;
 use px_records::MemoryRecords;
 use px_replica::{Datagram, NodeFault};
 
@@ -45,53 +42,6 @@ fn refused(fault: NodeFault) -> Stepped
         NodeFault::PositionsSpent => Ok(Outcome::Refused(62)),
         NodeFault::Memory => Err(LabFault::Memory),
         _ => unreachable!(),
-    }
-}
-
-/// A command is asked of a node over a record in memory.
-fn ask(node: &mut Node<MemoryRecords>, entry: &EntryView) -> Stepped
-    requires works { has_failed node.old ≡ false }
-    requires sound { IsSound (membership_of node.old).members (state_in node.old).stored }
-    requires command { is_command (view_of entry.now).command ≡ true }
-    ensures went { OnOk result (IsAnswered (group (membership_of node.old))
-        (answer (membership_of node.old).members (membership_of node.old).me (state_in node.old)
-        (Asks (view_of entry.now).command)) (state_in node.old) (state_in node.new) []) }
-    ensures reported { IfOk result (λ o. o ≡ outcome_of (state_in node.old).stored.meta
-        (Asks (view_of entry.now).command)
-        (answer (membership_of node.old).members (membership_of node.old).me (state_in node.old)
-        (Asks (view_of entry.now).command))) }
-    ensures stays { OnErr result (state_in node.new ≡ state_in node.old) }
-    ensures memory { OnErr result (result ≡ Err LabFault.Memory) }
-    ensures works { has_failed node.new ≡ false }
-    ensures sound { IsSound (membership_of node.new).members (state_in node.new).stored }
-    ensures group { membership_of node.new ≡ membership_of node.old }
-{
-    match node.ask_entry(entry) {
-        Ok(number) => Ok(Outcome::Asked(number)),
-        Err(fault) => refused(fault),
-    }
-}
-
-/// The clock of a node over a record in memory ticks.
-fn tick(node: &mut Node<MemoryRecords>, out: &mut Vec<Datagram>) -> Stepped
-    requires empty { out.old.items ≡ [] }
-    requires works { has_failed node.old ≡ false }
-    requires sound { IsSound (membership_of node.old).members (state_in node.old).stored }
-    ensures went { OnOk result (IsAnswered (group (membership_of node.old))
-        (answer (membership_of node.old).members (membership_of node.old).me (state_in node.old) Ticks)
-        (state_in node.old) (state_in node.new) out.new.items) }
-    ensures reported { IfOk result (λ o. o ≡ outcome_of (state_in node.old).stored.meta Ticks
-        (answer (membership_of node.old).members (membership_of node.old).me (state_in node.old) Ticks)) }
-    ensures stays { OnErr result (state_in node.new ≡ state_in node.old) }
-    ensures memory { OnErr result (result ≡ Err LabFault.Memory) }
-    ensures few { OnOk result (length out.new.items ≤ MEMBERS) }
-    ensures works { has_failed node.new ≡ false }
-    ensures sound { IsSound (membership_of node.new).members (state_in node.new).stored }
-    ensures group { membership_of node.new ≡ membership_of node.old }
-{
-    match node.tick(out) {
-        Ok(()) => Ok(Outcome::Nothing),
-        Err(fault) => refused(fault),
     }
 }
 
@@ -139,8 +89,14 @@ impl Host {
         ensures up { self.new.is_up ≡ self.old.is_up }
     {
         match what {
-            What::Ask(entry) => ask(&mut self.node, &entry),
-            What::Tick => tick(&mut self.node, out),
+            What::Ask(entry) => match self.node.ask_entry(&entry) {
+                Ok(number) => Ok(Outcome::Asked(number)),
+                Err(fault) => refused(fault),
+            },
+            What::Tick => match self.node.tick(out) {
+                Ok(()) => Ok(Outcome::Nothing),
+                Err(fault) => refused(fault),
+            },
             What::Datagram(bytes) => receive(&mut self.node, bytes, out),
         }
     }

@@ -8,7 +8,6 @@ ghost use Rattle.pf_lab.specs.inner.Benches.{IsBench};
 ghost use Rattle.pf_lab.specs.declared.script.TheConstants.{MEMBERS};
 
 use crate::bench::Bench;
-use crate::event::LabFault;
 use crate::numbers::number_in;
 use crate::state::Lab;
 use pf_arguments::USAGE;

@@ -60,9 +60,8 @@ impl Lab {
             IsWorld self.now (cluster_of n) (world_after same n events) →
             IsAgreed n (world_after same n events) (ever_of result.hosts.now) }
     {
-        EverLearned {
-            hosts: self.hosts.as_slice(),
-        }
+        let hosts = self.hosts.as_slice();
+        EverLearned { hosts }
     }
 }
 

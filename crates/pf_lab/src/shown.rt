@@ -7,9 +7,8 @@ ghost use Rattle.px_model.specs.Spelling.{Bytes};
 ghost use Rattle.px_model.specs.Step.{front};
 ghost use Rattle.px_model.specs.World.{NodeState};
 ghost use Rattle.pf_node.specs.Nodes.{learned_by};
-ghost use Rattle.pf_lab.specs.Labs.{IsShown};
 ghost use Rattle.pf_lab.specs.Shown.{entry_line, log_lines};
-ghost use Rattle.pf_lab.specs.Scripts.{LabValue, prints, progress, node_line, state_lines, config_at};
+ghost use Rattle.pf_lab.specs.Scripts.{LabValue, prints, node_line, state_lines, config_at};
 ghost use Rattle.pf_lab.specs.Scripts.{of_node, learned_lines, verdict_line, sent_lines, all_shown};
 ghost use Rattle.pf_lab.specs.inner.Benches.{IsBench, Does, IsOfMember};
 
@@ -26,29 +25,19 @@ use std::alloc::AllocError;
 /// Nothing is learned that many positions or more past a node's front.
 const WINDOW: u32 = 64;
 
-/// ` round R front F applied A`; out of memory where less is applied than the front.
-fn push_progress(out: &mut String, node: &Node<MemoryRecords>) -> Pushed
-    ensures { (s : NodeState Bytes) → IsShown s node.now →
-        OnOk result (string_bytes out.new ≡ string_bytes out.old ++ progress s) }
-{
-    if node.applied() != node.front() {
-        return Err(AllocError);
-    }
-    let (round, front, applied) = (node.round(), node.front(), node.applied());
-    write!(out, " round {round} front {front} applied {applied}")
-}
-
-/// `node N round R front F applied A`, or `node N stopped`
+/// `node N round R front F applied A`, or `node N stopped`; out of memory where less is applied than the front.
 fn push_node(out: &mut String, m: u8, node: Option<&Node<MemoryRecords>>) -> Pushed
     ensures { (s : NodeState Bytes) → IsOfMember s (option_copied node.entry) →
         OnOk result (string_bytes out.new ≡ string_bytes out.old ++ node_line m s) }
 {
-    write!(out, "node {m}")?;
-    match node {
-        Some(node) => push_progress(out, node)?,
-        None => out.push_str(" stopped")?,
+    let Some(node) = node else {
+        return writeln!(out, "node {m} stopped");
+    };
+    let (round, front) = (node.round(), node.front());
+    if node.applied() != front {
+        return Err(AllocError);
     }
-    out.push('\n')
+    writeln!(out, "node {m} round {round} front {front} applied {front}")
 }
 
 /// `POSITION ORIGIN.NUMBER`
@@ -127,27 +116,18 @@ impl Bench {
         }
     }
 
-    /// Prints the messages that weren't shown yet.
-    fn push_sent(&self, out: &mut String) -> Pushed
-        ensures { (v : LabValue) → IsBench self.now v → OnOk result (string_bytes out.new
-            ≡ string_bytes out.old ++ sent_lines v.world.sent v.shown (length v.world.sent)) }
+    /// Prints the messages that weren't shown yet, and they count as shown.
+    pub(crate) fn show_sent(&mut self, out: &mut String) -> Pushed
+        ensures { (v : LabValue) → IsBench self.old v → OnOk result (Does (prints (all_shown v)
+            (sent_lines v.world.sent v.shown (length v.world.sent))) self.new
+            (string_bytes out.old) (string_bytes out.new)) }
     {
         let sent = self.lab.sent();
         let first = self.shown.min(sent.len());
         for k in first..sent.len() {
             push_datagram(out, self.members, k, &sent[k])?;
         }
-        Ok(())
-    }
-
-    /// The same, and they count as shown.
-    pub(crate) fn show_sent(&mut self, out: &mut String) -> Pushed
-        ensures { (v : LabValue) → IsBench self.old v → OnOk result (Does (prints (all_shown v)
-            (sent_lines v.world.sent v.shown (length v.world.sent))) self.new
-            (string_bytes out.old) (string_bytes out.new)) }
-    {
-        self.push_sent(out)?;
-        self.shown = self.lab.sent().len();
+        self.shown = sent.len();
         Ok(())
     }
 }

@@ -1,11 +1,10 @@
 //! A line of a script.
 
-ghost use Rattle.std.specs.Prelude.{◌≡◌, ◌++◌, IfOk, OnOk, map, option_map, string_bytes};
+ghost use Rattle.std.specs.Prelude.{◌≡◌, IfOk, OnOk, map, option_map, string_bytes};
 ghost use Rattle.pf_scripts.specs.Seen.{line_of};
 ghost use Rattle.pf_scripts.specs.inner.Seen.{waiting_of};
 ghost use Rattle.pf_lab.specs.LabLines.{is_followed};
-ghost use Rattle.pf_lab.specs.Scripts.{LabValue, done, words_done, at_words, stepped};
-ghost use Rattle.pf_lab.specs.inner.Seen.{line_value};
+ghost use Rattle.pf_lab.specs.Scripts.{LabValue, words_done, at_words, stepped};
 ghost use Rattle.pf_lab.specs.inner.Benches.{IsBench, Does, Steps};
 
 use crate::bench::Bench;
@@ -29,29 +28,19 @@ fn is_followed(alloc: Global, words: &[&str]) -> Result<bool, AllocError>
 type Waits<'a> = Result<Option<Waiting<'a>>, AllocError>;
 
 impl Bench {
-    /// Does what a line asks for.
-    fn run_line(&mut self, line: LabLine<'_, '_>, out: &mut String) -> Pushed
-        ensures { (v : LabValue) → IsBench self.old v → OnOk result
-            (Does (done v (line_value line.entry)) self.new (string_bytes out.old) (string_bytes out.new)) }
-    {
-        match line {
-            LabLine::Happens(event) => self.happen(&event, out),
-            LabLine::Run => self.run(),
-            LabLine::Test(m, packet) => self.show_verdict(m, packet, out),
-            LabLine::State => self.show_state(out),
-            LabLine::Log(m) => self.show_log(m, out),
-            LabLine::Sent => self.show_sent(out),
-        }
-    }
-
-    /// Runs what a line's arguments ask for, or prints its refusal; `text` is what follows it.
+    /// Does what a line's arguments ask for, or prints its refusal; `text` is what follows it.
     pub(crate) fn run_words(&mut self, words: &[&str], text: &[u8], out: &mut String) -> Pushed
         ensures { (v : LabValue) → IsBench self.old v → OnOk result
             (Does (words_done v (map (λ w. w.now) words.now) text.now) self.new
             (string_bytes out.old) (string_bytes out.new)) }
     {
         match line_in(self.lab.alloc, words, text) {
-            Ok(line) => self.run_line(line, out),
+            Ok(LabLine::Happens(event)) => self.happen(&event, out),
+            Ok(LabLine::Run) => self.run(),
+            Ok(LabLine::Test(m, packet)) => self.show_verdict(m, packet, out),
+            Ok(LabLine::State) => self.show_state(out),
+            Ok(LabLine::Log(m)) => self.show_log(m, out),
+            Ok(LabLine::Sent) => self.show_sent(out),
             Err(LineFault::Refused(code)) => push_refusal(out, code, 0),
             Err(LineFault::Memory) => Err(AllocError),
         }

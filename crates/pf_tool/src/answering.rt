@@ -65,12 +65,11 @@ impl<T: Sources> Runner<'_, T> {
         ensures { IfOk result (λ o. IfSome (R.remaining reader.old) (λ input. Renders self.now.reporter o
             (IsAnswer (T.has self.now.sources.now) self.now.reporter.table.now (asked call.now) input))) }
     {
+        let mut input = Vec::new(self.reporter.alloc);
         if call.reads_input() {
-            let input = read_all(self.reporter.alloc, reader)?;
-            return self
-                .output_over(call, &input)
-                .map_err(|_| InputFault::Memory);
+            input = read_all(self.reporter.alloc, reader)?;
         }
-        self.output_over(call, &[]).map_err(|_| InputFault::Memory)
+        self.output_over(call, &input)
+            .map_err(|_| InputFault::Memory)
     }
 }

@@ -1,10 +1,8 @@
 //! What the arguments ask for.
 
-ghost use Rattle.std.specs.Prelude.{◌≡◌, map, option_map, if◌then◌else◌};
-ghost use Rattle.pf_grammar.specs.declared.place.Place.TheVariants.{Main, Anchor};
-ghost use Rattle.std.specs.Option.{option_copied};
+ghost use Rattle.std.specs.Prelude.{◌≡◌, map, option_map};
 ghost use Rattle.clap.specs.Words.{found_of, rows_of, subcommand_rows_of};
-ghost use Rattle.pf_tool.specs.Options.{check_call, test_call, explain_as};
+ghost use Rattle.pf_tool.specs.Options.{check_call, test_call};
 ghost use Rattle.pf_tool.specs.Options.{called, is_other, names_other};
 ghost use Rattle.pf_tool.specs.Messages.{is_verbose};
 ghost use Rattle.pf_tool.specs.inner.Calls.{asked, reads_input};
@@ -63,23 +61,13 @@ impl Call<'_, '_> {
     }
 }
 
-/// The place of a ruleset: an anchor's with `--anchor`.
-fn place_for(is_anchor: bool) -> Place
-    ensures { result ≡ (if is_anchor then Anchor else Main) }
-{
-    if is_anchor {
-        Place::Anchor
-    } else {
-        Place::Main
-    }
-}
-
 /// What `check` asks for.
 fn check_call<'m, 'a>(inner: &'m ArgMatches<'a>) -> Call<'m, 'a>
     ensures { asked result ≡ check_call (rows_of (found_of inner.now)) }
 {
+    let anchor = has_flag(inner, "anchor");
     Call::Check(Check {
-        place: place_for(has_flag(inner, "anchor")),
+        place: if anchor { Place::Anchor } else { Place::Main },
         quiet: has_flag(inner, "quiet"),
         files: values_in(inner, "file"),
     })
@@ -104,16 +92,6 @@ fn test_call<'m, 'a>(inner: &'m ArgMatches<'a>) -> Option<Call<'m, 'a>>
     }))
 }
 
-/// What `explain` asks for, none where no refusal has the number.
-fn explain_call<'m, 'a>(table: &'m [Explanation], code: Option<&str>) -> Option<Call<'m, 'a>>
-    ensures { option_map asked result ≡ explain_as table.now (option_copied code.entry) }
-{
-    match code {
-        None => Some(Call::Explain(None)),
-        Some(digits) => Some(Call::Explain(Some(named(table, digits)?))),
-    }
-}
-
 /// What the matches of the arguments ask for with a table of refusals, none where they ask for nothing.
 pub(crate) fn call_in<'m, 'a>(
     table: &'m [Explanation],
@@ -135,7 +113,10 @@ pub(crate) fn call_in<'m, 'a>(
         return Some(Call::Lab);
     }
     if subcommand == "explain" {
-        return explain_call(table, value_in(inner, "code"));
+        return match value_in(inner, "code") {
+            None => Some(Call::Explain(None)),
+            Some(digits) => Some(Call::Explain(Some(named(table, digits)?))),
+        };
     }
     None
 }
@@ -144,20 +125,9 @@ pub(crate) fn call_in<'m, 'a>(
 pub(crate) fn is_verbose(matches: &ArgMatches<'_>) -> bool
     ensures { result ≡ is_verbose (subcommand_rows_of matches.now) }
 {
-    match matches.subcommand() {
-        Some((_, inner)) => has_flag(inner, "verbose"),
-        None => false,
-    }
-}
-
-/// The message for arguments that `clap` accepts and that ask for nothing.
-pub(crate) fn misnamed(matches: &ArgMatches<'_>) -> &'static str {
-    match matches.subcommand_name() {
-        Some("test") =>
-            "error: no packet is given\n\nFor more information, try 'pfx test --help'.\n",
-        Some("explain") => "error: no refusal has this number; pfx explain shows all\n",
-        _ => "",
-    }
+    matches
+        .subcommand()
+        .is_some_and(|(_, inner)| has_flag(inner, "verbose"))
 }
 
 /// Whether a subcommand's options are another crate's.
@@ -175,8 +145,5 @@ fn is_other(subcommand: &str) -> bool
 pub(crate) fn names_other<S: AsStr>(arguments: &[S]) -> bool
     ensures { result ≡ names_other (map S.text arguments.now) }
 {
-    match arguments {
-        [_, subcommand, ..] => is_other(subcommand.as_str()),
-        _ => false,
-    }
+    matches!(arguments, [_, subcommand, ..] if is_other(subcommand.as_str()))
 }

@@ -8,8 +8,8 @@
 //!
 //! Within: `options` has the arguments as `clap` reads them, `call` what they ask for, `checking`, `testing`, `scripts`
 //! and `explaining` what each subcommand writes, `source` and `packets` rulesets and packets in files, `answering` what
-//! a call writes over the input and files, `reporting` and `deciding` the messages on standard error, `output` what a
-//! run writes, `running` one run from the arguments to the status.
+//! a call writes over the input and files, `reporting` the messages on standard error, `output` what a run writes,
+//! `running` one run from the arguments to the status.
 //!
 //! # Why
 //!
@@ -76,7 +76,6 @@
 mod answering;
 mod call;
 mod checking;
-mod deciding;
 mod explaining;
 mod options;
 mod output;

@@ -8,11 +8,12 @@ ghost use Rattle.pf_tool.specs.Options.{call_of, names_other, pfx_app};
 ghost use Rattle.pf_tool.specs.Tool.{Ran, Reported};
 ghost use Rattle.pf_tool.specs.inner.Calls.{asked};
 
-use crate::call::{Call, call_in, is_verbose, misnamed, names_other};
+use crate::call::{Call, call_in, is_verbose, names_other};
 use crate::options::command;
 use crate::output::Ending;
 use crate::reporting::{Reporter, level_of, report};
 use crate::source::Runner;
+use clap::ArgMatches;
 use cli_io::{Explanation, InputFault, Sources, Status, misused, out_of_memory, write_bytes};
 use std::convert::AsStr;
 use std::io::{Read, Write};
@@ -37,22 +38,26 @@ fn answer<T: Sources, R: Read, W: Write, E: Write>(
         Err(InputFault::Memory) => return out_of_memory(writer),
         Err(InputFault::Failed | InputFault::TooLong) => return Status::Failed,
     };
-    match write_bytes(writer, output.text.as_bytes()) {
-        Ok(()) => {
-            report(output.messages.as_str(), errors);
-            match output.ending {
-                Ending::Done => Status::Done,
-                Ending::Refused => Status::Refused,
-            }
-        }
-        Err(_) => Status::Failed,
+    if write_bytes(writer, output.text.as_bytes()).is_err() {
+        return Status::Failed;
+    }
+    report(output.messages.as_str(), errors);
+    match output.ending {
+        Ending::Done => Status::Done,
+        Ending::Refused => Status::Refused,
     }
 }
 
 /// Writes what is wrong with arguments that `clap` accepts and that ask for nothing.
-fn misnamed_words<W: Write>(text: &str, writer: &mut W) -> Status
+fn misnamed<W: Write>(matches: &ArgMatches<'_>, writer: &mut W) -> Status
     ensures { (result ≡ Status.Usage) ⊎ (result ≡ Status.Failed) }
 {
+    let text = match matches.subcommand_name() {
+        Some("test") =>
+            "error: no packet is given\n\nFor more information, try 'pfx test --help'.\n",
+        Some("explain") => "error: no refusal has this number; pfx explain shows all\n",
+        _ => "",
+    };
     writer
         .write_all(text.as_bytes())
         .map_or(Status::Failed, |()| Status::Usage)
@@ -112,6 +117,6 @@ pub fn run<T: AllocGlobal + Sources, S: AsStr, R: Read, W: Write, E: Write>(
             };
             answer(&runner, &call, reader, writer, errors)
         }
-        None => misnamed_words(misnamed(&matches), writer),
+        None => misnamed(&matches, writer),
     }
 }

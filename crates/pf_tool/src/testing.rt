@@ -1,10 +1,7 @@
 //! The subcommand `test`: the verdicts of a ruleset's rules for packets.
 
-ghost use Rattle.std.specs.Prelude.{◌≡◌, [], IfOk, map};
-ghost use Rattle.pf_rules.specs.Rulesets.{ruleset_of};
-ghost use Rattle.pf_config.specs.Changes.{load_ruleset};
-ghost use Rattle.pf_command.specs.Effect.{empty};
-ghost use Rattle.pf_tool.specs.Tool.{verdict_lines, tested_over};
+ghost use Rattle.std.specs.Prelude.{◌≡◌, IfOk, map};
+ghost use Rattle.pf_tool.specs.Tool.{verdict_lines};
 ghost use Rattle.pf_tool.specs.Tool.{test_output, tested_sources};
 ghost use Rattle.pf_tool.specs.inner.Output.{written, rendered};
 ghost use Rattle.pf_tool.specs.inner.Sources.{source_in};
@@ -17,7 +14,7 @@ use cli_io::NO_PACKET;
 use pf_config::Config;
 use pf_eval::{PacketFault, parse_packet, show_verdict, verdict};
 use pf_grammar::{ParseFault, Place, Profile, parse};
-use pf_rules::{Path, Ruleset};
+use pf_rules::Path;
 use pf_scripts::push_line;
 use std::alloc::AllocError;
 
@@ -47,28 +44,22 @@ impl Reporter<'_> {
         Ok(all)
     }
 
-    /// The ruleset of a source is loaded as the main one of an empty configuration, which then answers.
-    fn tested_over(&self, source: &str, rules: Ruleset, packets: &[&str]) -> Made<Output>
-        ensures { IfOk result (λ o. written o ≡ rendered self.now (tested_over source.now
-            (map (λ p. p.now) packets.now) (load_ruleset empty [] (ruleset_of rules)))) }
-    {
-        let mut config = Config::new(self.alloc)?;
-        match config.load(&Path::main(self.alloc), rules) {
-            Ok(()) => self.verdict_lines(&config, packets),
-            Err(fault) => self.refused(source, None, fault.code().ok_or(AllocError)?),
-        }
-    }
-
-    /// What `test PACKET..` writes over the text of this source.
+    /// What `test PACKET..` writes over the text of this source: its ruleset is loaded as the main one of an empty
+    /// configuration, which then answers.
     #[tactic(auto, unfolding(crate::specs::Tool::test_output))]
     pub(crate) fn test_output(&self, source: &str, packets: &[&str], text: &[u8]) -> Made<Output>
         ensures { IfOk result (λ o. written o ≡ rendered self.now
             (test_output source.now (map (λ p. p.now) packets.now) text.now)) }
     {
-        match parse(self.alloc, text, Place::Main, Profile::Two) {
-            Ok(rules) => self.tested_over(source, rules, packets),
-            Err(ParseFault::Memory) => Err(AllocError),
-            Err(ParseFault::Refused(refusal)) => self.refused_ruleset(source, refusal),
+        let rules = match parse(self.alloc, text, Place::Main, Profile::Two) {
+            Ok(rules) => rules,
+            Err(ParseFault::Memory) => return Err(AllocError),
+            Err(ParseFault::Refused(refusal)) => return self.refused_ruleset(source, refusal),
+        };
+        let mut config = Config::new(self.alloc)?;
+        match config.load(&Path::main(self.alloc), rules) {
+            Ok(()) => self.verdict_lines(&config, packets),
+            Err(fault) => self.refused(source, None, fault.code().ok_or(AllocError)?),
         }
     }
 
@@ -89,14 +80,12 @@ impl Reporter<'_> {
         let Some(bytes) = lines.text.as_deref() else {
             return self.unread(lines.name);
         };
-        match packet_texts(self.alloc, bytes)? {
-            Some(more) => {
-                let mut all = Vec::new(self.alloc);
-                all.extend_from_slice(packets)?;
-                all.extend_from_slice(&more)?;
-                self.test_output(rules.name, &all, text)
-            }
-            None => self.unread(lines.name),
-        }
+        let Some(more) = packet_texts(self.alloc, bytes)? else {
+            return self.unread(lines.name);
+        };
+        let mut all = Vec::new(self.alloc);
+        all.extend_from_slice(packets)?;
+        all.extend_from_slice(&more)?;
+        self.test_output(rules.name, &all, text)
     }
 }

@@ -9,7 +9,7 @@
 
 ghost use Rattle.std.specs.Prelude.{◌≡◌, ◌⊎◌, ◌∷◌, [], Some, IfOk, IfErr};
 ghost use Rattle.cli_follow.specs.Exchanges.{Adds};
-ghost use Rattle.pfx.specs.Batches.{EndsAsRun, RanBatch, RanLine, RanLines, ending_by, is_good, lines_of};
+ghost use Rattle.pfx.specs.Batches.{EndsAsRun, RanBatch, RanLine, RanLines, is_good, lines_of};
 ghost use Rattle.pfx.specs.Runs.{RunEvent};
 
 use crate::kind::{is_batch, subcommand_of};
@@ -84,9 +84,9 @@ fn set_modes<F: Files>(files: &F, arguments: &[&str]) -> Result<Status, LineFaul
         return Err(BAD_MODE);
     }
     for path in paths {
-        if fs::set_permissions(files, *path, Permissions::from_mode(mode)).is_err() {
-            return Err(LineFault::Refused(UNREADABLE, "a mode that can't be set"));
-        }
+        fs::set_permissions(files, *path, Permissions::from_mode(mode)).map_err(
+            |_| LineFault::Refused(UNREADABLE, "a mode that can't be set"),
+        )?;
     }
     Ok(Status::Done)
 }
@@ -166,17 +166,8 @@ fn run_one<F: Files, T: Runner, W: Write>(
     ensures { IfOk result (RanLine (T.did runner.old) (T.did runner.new)) }
 {
     write_line(writer, b"==", line.header)?;
-    let mut errors = Vec::new(alloc);
-    let status = match status_of(
-        files,
-        runner,
-        alloc,
-        shared,
-        line,
-        kept,
-        writer,
-        &mut errors,
-    ) {
+    let errors = &mut Vec::new(alloc);
+    let status = match status_of(files, runner, alloc, shared, line, kept, writer, errors) {
         Ok(status) => status,
         Err(LineFault::Memory) => out_of_memory(writer),
         Err(LineFault::Refused(code, why)) => {
@@ -196,22 +187,7 @@ fn run_one<F: Files, T: Runner, W: Write>(
 fn is_good(part: &[u8], status: Status) -> bool
     ensures { result ≡ is_good part.now status }
 {
-    if must_fail(part) {
-        status != Status::Done
-    } else {
-        status == Status::Done
-    }
-}
-
-/// How a batch ends, by whether each line ended as it is marked.
-fn ending_by(are_good: bool) -> Status
-    ensures { result ≡ ending_by are_good }
-{
-    if are_good {
-        Status::Done
-    } else {
-        Status::Refused
-    }
+    must_fail(part) != (status == Status::Done)
 }
 
 /// Runs the command lines of a batch: refused where one didn't end as it is marked.
@@ -238,7 +214,8 @@ fn run_all<F: Files, T: Runner, W: Write, E: Write>(
             let _written = write_line(errors, b"pfx: not as marked: ==", line.header);
         }
     }
-    Ok(ending_by(are_good))
+    let done = are_good.then_some(Status::Done);
+    Ok(done.unwrap_or(Status::Refused))
 }
 
 /// The batch without its last newline, behind one more, so that its first line may be a command line; none where the
@@ -249,21 +226,17 @@ fn read_batch<F: Files, R: Read>(
     file: Option<&str>,
     reader: &mut R,
 ) -> Result<Option<Vec<u8>>, InputFault> {
-    let read = match file {
+    let mut batch = match file {
         None | Some("-") => read_all(alloc, reader)?,
-        Some(path) => match read_file(files, alloc, path) {
-            Ok(Some(read)) => read,
-            Ok(None) => return Ok(None),
-            Err(_) => return Err(InputFault::Memory),
+        Some(path) => match read_file(files, alloc, path).map_err(|_| InputFault::Memory)? {
+            Some(read) => read,
+            None => return Ok(None),
         },
     };
-    let lines = read.as_slice();
-    let lines = lines.strip_suffix(b"\n").unwrap_or(lines);
-    let mut batch = Vec::new(alloc);
-    batch.push(b'\n').map_err(|_| InputFault::Memory)?;
-    batch
-        .extend_from_slice(lines)
-        .map_err(|_| InputFault::Memory)?;
+    if batch.ends_with(b"\n") {
+        let _newline = batch.pop();
+    }
+    batch.insert(0, b'\n').map_err(|_| InputFault::Memory)?;
     Ok(Some(batch))
 }
 

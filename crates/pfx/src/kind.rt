@@ -3,7 +3,7 @@
 ghost use Rattle.std.specs.Prelude.{◌≡◌, map};
 ghost use Rattle.std.specs.List.{list_any};
 ghost use Rattle.pfx.specs.Arguments.{asks_help, has_control, is_batch, is_help, kind_of, names_control, names_node};
-ghost use Rattle.pfx.specs.Arguments.{ask_kind, subcommand_of};
+ghost use Rattle.pfx.specs.Arguments.{subcommand_of};
 
 use cli_nft::asks_nft;
 
@@ -94,27 +94,15 @@ fn asks_help(arguments: &[&str]) -> bool
     any_is_help(arguments) && !any_names_node(arguments)
 }
 
-/// What `ask` is with these arguments.
-fn ask_kind(arguments: &[&str]) -> Kind
-    ensures { result ≡ ask_kind (map (λ a. a.now) arguments.now) }
-{
-    if has_control(arguments) {
-        return Kind::Socket;
-    }
-    if asks_help(arguments) {
-        return Kind::AskHelp;
-    }
-    Kind::Net
-}
-
 /// What a command line is, the program's name first.
 pub(crate) fn kind_of(arguments: &[&str]) -> Kind
     ensures { result ≡ kind_of (map (λ a. a.now) arguments.now) }
 {
     match subcommand_of(arguments) {
         "--version" | "-V" => Kind::Version,
-        "ask" => ask_kind(arguments),
-        "node" | "key" => Kind::Net,
+        "ask" if has_control(arguments) => Kind::Socket,
+        "ask" if asks_help(arguments) => Kind::AskHelp,
+        "ask" | "node" | "key" => Kind::Net,
         "show" => Kind::Show,
         "follow" => Kind::Follow,
         _ if asks_nft(arguments) => Kind::Nft,

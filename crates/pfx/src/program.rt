@@ -72,8 +72,11 @@ impl Invocation for HostRuntime {
     }
 }
 
+/// Arguments that were made, unless it was out of memory.
+type Made<'a> = Result<Vec<&'a str>, AllocError>;
+
 /// The strings as slices.
-fn slices_of(alloc: Global, strings: &[String]) -> Result<Vec<&str>, AllocError>
+fn slices_of(alloc: Global, strings: &[String]) -> Made<'_>
     ensures { IfOk result (λ slices. map (λ s. s.now) slices.items ≡ map string_bytes strings.now) }
 {
     let mut slices = Vec::new(alloc);
@@ -126,32 +129,20 @@ fn lacks_control(arguments: &[&str]) -> bool
 }
 
 /// The arguments with `--control PATH` behind the subcommand.
-fn with_control<'a>(
-    alloc: Global,
-    given: &[&'a str],
-    path: &'a str,
-) -> Result<Vec<&'a str>, AllocError>
+fn with_control<'a>(alloc: Global, given: &[&'a str], path: &'a str) -> Made<'a>
     ensures { IfOk result (λ all. map (λ a. a.now) all.items ≡ with_control (map (λ a. a.now) given.now) path.entry.now) }
 {
     let [name, subcommand, rest @ ..] = given else {
         return Vec::from_slice(alloc, given);
     };
-    let mut all = Vec::new(alloc);
-    all.push(*name)?;
-    all.push(*subcommand)?;
-    all.push("--control")?;
-    all.push(path)?;
+    let mut all = Vec::from_slice(alloc, &[*name, *subcommand, "--control", path])?;
     all.extend_from_slice(rest)?;
     Ok(all)
 }
 
 /// The arguments with which a run is made, of those that the program is given and the control socket that its
 /// environment names.
-fn program_arguments<'a>(
-    alloc: Global,
-    given: &[&'a str],
-    control: &'a Option<String>,
-) -> Result<Vec<&'a str>, AllocError>
+fn program_arguments<'a>(alloc: Global, given: &[&'a str], control: &'a Option<String>) -> Made<'a>
     ensures { IfOk result (λ all. map (λ a. a.now) all.items ≡
         program_arguments (map (λ a. a.now) given.now) (option_map string_bytes control.now)) }
 {
@@ -216,11 +207,9 @@ pub(crate) fn run_program<I: Invocation + Files + Net, T: Runner, R: Read, W: Wr
 pub(crate) fn without_arguments<W: Write>(error: &io::Error, writer: &mut W) -> Ended
     ensures { 0 < code_of result.status }
 {
-    Ended {
-        status: if error.kind() == ErrorKind::OutOfMemory {
-            out_of_memory(writer)
-        } else {
-            Status::Usage
-        },
-    }
+    let status = match error.kind() {
+        ErrorKind::OutOfMemory => out_of_memory(writer),
+        _ => Status::Usage,
+    };
+    Ended { status }
 }

@@ -6,8 +6,9 @@ ghost use Rattle.pfx.specs.Arguments.{is_batch};
 ghost use Rattle.pfx.specs.Batches.{RanBatch};
 ghost use Rattle.pfx.specs.Runs.{Ran};
 
-use crate::kind::subcommand_of;
-use crate::running::{Runner, run_any};
+use crate::batch::run_batch;
+use crate::kind::{is_batch, subcommand_of};
+use crate::running::Runner;
 use cli_io::{NOBODY_ANSWERS, REFUSALS, Shown, Status, explanation, knock};
 use std::alloc::Global;
 use std::io::{self, Read, Write};
@@ -36,10 +37,8 @@ impl<W> Output<W> {
     pub(crate) fn new(inner: W) -> Output<W>
         ensures { result.inner ≡ inner }
     {
-        Output {
-            inner,
-            refusal: None,
-        }
+        let refusal = None;
+        Output { inner, refusal }
     }
 }
 
@@ -47,9 +46,7 @@ impl<W: Write> Write for Output<W> {
     ghost contents = { λ output. W.contents output.inner };
 
     fn write(&mut self, bytes: &[u8]) -> io::Result<usize> {
-        if let Some(code) = refusal_in(bytes) {
-            self.refusal = Some(code);
-        }
+        self.refusal = refusal_in(bytes).or(self.refusal);
         self.inner.write(bytes)
     }
 
@@ -108,23 +105,15 @@ pub(crate) fn run_line<RT: Files + Net, T: Runner, R: Read, W: Write, E: Write>(
     ensures batch { is_batch (map (λ a. a.now) arguments.now) ≡ true → result ≡ Status.Done →
         RanBatch (T.did runner.old) (T.did runner.new) }
 {
-    let status = run_any(
-        rt,
-        runner,
-        alloc,
-        arguments,
-        reader,
-        output,
-        errors,
-        is_terminal,
-    );
-    match subcommand_of(arguments) {
-        "ask" | "show" if is_terminal && status == Status::Refused => {
-            if let Some(code) = output.refusal {
-                report(rt, arguments, code, errors);
-            }
+    if is_batch(arguments) {
+        return run_batch(rt, runner, alloc, arguments, reader, output, errors);
+    }
+    let status = runner.run(arguments, reader, output, errors, is_terminal);
+    let is_reported = is_terminal && matches!(subcommand_of(arguments), "ask" | "show");
+    if is_reported && status == Status::Refused {
+        if let Some(code) = output.refusal {
+            report(rt, arguments, code, errors);
         }
-        _ => {}
     }
     status
 }

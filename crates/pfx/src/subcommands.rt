@@ -64,15 +64,8 @@ impl Runner for Tool<'_> {
         errors: &mut E,
         is_terminal: bool,
     ) -> Status {
-        run(
-            &self.rt,
-            self.table,
-            arguments,
-            reader,
-            writer,
-            errors,
-            is_terminal,
-        )
+        let Tool { rt, table } = *self;
+        run(&rt, table, arguments, reader, writer, errors, is_terminal)
     }
 }
 
@@ -109,30 +102,18 @@ fn help_ask<
     ensures folders { reach.new.folders ≡ reach.old.folders }
     ensures tool { reach.new.tool ≡ reach.old.tool }
 {
-    let status = run_control_ask(
-        rt,
-        &mut reach.peer,
-        alloc,
-        arguments,
-        reader,
-        writer,
-        errors,
-        false,
-    );
+    let peer = &mut reach.peer;
+    let status = run_control_ask(rt, peer, alloc, arguments, reader, writer, errors, false);
     if status != Status::Usage {
         return status;
     }
     match writer.write_all(b"\nTo a node with neither control socket nor key, over UDP:\n\n") {
-        Ok(()) => run_net(
-            rt,
-            &mut reach.nodes,
-            &mut reach.client,
-            &mut reach.files,
-            alloc,
-            arguments,
-            reader,
-            writer,
-        ),
+        Ok(()) => {
+            let nodes = &mut reach.nodes;
+            let client = &mut reach.client;
+            let files = &mut reach.files;
+            run_net(rt, nodes, client, files, alloc, arguments, reader, writer)
+        }
         Err(_) => Status::Failed,
     }
 }
@@ -219,29 +200,21 @@ pub(crate) fn run_plain<
             is_terminal,
         ),
         Kind::AskHelp => help_ask(rt, reach, alloc, arguments, reader, writer, errors),
-        Kind::Net => run_net(
-            rt,
-            &mut reach.nodes,
-            &mut reach.client,
-            &mut reach.files,
-            alloc,
-            arguments,
-            reader,
-            writer,
-        ),
+        Kind::Net => {
+            let nodes = &mut reach.nodes;
+            let client = &mut reach.client;
+            let files = &mut reach.files;
+            run_net(rt, nodes, client, files, alloc, arguments, reader, writer)
+        }
         Kind::Show => run_show(rt, alloc, arguments, writer),
-        Kind::Follow => run_follow(
-            rt,
-            sockets,
-            &mut reach.folders,
-            alloc,
-            arguments,
-            writer,
-            errors,
-        ),
+        Kind::Follow => {
+            let folders = &mut reach.folders;
+            run_follow(rt, sockets, folders, alloc, arguments, writer, errors)
+        }
         Kind::Nft => run_nft(rt, alloc, arguments, reader, writer),
-        Kind::Tool => reach
-            .tool
-            .run(arguments, reader, writer, errors, is_terminal),
+        Kind::Tool => {
+            let tool = &mut reach.tool;
+            tool.run(arguments, reader, writer, errors, is_terminal)
+        }
     }
 }

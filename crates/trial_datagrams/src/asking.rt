@@ -48,9 +48,7 @@ fn answers(alloc: Global, wire: &mut MemoryWire, wanted: AskAnswer) -> bool {
     let Some(m) = Membership::new(7, 3, 255) else {
         return false;
     };
-    let command = Command::FlushRules {
-        path: Path::main(alloc),
-    };
+    let command = Command::FlushRules(Path::main(alloc));
     let answered = ask_once(alloc, &m, 0, &command, 5, wire);
     drop(command);
     let Ok(answer) = answered else {

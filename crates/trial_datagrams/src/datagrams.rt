@@ -82,10 +82,7 @@ fn values_that_are_not_allowed(rt: HostRuntime) {
 /// Whether the bytes are to this member of fifteen, an Accept of member 0 for position 5.
 fn is_accept(to: u8, bytes: &[u8]) -> bool {
     match Membership::new(7, 15, to) {
-        Some(reader) => matches!(
-            decode(&reader, bytes),
-            Ok((0, Message::Accept { position: 5, .. }))
-        ),
+        Some(reader) => matches!(decode(&reader, bytes), Ok((0, Message::Accept(_, 5, ..)))),
         None => false,
     }
 }
@@ -114,7 +111,7 @@ fn one_encoding_for_fifteen_members(rt: HostRuntime) {
 #[test]
 fn a_member_sends_a_need(rt: HostRuntime) {
     let m = Membership::new(7, 3, 2).expect(&rt, "a member");
-    let message: Message<Entry> = Message::Need { position: 5 };
+    let message: Message<Entry> = Message::Need(5);
     let encoded = encode_sent(rt.alloc(), &m, 0, &message);
     drop(message);
     let bytes = encoded.expect(&rt, "memory");

@@ -21,12 +21,7 @@ fn is_first_add(bytes: &[u8]) -> bool {
     let Ok(entry) = decode(bytes) else {
         return false;
     };
-    let CommandView::Add {
-        path,
-        table,
-        addresses,
-    } = entry.command
-    else {
+    let CommandView::Add(path, table, addresses) = entry.command else {
         return false;
     };
     let is_named = path.count() == 0 && table.bytes == b"bad".as_slice();
@@ -43,7 +38,7 @@ const OTHER_FORMAT: &[u8] = b"\x02\0\0\0\0\0\0\0\0\0\x01\0\0\0\0\x05pass\n";
 /// Whether `pass` is loaded.
 fn is_load(command: &CommandView) -> bool {
     match command {
-        CommandView::Load { profile, text, .. } => {
+        CommandView::Load(_, profile, text) => {
             *profile == Profile::Two && *text == b"pass\n".as_slice()
         }
         _ => false,

@@ -56,39 +56,28 @@ fn ballot_of(accepted: &Option<Proposal<EntryView>>) -> u64 {
 /// The number of a message's kind, as a datagram has it, and the numbers in the message.
 fn numbers_of(message: &MessageView) -> [u64; 4] {
     match message {
-        Message::Prepare { ballot, position } => [1, *ballot, u64::from(*position), 0],
-        Message::Promise {
-            ballot,
-            position,
-            accepted,
-        } => [2, *ballot, u64::from(*position), ballot_of(accepted)],
-        Message::Accept {
-            ballot,
-            position,
-            ..
-        } => [3, *ballot, u64::from(*position), 0],
-        Message::Vote {
-            ballot,
-            position,
-            ..
-        } => [4, *ballot, u64::from(*position), 0],
-        Message::Nack {
-            ballot,
-            position,
-            promised,
-        } => [5, *ballot, u64::from(*position), *promised],
-        Message::Need { position } => [6, u64::from(*position), 0, 0],
-        Message::Learned { position, .. } => [7, u64::from(*position), 0, 0],
-        Message::Ask { .. } => [8, 0, 0, 0],
-        Message::Asked { token, number } => [9, *token, *number, 0],
-        Message::AskRefused { token, code } => [10, *token, u64::from(*code), 0],
-        Message::PrepareAll { ballot, position } => [11, *ballot, u64::from(*position), 0],
-        Message::PromiseAll {
-            ballot,
-            position,
-            top,
-            ..
-        } => [12, *ballot, u64::from(*position), u64::from(*top)],
+        Message::Prepare(ballot, position) => [1, *ballot, u64::from(*position), 0],
+        Message::Promise(ballot, position, accepted) => [
+            2,
+            *ballot,
+            u64::from(*position),
+            ballot_of(accepted),
+        ],
+        Message::Accept(ballot, position, ..) => [3, *ballot, u64::from(*position), 0],
+        Message::Vote(ballot, position, ..) => [4, *ballot, u64::from(*position), 0],
+        Message::Nack(ballot, position, promised) => [5, *ballot, u64::from(*position), *promised],
+        Message::Need(position) => [6, u64::from(*position), 0, 0],
+        Message::Learned(position, ..) => [7, u64::from(*position), 0, 0],
+        Message::Ask(..) => [8, 0, 0, 0],
+        Message::Asked(token, number) => [9, *token, *number, 0],
+        Message::AskRefused(token, code) => [10, *token, u64::from(*code), 0],
+        Message::PrepareAll(ballot, position) => [11, *ballot, u64::from(*position), 0],
+        Message::PromiseAll(ballot, position, top, ..) => [
+            12,
+            *ballot,
+            u64::from(*position),
+            u64::from(*top),
+        ],
     }
 }
 
@@ -105,18 +94,12 @@ fn is_entry(entry: &EntryView, wanted: Option<Entry>) -> bool {
 /// Whether that entry is in the message, or none.
 fn has_entry(message: &MessageView, wanted: Option<Entry>) -> bool {
     match message {
-        Message::Accept { entry, .. }
-        | Message::Vote { entry, .. }
-        | Message::Learned { entry, .. }
-        | Message::Ask { entry } => is_entry(entry, wanted),
-        Message::Promise {
-            accepted: Some(proposal),
-            ..
-        }
-        | Message::PromiseAll {
-            accepted: Some(proposal),
-            ..
-        } => is_entry(&proposal.entry, wanted),
+        Message::Accept(_, _, entry)
+        | Message::Vote(_, _, entry)
+        | Message::Learned(_, entry)
+        | Message::Ask(entry) => is_entry(entry, wanted),
+        Message::Promise(_, _, Some(proposal)) | Message::PromiseAll(_, _, _, Some(proposal)) =>
+            is_entry(&proposal.entry, wanted),
         _ => wanted.is_none(),
     }
 }

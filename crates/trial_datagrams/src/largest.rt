@@ -20,11 +20,7 @@ fn load_of(alloc: Global, text: Vec<u8>) -> Result<Vec<u8>, EncodeFault> {
     let entry = Entry {
         origin: 0,
         number: 0,
-        command: Command::Load {
-            path: Path::main(alloc),
-            profile: Profile::One,
-            text,
-        },
+        command: Command::Load(Path::main(alloc), Profile::One, text),
     };
     let encoded = pf_entry::encode(alloc, &entry);
     drop(entry);
@@ -39,7 +35,7 @@ fn front(alloc: Global) -> Result<Vec<u8>, AllocError> {
 /// Whether the reader is lent that entry by a vote.
 fn is_lent(reader: &Membership, bytes: &[u8], entry: &[u8]) -> bool {
     match decode(reader, bytes) {
-        Ok((_, Message::Vote { entry: lent, .. })) => lent.bytes() == entry,
+        Ok((_, Message::Vote(.., lent))) => lent.bytes() == entry,
         _ => false,
     }
 }

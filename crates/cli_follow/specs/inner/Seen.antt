@@ -13,33 +13,25 @@ use Rattle.cli_follow.specs.declared.followed_configuration.FollowedConfiguratio
 use Rattle.cli_follow.specs.declared.follower.Due.{Due}
 use Rattle.cli_follow.specs.declared.follower.Due.TheVariants as due
 use Rattle.cli_follow.specs.declared.follower.Follower as code
-use Rattle.cli_follow.specs.declared.follower.Nft.{Nft}
+use Rattle.cli_follow.specs.declared.kernel.Kernel.{Kernel}
 use Rattle.cli_follow.specs.declared.kernel.Loaded.{Loaded}
-use Rattle.cli_follow.specs.declared.kernel.Step.{Step}
-use Rattle.cli_follow.specs.declared.kernel.Step.TheVariants as step
 
 -- what was handed out last
 abbrev pub given_of : Option Loaded → Option Given
 given_of last = option_map (λ l. record { position = l.position; lines = transactions_value l.lines }) last
 
--- the lines of a step
-abbrev pub lines_of : Step → List ℕ
-lines_of step.Same = []
-lines_of (step.Refused code) = []
-lines_of (step.Lines lines) = lines.items
-
 -- where lines are wanted: the members, what was given last, and what is wanted
-abbrev pub members_of : Option Nft → List Member
+abbrev pub members_of : Option Kernel → List Member
 members_of None = []
-members_of (Some n) = n.kernel.members.items
+members_of (Some n) = n.members.items
 
-abbrev pub last_of : Option Nft → Option Given
+abbrev pub last_of : Option Kernel → Option Given
 last_of None = None
-last_of (Some n) = given_of n.kernel.last
+last_of (Some n) = given_of n.last
 
-abbrev pub wanted_for : Option Nft → Wanted
+abbrev pub wanted_for : Option Kernel → Wanted
 wanted_for None = record { machine = None; is_guarded = false }
-wanted_for (Some n) = record { machine = Some (machine_of n.kernel.interfaces.items); is_guarded = n.is_guarded }
+wanted_for (Some n) = record { machine = Some (machine_of n.interfaces.items); is_guarded = n.is_guarded }
 
 abbrev pub wanted_of : code.Follower → Wanted
 wanted_of f = wanted_for f.nft
@@ -64,13 +56,13 @@ due_in w f due.Write = written_to w.machine f
 due_in w f due.Another = stays Ended
 
 -- what nft(8) is to load of what was followed
-abbrev pub loads_of : Nft → FollowedConfiguration → Loads
-loads_of n f = loads (machine_of n.kernel.interfaces.items) n.kernel.members.items (given_of n.kernel.last) f.config f.position
+abbrev pub loads_of : Kernel → FollowedConfiguration → Loads
+loads_of n f = loads (machine_of n.interfaces.items) n.members.items (given_of n.last) f.config f.position
 
 -- it was written
-abbrev pub Wrote : (old new : Nft) → FollowedConfiguration → Option (List ℕ) → Option (List ℕ) → Type 0
+abbrev pub Wrote : (old new : Kernel) → FollowedConfiguration → Option (List ℕ) → Option (List ℕ) → Type 0
 Wrote old new f before after =
-    (given_of new.kernel.last ≡ (loads_of old f).last) × Appends before after (loads_of old f).lines
+    (given_of new.last ≡ (loads_of old f).last) × Appends before after (loads_of old f).lines
 
 -- what was reached is this, and was written
 abbrev pub Written : Reached → Follower → Option (List ℕ) → Option (List ℕ) → Type 0

@@ -21,6 +21,6 @@ returns c m fits e =
     (λ err. c.decode_to_slice.result ≡ Err err) in
     let both = subst P (decoded m c.args.digits.now e) c.decode_to_slice.ensures.value in
     let b = c.decode_to_slice.new.out in
-    ap Some (made m c.from_be_bytes.result c.from_be_bytes-2.result c.from_be_bytes-3.result
-    (c.from_be_bytes.ensures ∙ number_of m b fits both.1) (c.from_be_bytes-2.ensures ∙ salt_of m b fits both.1)
-    (c.from_be_bytes-3.ensures ∙ birth_of m b fits both.1))
+    ap Some (made m c.from_be_bytes-number.result c.from_be_bytes-salt.result c.from_be_bytes-birth.result
+    (c.from_be_bytes-number.ensures ∙ number_of m b fits both.1) (c.from_be_bytes-salt.ensures ∙ salt_of m b fits both.1)
+    (c.from_be_bytes-birth.ensures ∙ birth_of m b fits both.1))

@@ -1,16 +1,25 @@
-use Rattle.std.proofs.Common.{◌∙◌, inr, map, sym}
-use Rattle.clap.specs.Words.{found_of, rows_of}
+use Rattle.std.proofs.Common.{◌≡◌, ◌∙◌, inr, map, rules, sym, tests}
+use Rattle.clap.specs.Words.{found_of, kind_of, rows_of}
+use Rattle.clap.specs.declared.error.kind.ErrorKind.TheVariants.{OutOfMemory}
 use Rattle.cli_follow.proofs.Misuse.{memory_over, given_parsed, given_refused, nowhere, at_path}
 use Rattle.std.proofs.KnownBytes.{Appends-nil}
 use Rattle.cli_follow.proofs.Runs.{adds_nothing}
 use Rattle.cli_follow.proofs.running.run_follow.Goals as goal
 
--- the arguments are refused
+-- the arguments are refused, or it was out of memory
 pub returns-in-Err : goal.returns-in-Err
 returns-in-Err g c =
     let u = g.F.Folders.done c.args.folders.now in
+    memory_over (g.C.ControlSockets.answers_at c.args.sockets.now) g.C.Peer.Control.exchanged u u (g.RT.Sources.has c.args.rt.now) _ c.memory-in-Err.result _ _ (adds_nothing u)
+    (c.memory-in-Err.ensures, Appends-nil (g.W.Write.contents c.args.writer.now))
+
+pub returns-in-Err-2 : goal.returns-in-Err-2
+returns-in-Err-2 g c =
+    let u = g.F.Folders.done c.args.folders.now in
     let arguments = map g.S.AsStr.text c.args.arguments.now in
-    given_refused (g.C.ControlSockets.answers_at c.args.sockets.now) g.C.Peer.Control.exchanged u u (g.RT.Sources.has c.args.rt.now) _ arguments c.in-Err.error c.refuse.result _ _ (adds_nothing u) c.in-Ok.ensures c.in-Err.ensures.kinds c.refuse.ensures.ran c.refuse.ensures.memory
+    let other : kind_of c.in-Err-2.error ≡ OutOfMemory → ⊥ = search (rules, tests) in
+    given_refused (g.C.ControlSockets.answers_at c.args.sockets.now) g.C.Peer.Control.exchanged u u (g.RT.Sources.has c.args.rt.now) _ arguments c.in-Err-2.error c.misused.result _ _ (adds_nothing u) c.in-Ok.ensures c.in-Err-2.ensures.kinds
+    (inr c.misused.ensures.ran) (λ e. absurd (other e))
 
 -- another subcommand
 pub returns-in_default-given_in : goal.returns-in_default-given_in

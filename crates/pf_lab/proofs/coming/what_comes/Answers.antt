@@ -10,11 +10,11 @@ use Rattle.pf_lab.specs.declared.event.LabAction.{LabAction}
 use Rattle.px_replica.proofs.Messages.{comes_spelled, unsent}
 use Rattle.pf_lab.proofs.coming.what_comes.Goals as goal
 
-pub returns-in-Some-get-clause-came : goal.returns-in-Some-get-clause-came
-returns-in-Some-get-clause-came c g w are =
+pub returns-in-Some-clause-came : goal.returns-in-Some-clause-came
+returns-in-Some-clause-came c g w are =
     let sent = c.args.sent.now in
-    let d = c.in-Some-get.datagram.now in
-    let at = slice_get_read sent (length sent) c.in-Deliver.k d refl c.in-Some-get.ensures.lookup.3.0 c.in-Some-get.ensures.lookup.1 in
+    let d = c.in-Some.datagram.now in
+    let at = slice_get_read sent (length sent) c.in-Deliver.k d refl c.in-Some.ensures.lookup.3.0 c.in-Some.ensures.lookup.1 in
     let f = comes_spelled g w sent c.in-Deliver.k d are at in
     let bytes = subst (λ (b : List ℕ). DatagramBytes g f.sender d.to (as_sent f.message) b) (sym c.as_slice.ensures.value) f.bytes in
     record {
@@ -23,8 +23,8 @@ returns-in-Some-get-clause-came c g w are =
       is_spelled = (f.sender, f.message, (f.passes, (bytes, refl)));
     }
 
-pub returns-in-None-get-clause-none : goal.returns-in-None-get-clause-none
-returns-in-None-get-clause-none c g w are none =
+pub returns-in-None-clause-none : goal.returns-in-None-clause-none
+returns-in-None-clause-none c g w are none =
     let sent = c.args.sent.now in
-    let over : length sent ≤ c.in-Deliver.k = search (rules, c.in-None-get.ensures.lookup) in
+    let over : length sent ≤ c.in-Deliver.k = search (rules, c.in-None.ensures.lookup) in
     ap (λ (a : LabAction). comes_to w (action_of a)) c.in-Deliver.is ∙ ap delivered (unsent g w.sent sent c.in-Deliver.k are over)

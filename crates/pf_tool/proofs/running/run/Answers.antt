@@ -36,7 +36,7 @@ returns-clause-ran g c =
     let free = passes_program _ arguments c.in-Ok.ensures matches.ensures.kinds in
     let rows = rows_of_program _ arguments matches.matches c.in-Ok.ensures matches.ensures.matches in
     let e = call_entered _ arguments matches.matches own free rows ∙ sym c.in-None.ensures in
-    rw e (misnamed_over (g.T.Sources.has c.args.rt.now) _ _ _ _ _ c.misnamed_words.ensures)
+    rw e (misnamed_over (g.T.Sources.has c.args.rt.now) _ _ _ _ _ c.misnamed.ensures)
 
 -- ---- the messages
 
@@ -60,4 +60,4 @@ returns-in-Some-clause-reported g c =
 
 -- the arguments ask for nothing
 pub returns-clause-reported : goal.returns-clause-reported
-returns-clause-reported g c = misnamed_unreported (g.T.Sources.has c.args.rt.now) _ _ _ _ _ _ _ _ c.misnamed_words.ensures
+returns-clause-reported g c = misnamed_unreported (g.T.Sources.has c.args.rt.now) _ _ _ _ _ _ _ _ c.misnamed.ensures
